@@ -1,5 +1,5 @@
 // The service, its clients, and what they did.
-ghost use Rattle.std.specs.Prelude.{◌≡◌, ◌+◌, ◌≤◌, ◌<◌, ◌-◌, ◌^◌, ℕ, true, [], None, IfOk, OnOk, OnErr, length, replicate};
+ghost use Rattle.std.specs.Prelude.{◌≡◌, ◌+◌, ◌≤◌, ◌<◌, ◌-◌, ◌^◌, ℕ, true, [], None, Some, IfOk, OnOk, OnErr, length, replicate};
 ghost use Rattle.sg_clients.specs.Clients.{IsClient};
 ghost use Rattle.std.specs.List.{list_all};
 ghost use Rattle.std.specs.Option.{option_copied, option_map};
@@ -13,11 +13,13 @@ ghost use Rattle.sg_replay.specs.sg_hist.Clients.{calls_of};
 ghost use Rattle.sg_replay.specs.sg_hist.Recovered.{AreInBoots, IsRecovered, struck_in};
 ghost use Rattle.sg_replay.specs.sg_hist.Growing.{IsRecovering};
 ghost use Rattle.sg_world_laws.specs.Ending.{IsEnding};
+ghost use Rattle.sg_world_laws.specs.Seats.{last_of};
 ghost use Rattle.sg_world_laws.specs.Setting.{IsSetting, stubs_of};
+ghost use Rattle.sg_world.specs.Marked.{TellsAll};
 ghost use Rattle.sg_world.specs.Steps.{AnswersLast, HasStepped, WantsMemory};
 ghost use Rattle.sg_world.specs.Worlded.{CountsAll, setting_of};
-ghost use Rattle.sg_clients.specs.sg_seat.declared.phase.Phase.TheVariants.{Blocked};
-ghost use Rattle.sg_clients.specs.sg_seat.WorldView.{IsFree, MayWithdraw, happened, is_at_rest, with_leave, new_world, no_seat, offered, seat_of, unanswered, withdrawn_by};
+ghost use Rattle.sg_clients.specs.sg_seat.declared.phase.Phase.TheVariants.{Blocked, Receipted};
+ghost use Rattle.sg_clients.specs.sg_seat.WorldView.{IsFree, MayWithdraw, happened, is_at_rest, is_offered, with_leave, new_world, no_seat, offered, seat_of, unanswered, withdrawn_by};
 
 use crate::did::Did;
 use crate::inner::Inner;
@@ -128,9 +130,11 @@ impl<S: Service, T: Stops> World<S, T> {
         self.inner.engine.service()
     }
 
-    /// What happened to the clients, in its order, lent.
+    /// What happened to the clients, in its order, lent. It tells of each entry and of each withdrawn call whose it is, and how far each
+    /// client has come.
     pub fn marks(&self) -> &[Mark]
-        ensures { result.now ≡ self.now.view.marks }
+        ensures items { result.now ≡ self.now.view.marks }
+        ensures told { TellsAll self.now.view }
     {
         self.inner.marks.as_slice()
     }
@@ -140,6 +144,13 @@ impl<S: Service, T: Stops> World<S, T> {
         ensures { result.now ≡ self.now.view.withdrawn }
     {
         self.inner.withdrawn.as_slice()
+    }
+
+    /// The number of its events, up to the greatest number; those that wanted memory are among them.
+    pub fn events(&self) -> u64
+        ensures { result ≡ self.now.view.events }
+    {
+        self.inner.events
     }
 
     /// The number of its steps that wanted memory, up to the greatest number.
@@ -167,10 +178,14 @@ impl<S: Service, T: Stops> World<S, T> {
         self.inner.engine.interface()
     }
 
-    /// The call that a client offered last, lent.
+    /// The call that a client offered last, lent. While it isn't answered it is a call of that client's own; while its reply is to be
+    /// handed over, the client's last entry is of it.
     pub fn call(&self, client: u8) -> &Call
         requires client { IsClient (length self.now.view.seats) client }
-        ensures { result.now ≡ (seat_of self.now.view client).call }
+        ensures call { result.now ≡ (seat_of self.now.view client).call }
+        ensures its { let s = seat_of self.now.view client in is_offered s.phase ≡ true → s.call.client ≡ client }
+        ensures receipt { let s = seat_of self.now.view client in
+            s.phase ≡ Receipted → last_of (calls_of self.now.view.history client) ≡ Some (record { call = s.call; reply = s.reply }) }
     {
         self.inner.clients.call(client)
     }

@@ -9,6 +9,8 @@
 //! - `plays`: plays as texts have them (`play`)
 //! - `calls`: one client's calls, each with the reply that it is to get (`answered`)
 //! - `seen`: whether a text tells what is seen of a world (`shows`)
+//!
+//! `Never`, by which nothing stops, is passed on.
 #![tactic(auto)]
 
 mod answers;
@@ -26,5 +28,6 @@ pub use events::{Asked, Event};
 pub use plays::play;
 pub use run::{Judge, Run, Unmade, judged, stops_at};
 pub use seen::shows;
+pub use sg_edge::Never;
 pub use sg_world::{Did, Phase, World};
 pub use words::headed;

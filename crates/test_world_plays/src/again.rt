@@ -2,12 +2,11 @@
 // the same replies.
 ghost use Rattle.std.specs.Prelude.{◌≡◌};
 
-use sg_edge::Never;
 use sg_facts::{Entry, NoMemory, Service, Stops, Tables, Value};
 use sg_top::Played;
 use std::alloc::Global;
 use std::test::Fail;
-use test_world::{Asked, Judge, Run, judged};
+use test_world::{Asked, Judge, Never, Run, judged};
 
 // The entries of a history, of which each is to come again.
 #[derive(Clone, Copy, Debug)]

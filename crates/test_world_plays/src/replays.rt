@@ -2,9 +2,8 @@
 ghost use Rattle.std.specs.Prelude.{◌≡◌};
 
 use crate::again::plays_again;
-use sg_edge::{MemSink, MemSource, NoMemory};
 use sg_facts::{Service, Tables};
-use sg_top::{Answer, Played, serial};
+use sg_top::{Answer, MemSink, MemSource, NoMemory, Played, serial};
 use std::alloc::Global;
 use std::test::Fail;
 use test_interfaces::{LOCK, MM, RAMFS, SCHED};

@@ -3,9 +3,8 @@ ghost use Rattle.std.specs.Prelude.{◌≡◌};
 
 use crate::again::plays_again;
 use crate::replays::one_word;
-use sg_edge::{MemSink, MemSource, NoMemory, OpenGate};
 use sg_facts::{Service, Tables};
-use sg_top::{Answer, Played, superglue};
+use sg_top::{Answer, MemSink, MemSource, NoMemory, OpenGate, Played, superglue};
 use std::alloc::Global;
 use std::sync::Wait;
 use std::test::Fail;
