@@ -11,12 +11,11 @@ use Rattle.std.specs.declared.result.Result.TheVariants.{Ok, Err}
 use Rattle.sg_top.specs.declared.command.Command.{Command}
 use Rattle.sg_top.specs.declared.output.Output.{Output}
 use Rattle.sg_top.specs.declared.command.Shows.{Shows}
-use Rattle.sg_top.specs.declared.command.Command.TheVariants.{Play, Check, Compile, Upgrade, Verify, Load}
+use Rattle.sg_top.specs.declared.command.Command.TheVariants.{Play, Check, Compile, Upgrade, Explain, Verify, Load}
 use Rattle.sg_top.specs.declared.status.Status.{Status}
 use Rattle.sg_top.specs.declared.status.Status.TheVariants.{Done, Waits, OtherWords, Refused, ReadFault, WriteFault, NoMemory, Illegal}
-use Rattle.sg_input.specs.Lines.{too_long_line}
 use Rattle.sg_load.specs.sg_plain.Inside.Kept.{somebody_waits}
-use Rattle.sg_top.specs.Answer.{Ends, HasRead, IsAnswer, IsOutput, IsOwnOutput, IsRefusal, ReadsInput, ended_status, has_input, is_play, most_bytes, IsPlayOutput}
+use Rattle.sg_top.specs.Answer.{Ends, HasRead, IsAnswer, IsOutput, IsOwnOutput, IsRefusal, ReadsInput, ended_status, has_input, is_play, most_bytes, too_long_output, IsPlayOutput}
 use Rattle.sg_top.specs.Inside.Pieces.{IsIllegal, SaysIllegal, SaysRefused, verdict_status}
 use Rattle.sg_verify.specs.declared.verdict.Verdict.{Verdict as Judgement}
 use Rattle.sg_verify.specs.declared.verdict.Verdict.TheVariants.{Legal, BadSeq, BadReply}
@@ -45,13 +44,13 @@ told_more P (Some b) (Some b') bytes consumed all =
 abbrev Read : Command → Ends → Ends → Option Ended → Status → List ℕ → Type 0
 Read command source source' ended status output =
     ((bytes : List ℕ) × (length bytes ≤ most_bytes command) × Consumes source.told source'.told bytes × IsAtEnd source'.told × IsOutput command bytes ended status output)
-    ⊎ ((bytes : List ℕ) × (has_input command ≡ true) × (length bytes ≡ most_bytes command + 1) × Consumes source.told source'.told bytes × (ended ≡ None) × (status ≡ Refused) × (output ≡ too_long_line))
+    ⊎ ((bytes : List ℕ) × (has_input command ≡ true) × (length bytes ≡ most_bytes command + 1) × Consumes source.told source'.told bytes × (ended ≡ None) × (status ≡ Refused) × (output ≡ too_long_output command))
     ⊎ ((source' ≡ source) × IsOwnOutput command ended status output)
 
 -- ---- refusals
 
 -- more bytes than an input may have are refused
-too_long : (command : Command) (bytes : List ℕ) → has_input command ≡ true → most_bytes command < length bytes → IsRefusal command bytes too_long_line
+too_long : (command : Command) (bytes : List ℕ) → has_input command ≡ true → most_bytes command < length bytes → IsRefusal command bytes (too_long_output command)
 too_long command bytes has long = inr (has, long, refl)
 
 -- the status of what a command makes
@@ -92,10 +91,12 @@ refusal (Play threads shows) bytes (Some e) status output two short is = absurd 
 refusal Check bytes ended status output two short (none, inl accepted) = absurd (cc (two, accepted.0))
 refusal Compile bytes ended status output two short (none, inl accepted) = absurd (cc (two, accepted.0))
 refusal Upgrade bytes ended status output two short (none, inl accepted) = absurd (cc (two, accepted.0))
+refusal Explain bytes ended status output two short (none, inl accepted) = absurd (cc (two, accepted.0))
 refusal Verify bytes ended status output two short (none, inl judged) = absurd (said_good judged.said (sym judged.answered ∙ two))
 refusal Check bytes ended status output two short (none, inr refused) = (none, inl (short, refused.1))
 refusal Compile bytes ended status output two short (none, inr refused) = (none, inl (short, refused.1))
 refusal Upgrade bytes ended status output two short (none, inr refused) = (none, inl (short, refused.1))
+refusal Explain bytes ended status output two short (none, inr refused) = (none, inl (short, refused.1))
 refusal Verify bytes ended status output two short (none, inr refused) = (none, inl (short, refused.1))
 refusal (Load service number) bytes ended status output two short is = absurd is
 
@@ -107,6 +108,7 @@ own_good (Play threads shows) ended status output own two = own
 own_good Check ended status output own two = own
 own_good Compile ended status output own two = own
 own_good Upgrade ended status output own two = own
+own_good Explain ended status output own two = own
 own_good Verify ended status output own two = own
 
 -- its status, its run, and that it is a play's
@@ -122,6 +124,7 @@ own_is (Play threads shows) ended status output own = absurd own
 own_is Check ended status output own = absurd own
 own_is Compile ended status output own = absurd own
 own_is Upgrade ended status output own = absurd own
+own_is Explain ended status output own = absurd own
 own_is Verify ended status output own = absurd own
 
 refused_by : (command : Command) (source source' : Ends) (ended : Option Ended) (status : Status) (output : List ℕ) → status ≡ Refused
@@ -157,6 +160,7 @@ output_status (Play threads shows) bytes ended status output is = played_status 
 output_status Check bytes ended status output (none, inl accepted) = inl accepted.0
 output_status Compile bytes ended status output (none, inl accepted) = inl accepted.0
 output_status Upgrade bytes ended status output (none, inl accepted) = inl accepted.0
+output_status Explain bytes ended status output (none, inl accepted) = inl accepted.0
 output_status Verify bytes ended status output (none, inl judged) = by (said_so judged.said)
   where
     by : (verdict_status judged.said ≡ Done) ⊎ (verdict_status judged.said ≡ Illegal) → IsMade status
@@ -165,6 +169,7 @@ output_status Verify bytes ended status output (none, inl judged) = by (said_so 
 output_status Check bytes ended status output (none, inr refused) = inr (inr (inr refused.0))
 output_status Compile bytes ended status output (none, inr refused) = inr (inr (inr refused.0))
 output_status Upgrade bytes ended status output (none, inr refused) = inr (inr (inr refused.0))
+output_status Explain bytes ended status output (none, inr refused) = inr (inr (inr refused.0))
 output_status Verify bytes ended status output (none, inr refused) = inr (inr (inr refused.0))
 output_status (Load service number) bytes ended status output is = absurd is
 
@@ -190,6 +195,7 @@ output_run (Play threads shows) bytes ended status output good play is = played_
 output_run Check bytes ended status output good play is = absurd (cc play)
 output_run Compile bytes ended status output good play is = absurd (cc play)
 output_run Upgrade bytes ended status output good play is = absurd (cc play)
+output_run Explain bytes ended status output good play is = absurd (cc play)
 output_run Verify bytes ended status output good play is = absurd (cc play)
 output_run (Load service number) bytes ended status output good play is = absurd is
 
@@ -214,6 +220,7 @@ output_play (Play threads shows) bytes ended status output is some = refl
 output_play Check bytes ended status output is some = absurd (no_run ended is.0 some)
 output_play Compile bytes ended status output is some = absurd (no_run ended is.0 some)
 output_play Upgrade bytes ended status output is some = absurd (no_run ended is.0 some)
+output_play Explain bytes ended status output is some = absurd (no_run ended is.0 some)
 output_play Verify bytes ended status output is some = absurd (no_run ended is.0 some)
 output_play (Load service number) bytes ended status output is some = absurd is
 
@@ -305,6 +312,7 @@ no_output (Play threads shows) bytes ended status output without is = cc without
 no_output Check bytes ended status output without is = cc without
 no_output Compile bytes ended status output without is = cc without
 no_output Upgrade bytes ended status output without is = cc without
+no_output Explain bytes ended status output without is = cc without
 no_output Verify bytes ended status output without is = cc without
 no_output (Load service number) bytes ended status output without is = is
 
@@ -453,7 +461,7 @@ whole_answer said source source' sink sink' status ended command bytes shown lim
 
 -- one byte more was read than an input may have, and that is refused
 pub too_long_answer : (said : Command → Type 0) (source source' sink sink' : Ends) (status : Status) (ended : Option Ended) (command : Command) (line : List ℕ) (limit : ℕ)
-    → line ≡ too_long_line → limit ≡ most_bytes command → IsOne said → said command → has_input command ≡ true
+    → line ≡ too_long_output command → limit ≡ most_bytes command → IsOne said → said command → has_input command ≡ true
     → ConsumesJust (limit + 1) source.told source'.told → ended ≡ None → IsWritten sink sink' line Refused status
     → source'.faults ≡ source.faults → sink.faults ≤ sink'.faults → IsAnswer said source source' sink sink' status ended
 too_long_answer said source source' sink sink' status ended command line limit same most one is_said has_one (bytes, count, consumed) none written steady writes =
@@ -504,12 +512,13 @@ said_reads said told told' command one is_said (inl (c, is, has, consumed)) = in
 said_reads said told told' command one is_said (inr (without, same)) = inr (λ c said_c. without c (one c command said_c is_said), same)
 
 -- each command but a load has an input
-pub with_input : (c : Command) → ((threads : Bool) × (shows : Shows) × (c ≡ Play threads shows)) ⊎ ((c ≡ Check) ⊎ ((c ≡ Compile) ⊎ ((c ≡ Upgrade) ⊎ (c ≡ Verify)))) → has_input c ≡ true
+pub with_input : (c : Command) → ((threads : Bool) × (shows : Shows) × (c ≡ Play threads shows)) ⊎ ((c ≡ Check) ⊎ ((c ≡ Compile) ⊎ ((c ≡ Upgrade) ⊎ ((c ≡ Explain) ⊎ (c ≡ Verify))))) → has_input c ≡ true
 with_input c (inl (threads, shows, is)) = ap has_input is
 with_input c (inr (inl is)) = ap has_input is
 with_input c (inr (inr (inl is))) = ap has_input is
 with_input c (inr (inr (inr (inl is)))) = ap has_input is
-with_input c (inr (inr (inr (inr is)))) = ap has_input is
+with_input c (inr (inr (inr (inr (inl is))))) = ap has_input is
+with_input c (inr (inr (inr (inr (inr is))))) = ap has_input is
 
 -- ---- deliveries
 

@@ -10,7 +10,7 @@ use Rattle.sg_load.specs.Services.{facts_by}
 use Rattle.sg_load.specs.declared.kind.ServiceKind.{ServiceKind}
 use Rattle.sg_input.specs.sg_script.Numbers.{value_of_digits}
 use Rattle.sg_top.specs.declared.command.Command.{Command}
-use Rattle.sg_top.specs.declared.command.Command.TheVariants.{Play, Check, Compile, Upgrade, Verify, Load}
+use Rattle.sg_top.specs.declared.command.Command.TheVariants.{Play, Check, Compile, Upgrade, Explain, Verify, Load}
 use Rattle.sg_top.specs.declared.command.Shows.TheVariants.{Run, Trace, Costs}
 use Rattle.sg_top.specs.Answer.{IsCommand, IsSerialCommand}
 use Rattle.sg_top.specs.Inside.Words.{AreDigitsOf, IsLoadOf, IsPairOf, IsWordOf}
@@ -26,6 +26,7 @@ texts_of (Play threads Costs) digits = codes "cost" ∷ []
 texts_of Check digits = codes "check" ∷ []
 texts_of Compile digits = codes "compile" ∷ []
 texts_of Upgrade digits = codes "upgrade" ∷ []
+texts_of Explain digits = codes "explain" ∷ []
 texts_of Verify digits = codes "verify" ∷ []
 texts_of (Load service number) digits = codes "load" ∷ (facts_by service).name ∷ digits ∷ []
 
@@ -45,6 +46,7 @@ says words (Play true Costs) is = absurd is
 says words Check is = ([], tt, is)
 says words Compile is = ([], tt, is)
 says words Upgrade is = ([], tt, is)
+says words Explain is = ([], tt, is)
 says words Verify is = ([], tt, is)
 says words (Load service number) is = (is.0, is.1, is.2)
 
@@ -58,6 +60,7 @@ command_in texts =
     else if bytes_eq (text_at 0 texts) (codes "check") then Check
     else if bytes_eq (text_at 0 texts) (codes "compile") then Compile
     else if bytes_eq (text_at 0 texts) (codes "upgrade") then Upgrade
+    else if bytes_eq (text_at 0 texts) (codes "explain") then Explain
     else if bytes_eq (text_at 0 texts) (codes "verify") then Verify
     else if bytes_eq (text_at 0 texts) (codes "cost") then Play false Costs
     else Play (bytes_eq (text_at 0 texts) (codes "run")) (if length texts == 2 then Trace else Run)
@@ -72,6 +75,7 @@ it_is (Play true Costs) digits fit = absurd fit
 it_is Check digits fit = refl
 it_is Compile digits fit = refl
 it_is Upgrade digits fit = refl
+it_is Explain digits fit = refl
 it_is Verify digits fit = refl
 it_is (Load service number) digits fit = ap (λ k. Load k (value_of_digits digits)) (called service) ∙ ap (Load service) fit.1
 
@@ -98,6 +102,7 @@ count_is words c is = let u = says words c is in by c u.0 (sym (length-map words
     by Check digits l = (omega (arith, l), omega (arith, l))
     by Compile digits l = (omega (arith, l), omega (arith, l))
     by Upgrade digits l = (omega (arith, l), omega (arith, l))
+    by Explain digits l = (omega (arith, l), omega (arith, l))
     by Verify digits l = (omega (arith, l), omega (arith, l))
     by (Load s n) digits l = (omega (arith, l), omega (arith, l))
 
@@ -113,6 +118,7 @@ word_of word (Play true Costs) is = absurd is
 word_of word Check is = ap (text_at 0) is
 word_of word Compile is = ap (text_at 0) is
 word_of word Upgrade is = ap (text_at 0) is
+word_of word Explain is = ap (text_at 0) is
 word_of word Verify is = ap (text_at 0) is
 word_of word (Load s n) is = absurd (omega (arith, ap length is.2))
 
@@ -126,6 +132,7 @@ of_word word (Play true Costs) is = absurd is
 of_word word Check is = ap (λ t. t ∷ []) is
 of_word word Compile is = ap (λ t. t ∷ []) is
 of_word word Upgrade is = ap (λ t. t ∷ []) is
+of_word word Explain is = ap (λ t. t ∷ []) is
 of_word word Verify is = ap (λ t. t ∷ []) is
 of_word word (Load s n) is = absurd is
 
@@ -161,6 +168,7 @@ pair_of word more (Play true Costs) is = absurd is
 pair_of word more Check is = absurd (omega (arith, ap length is))
 pair_of word more Compile is = absurd (omega (arith, ap length is))
 pair_of word more Upgrade is = absurd (omega (arith, ap length is))
+pair_of word more Explain is = absurd (omega (arith, ap length is))
 pair_of word more Verify is = absurd (omega (arith, ap length is))
 pair_of word more (Load s n) is = absurd (omega (arith, ap length is.2))
 
@@ -174,6 +182,7 @@ of_pair word more (Play true Costs) is = absurd is
 of_pair word more Check is = absurd is
 of_pair word more Compile is = absurd is
 of_pair word more Upgrade is = absurd is
+of_pair word more Explain is = absurd is
 of_pair word more Verify is = absurd is
 of_pair word more (Load s n) is = absurd is
 
@@ -205,6 +214,7 @@ no_service word name digits none (Play threads shows) is = is
 no_service word name digits none Check is = is
 no_service word name digits none Compile is = is
 no_service word name digits none Upgrade is = is
+no_service word name digits none Explain is = is
 no_service word name digits none Verify is = is
 no_service word name digits none (Load s n) is = none s is.1
 
@@ -216,6 +226,7 @@ load_of word name digits (Play true Costs) is = absurd is
 load_of word name digits Check is = absurd (omega (arith, ap length is))
 load_of word name digits Compile is = absurd (omega (arith, ap length is))
 load_of word name digits Upgrade is = absurd (omega (arith, ap length is))
+load_of word name digits Explain is = absurd (omega (arith, ap length is))
 load_of word name digits Verify is = absurd (omega (arith, ap length is))
 load_of word name digits (Load s n) is = (ap (text_at 0) is.2, ap (text_at 1) is.2, subst (AreDigitsOf n) (sym (ap (text_at 2) is.2)) is.1)
 
@@ -224,6 +235,7 @@ of_load word name digits (Play threads shows) is = absurd is
 of_load word name digits Check is = absurd is
 of_load word name digits Compile is = absurd is
 of_load word name digits Upgrade is = absurd is
+of_load word name digits Explain is = absurd is
 of_load word name digits Verify is = absurd is
 of_load word name digits (Load s n) is = (string_bytes digits, is.2, cc (is.0, is.1))
 

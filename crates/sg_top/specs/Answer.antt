@@ -1,5 +1,5 @@
 -- What the program answers: by which words, with which status, and why.
-use Rattle.std.specs.Prelude.{ℕ, ◌≡◌, ◌+◌, ◌<◌, ◌≤◌, ◌⊎◌, Bool, true, false, if◌then◌else◌, List, [], ◌∷◌, None, Some, IsSome, IfSome, length, map, take, codes, string_bytes}
+use Rattle.std.specs.Prelude.{ℕ, ◌≡◌, ◌+◌, ◌<◌, ◌≤◌, ◌⊎◌, Bool, true, false, if◌then◌else◌, List, [], ◌∷◌, ◌++◌, None, Some, IsSome, IfSome, length, map, take, codes, string_bytes}
 use Rattle.std.specs.declared.option.Option.{Option}
 use Rattle.std.specs.Io.KnownBytes.{Appends, Consumes, IsAtEnd}
 use Rattle.std.specs.declared.string.String.{String}
@@ -7,6 +7,8 @@ use Rattle.std.specs.declared.alloc.Global.{Global}
 use Rattle.std.specs.List.{list_any}
 use Rattle.sg_facts.specs.Facts.{Facts}
 use Rattle.sg_edge.specs.Edge.{Rose, ConsumesAtMost}
+use Rattle.sg_explain.specs.Explained.{IsExplained}
+use Rattle.sg_explain.specs.Words.{too_long_words}
 use Rattle.sg_report.specs.sg_hist.declared.ended.End.{End}
 use Rattle.sg_report.specs.sg_hist.declared.ended.Ended.{Ended}
 use Rattle.sg_input.specs.declared.outcome.Verdict.{Verdict}
@@ -30,7 +32,7 @@ use Rattle.sg_verify.specs.declared.verdict.Verdict.{Verdict as Judgement}
 use Rattle.sg_verify.specs.declared.verdict.Verdict.TheVariants.{Legal}
 use Rattle.sg_top.specs.Headline.{IsRunOfLoad, IsRunOfInput, answering, played_services}
 use Rattle.sg_top.specs.declared.command.Command.{Command}
-use Rattle.sg_top.specs.declared.command.Command.TheVariants.{Play, Check, Compile, Upgrade, Verify, Load}
+use Rattle.sg_top.specs.declared.command.Command.TheVariants.{Play, Check, Compile, Upgrade, Explain, Verify, Load}
 use Rattle.sg_top.specs.declared.command.Shows.{Shows}
 use Rattle.sg_top.specs.declared.command.Shows.TheVariants.{Run, Trace, Costs}
 use Rattle.sg_top.specs.declared.status.Status.{Status}
@@ -47,6 +49,7 @@ IsCommand words (Play true Costs) = ⊥
 IsCommand words Check = map string_bytes words ≡ codes "check" ∷ []
 IsCommand words Compile = map string_bytes words ≡ codes "compile" ∷ []
 IsCommand words Upgrade = map string_bytes words ≡ codes "upgrade" ∷ []
+IsCommand words Explain = map string_bytes words ≡ codes "explain" ∷ []
 IsCommand words Verify = map string_bytes words ≡ codes "verify" ∷ []
 IsCommand words (Load service number) = (digits : List ℕ) × (IsNumber digits × (value_of_digits digits ≡ number) × (number ≤ last_count))
     × (map string_bytes words ≡ codes "load" ∷ (facts_by service).name ∷ digits ∷ [])
@@ -71,7 +74,17 @@ has_input command = elim command [ Load service number ↦ false | _ ↦ true ]
 
 -- the greatest number of bytes of a command's input
 abbrev pub most_bytes : Command → ℕ
-most_bytes command = elim command [ Play threads shows ↦ most_interface + 4 + most_script | Verify ↦ most_interface + 4 + most_run | Load service number ↦ 0 | _ ↦ most_interface ]
+most_bytes command = elim command [
+  | Play threads shows ↦ most_interface + 4 + most_script
+  | Explain ↦ most_interface + 4 + most_script
+  | Verify ↦ most_interface + 4 + most_run
+  | Load service number ↦ 0
+  | _ ↦ most_interface
+]
+
+-- what is written of an input that has more
+abbrev pub too_long_output : Command → List ℕ
+too_long_output command = elim command [ Explain ↦ too_long_line ++ too_long_words | _ ↦ too_long_line ]
 
 -- ---- outputs
 
@@ -106,12 +119,14 @@ abbrev pub IsOfText : (Verdict → Type 0) → Status → List ℕ → Type 0
 IsOfText Is status output = ((status ≡ Done) × Is (accepted output)) ⊎ ((status ≡ Refused) × Is (refused output))
 
 -- the output of a command for an input, its status, and the run where there was one, which only a play has: what is printed of the run; the
--- line of a text that is accepted, its tables, or its text in version 2; what is said of a history; or the line of what is refused
+-- line of a text that is accepted, its tables, or its text in version 2; what is explained of an input; what is said of a history; or the line
+-- of what is refused
 abbrev pub IsOutput : Command → List ℕ → Option Ended → Status → List ℕ → Type 0
 IsOutput (Play threads shows) bytes ended status output = IsPlayOutput bytes threads shows ended status output
 IsOutput Check bytes ended status output = (ended ≡ None) × IsOfText (IsVerdict services bytes) status output
 IsOutput Compile bytes ended status output = (ended ≡ None) × IsOfText (IsCompiled services bytes) status output
 IsOutput Upgrade bytes ended status output = (ended ≡ None) × IsOfText (IsUpgraded services bytes) status output
+IsOutput Explain bytes ended status output = (ended ≡ None) × IsOfText (IsExplained services bytes) status output
 IsOutput Verify bytes ended status output =
     (ended ≡ None) × (IsJudgedAs bytes status output ⊎ ((status ≡ Refused) × IsRunInputOf services bytes (refused_run output)))
 IsOutput (Load service number) bytes ended status output = ⊥
@@ -121,16 +136,18 @@ abbrev pub IsOwnOutput : Command → Option Ended → Status → List ℕ → Ty
 IsOwnOutput (Load service number) (Some ended) status output = (status ≡ ended_status ended.ends) × IsRunOfLoad service number ended output
 IsOwnOutput command ended status output = ⊥
 
--- the output of a command that refuses these bytes: the line of an input or text that is refused, or that of more bytes than an input may have
+-- the output of a command that refuses these bytes: the line of an input or text that is refused, or what is explained of one; or what is
+-- written of more bytes than an input may have
 abbrev pub IsRefusal : Command → List ℕ → List ℕ → Type 0
 IsRefusal command bytes output =
     ((length bytes ≤ most_bytes command) × (elim command as (λ c. Type 0) [
       | Play threads shows ↦ IsInputOf services bytes (refused_input output)
+      | Explain ↦ IsExplained services bytes (refused output)
       | Verify ↦ IsRunInputOf services bytes (refused_run output)
       | Load service number ↦ ⊥
       | _ ↦ IsVerdict services bytes (refused output)
     ]))
-    ⊎ ((has_input command ≡ true) × (most_bytes command < length bytes) × (output ≡ too_long_line))
+    ⊎ ((has_input command ≡ true) × (most_bytes command < length bytes) × (output ≡ too_long_output command))
 
 -- ---- answers
 
@@ -143,7 +160,7 @@ pub record Ends : Type 0 where
 -- have was read, and the input is refused; or the command has no input, nothing was read, and its output is to be written
 pub record HasRead (command : Command) (before after : Ends) (ended : Option Ended) (status : Status) (output : List ℕ) : Type 0 where
   pub read : ((bytes : List ℕ) × (length bytes ≤ most_bytes command) × Consumes before.told after.told bytes × IsAtEnd after.told × IsOutput command bytes ended status output)
-      ⊎ ((bytes : List ℕ) × (has_input command ≡ true) × (length bytes ≡ most_bytes command + 1) × Consumes before.told after.told bytes × (ended ≡ None) × (status ≡ Refused) × (output ≡ too_long_line))
+      ⊎ ((bytes : List ℕ) × (has_input command ≡ true) × (length bytes ≡ most_bytes command + 1) × Consumes before.told after.told bytes × (ended ≡ None) × (status ≡ Refused) × (output ≡ too_long_output command))
       ⊎ ((after ≡ before) × IsOwnOutput command ended status output)
 
 -- what an answer says, by its status, where the words say this command
@@ -151,7 +168,7 @@ pub record IsAnswer (said : Command → Type 0) (source source' sink sink' : End
   -- other words: they are no command's, and nothing is read or written
   pub words : status ≡ OtherWords → ((command : Command) → said command → ⊥) × (source' ≡ source) × (sink' ≡ sink) × (ended ≡ None)
   pub other_words : ((command : Command) → said command → ⊥) → status ≡ OtherWords
-  -- done: the input is played and no client waits, or it is accepted, compiled or upgraded, or its history is legal; waits: it is played,
+  -- done: the input is played and no client waits, or it is accepted, compiled or upgraded, or nothing is wrong with it, or its history is legal; waits: it is played,
   -- and some client waits at the end; illegal: its history isn't legal. Its report, line, tables or text are written
   pub answered : (status ≡ Done) ⊎ (status ≡ Waits) ⊎ (status ≡ Illegal)
       → (command : Command) × said command × (output : List ℕ) × HasRead command source source' ended status output × Appends sink.told sink'.told output

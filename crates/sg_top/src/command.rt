@@ -5,7 +5,8 @@ ghost use Rattle.std.specs.Prelude.{ℕ, ◌≡◌, MatchOption};
 ghost use Rattle.sg_top.specs.Inside.Words.{AreDigitsOf};
 
 use crate::services::kind_named;
-use sg_input::{MOST_INPUT, MOST_INTERFACE, MOST_RUN_INPUT};
+use sg_explain::TOO_LONG_EXPLAINED;
+use sg_input::{MOST_INPUT, MOST_INTERFACE, MOST_RUN_INPUT, TOO_LONG};
 use sg_load::ServiceKind;
 
 /// What is printed of a run.
@@ -31,6 +32,8 @@ pub enum Command {
     Compile,
     /// `upgrade`: prints the text of an interface that is accepted as one of version 2.
     Upgrade,
+    /// `explain`: says of an input of `check` or of `sim` what these would say of it, and why, in words.
+    Explain,
     /// `verify`: says whether the entries of a printed run are a history that a service which never failed could have given.
     Verify,
     /// `load SERVICE NUMBER`: plays the script that is generated for a service from a number, and prints one line. It has no input.
@@ -40,7 +43,7 @@ pub enum Command {
 impl Command {
     ghost use Rattle.std.specs.Prelude.{◌≡◌, MatchOption};
     ghost use Rattle.sg_top.specs.declared.command.Command.{Command as Asked};
-    ghost use Rattle.sg_top.specs.Answer.{IsCommand, is_in_threads, most_bytes};
+    ghost use Rattle.sg_top.specs.Answer.{IsCommand, is_in_threads, most_bytes, too_long_output};
     ghost use Rattle.sg_top.specs.Inside.Words.{IsLoadOf, IsPairOf, IsWordOf};
 
     /// The command of these words; None where they are no command's.
@@ -77,6 +80,7 @@ impl Command {
             "check" => Some(Command::Check),
             "compile" => Some(Command::Compile),
             "upgrade" => Some(Command::Upgrade),
+            "explain" => Some(Command::Explain),
             "verify" => Some(Command::Verify),
             _ => None,
         }
@@ -126,10 +130,21 @@ impl Command {
         ensures { result ≡ most_bytes self }
     {
         match self {
-            Command::Play { .. } => MOST_INPUT,
+            Command::Play { .. } | Command::Explain => MOST_INPUT,
             Command::Check | Command::Compile | Command::Upgrade => MOST_INTERFACE,
             Command::Verify => MOST_RUN_INPUT,
             Command::Load { .. } => 0,
+        }
+    }
+
+    /// What is written of an input of the command that has more bytes than that: the line that refuses it, and for `explain` how many
+    /// there may be.
+    pub fn too_long_output(self) -> &'static [u8]
+        ensures { result.now ≡ too_long_output self }
+    {
+        match self {
+            Command::Explain => TOO_LONG_EXPLAINED,
+            _ => TOO_LONG,
         }
     }
 }

@@ -1,5 +1,5 @@
 //! The program as a call: reads an interface and a script, plays it, and writes every reply; or says whether an interface is
-//! accepted, prints its tables, or prints it as one of version 2; or plays a generated script.
+//! accepted, prints its tables, or prints it as one of version 2; or explains why an input is refused; or plays a generated script.
 //!
 //! - `top`: what the words, the source and the sink come to (`superglue`, `serial`, `Answer`)
 //! - `status`: how a call ends, and the number of that (`Status`)

@@ -1,5 +1,6 @@
 // What a command makes of its input.
 ghost use Rattle.std.specs.Prelude.{◌≡◌, ℕ, List, true, false, IfOk, None, Some};
+ghost use Rattle.sg_explain.specs.Explained.{IsExplained};
 ghost use Rattle.sg_report.specs.sg_hist.Recovered.{is_blocked};
 ghost use Rattle.sg_load.specs.sg_plain.Playing.Playable.{IsPlayable};
 ghost use Rattle.sg_load.specs.sg_plain.Inside.Kept.{somebody_waits};
@@ -22,6 +23,7 @@ use crate::services::{cost_kind, kind_of, shapes, share_kind, simulate_kind, ver
 use crate::status::Status;
 use sg_cost::cost_text;
 use sg_edge::Gate;
+use sg_explain::explain;
 use sg_facts::{Bytes, Interface, NoMemory};
 use sg_input::{
     History, Input, RunInput, Script, Verdict, compile, compiled, read_input, read_run, upgraded,
@@ -55,6 +57,7 @@ pub fn output_of(alloc: Global, command: Command, bytes: &[u8]) -> Result<Output
         Command::Check => checked(alloc, bytes),
         Command::Compile => tabled(alloc, bytes),
         Command::Upgrade => upgrade(alloc, bytes),
+        Command::Explain => explained(alloc, bytes),
         Command::Verify => verified(alloc, bytes),
         Command::Load { .. } => unreachable!(),
     }
@@ -84,6 +87,15 @@ fn upgrade(alloc: Global, text: &[u8]) -> Result<Output, NoMemory>
     ensures text { IfOk result (λ o. IsOfText (IsUpgraded services text.now) o.status o.text) }
 {
     let said = upgraded(alloc, text, &shapes())?;
+    Ok(output_saying(said))
+}
+
+// What is explained of an input.
+fn explained(alloc: Global, bytes: &[u8]) -> Result<Output, NoMemory>
+    ensures ended { IfOk result (λ o. o.ended ≡ None) }
+    ensures said { IfOk result (λ o. IsOfText (IsExplained services bytes.now) o.status o.text) }
+{
+    let said = explain(alloc, bytes, &shapes())?;
     Ok(output_saying(said))
 }
 

@@ -4,12 +4,12 @@ use std::io::ErrorKind;
 /// How a call of the program ends.
 #[derive(Clone, Copy, Debug, PartialEq, Eq)]
 pub enum Status {
-    /// The input is played and no client waits at the end, or it is accepted, compiled or upgraded, or it prints a legal history, and the
-    /// whole output is written.
+    /// The input is played and no client waits at the end, or it is accepted, compiled or upgraded, or nothing is wrong with it, or it
+    /// prints a legal history, and the whole output is written.
     Done,
     /// The words are no command's. Nothing is read or written.
     OtherWords,
-    /// The input is refused, and the whole line that refuses it is written.
+    /// The input is refused, and the whole line that refuses it is written, or all that explains it.
     Refused,
     /// The input is played, some client waits at the end, and the whole report is written.
     Waits,

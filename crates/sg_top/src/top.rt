@@ -29,7 +29,8 @@ pub struct Answer {
 /// Does what the words after the program's name say: `sim` plays the input in one thread, `run` with a thread for each client,
 /// and `sim trace` and `run trace` print too what was done to the service; `cost` plays the input as `sim` does, and prints what its
 /// calls could cost after one more stop; `check` says whether the input is the text of an
-/// interface that is accepted, `compile` prints the tables of such a text, `upgrade` prints it as one of version 2, `verify` says whether the entries of a
+/// interface that is accepted, `compile` prints the tables of such a text, `upgrade` prints it as one of version 2, `explain` says of an input
+/// what `check` or `sim` would say of it, and why, `verify` says whether the entries of a
 /// printed run are a legal history, `load SERVICE NUMBER` plays the script that is generated for a service from a number and prints one
 /// line, and any other words are answered by `OtherWords`.
 /// It reads nothing for a load, and else at most one byte more than the command's input may have, makes its whole output before it
@@ -103,6 +104,7 @@ fn in_one_thread<I: Source, O: Sink>(
         | Command::Check
         | Command::Compile
         | Command::Upgrade
+        | Command::Explain
         | Command::Verify => with_input(alloc, command, input, output),
     }
 }
@@ -152,7 +154,7 @@ fn with_input<I: Source, O: Sink>(
         Ok(Intake::Whole(bytes)) => {
             deliver_made(output, output_of(alloc, command, bytes.as_slice()))
         }
-        Ok(Intake::TooLong) => deliver(output, TOO_LONG, Status::Refused, None),
+        Ok(Intake::TooLong) => deliver(output, command.too_long_output(), Status::Refused, None),
         Err(ReadError::Failed) => without_run(Status::ReadFault),
         Err(ReadError::NoMemory) => without_run(Status::NoMemory),
     }

@@ -4,12 +4,13 @@ use Rattle.sg_input.specs.declared.input.Input.TheVariants.{Refused as refused_i
 use Rattle.sg_input.specs.declared.outcome.Verdict.TheVariants.{Refused as refused}
 use Rattle.sg_input.specs.declared.run_input.RunInput.TheVariants.{Refused as refused_run}
 use Rattle.sg_input.specs.Inputs.{IsInputOf, IsRunInputOf}
+use Rattle.sg_explain.specs.Explained.{IsExplained}
 use Rattle.sg_input.specs.Verdicts.{IsVerdict}
 use Rattle.sg_verify.specs.declared.verdict.Verdict.{Verdict as Judgement}
 use Rattle.sg_verify.specs.declared.verdict.Verdict.TheVariants.{Legal}
 use Rattle.sg_top.specs.Answer.{IsJudgedAs, IsRefusal, services, most_bytes}
 use Rattle.sg_top.specs.declared.command.Command.{Command}
-use Rattle.sg_top.specs.declared.command.Command.TheVariants.{Play, Verify, Load}
+use Rattle.sg_top.specs.declared.command.Command.TheVariants.{Play, Explain, Verify, Load}
 use Rattle.sg_top.specs.declared.status.Status.{Status}
 use Rattle.sg_top.specs.declared.status.Status.TheVariants.{Done, Refused, ReadFault, WriteFault, NoMemory, Illegal}
 
@@ -25,6 +26,7 @@ IsVerified bytes status output = IsJudgedAs bytes status output ⊎ ((status ≡
 abbrev pub IsRefusedAs : Command → List ℕ → List ℕ → Type 0
 IsRefusedAs command bytes output = elim command as (λ c. Type 0) [
   | Play threads shows ↦ IsInputOf services bytes (refused_input output)
+  | Explain ↦ IsExplained services bytes (refused output)
   | Verify ↦ IsRunInputOf services bytes (refused_run output)
   | Load service number ↦ ⊥
   | _ ↦ IsVerdict services bytes (refused output)

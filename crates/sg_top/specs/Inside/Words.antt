@@ -5,7 +5,7 @@ use Rattle.sg_input.specs.sg_lex.Table.{IsNumber}
 use Rattle.sg_facts.specs.sg_base.Counts.{last_count}
 use Rattle.sg_input.specs.sg_script.Numbers.{value_of_digits}
 use Rattle.sg_top.specs.declared.command.Command.{Command}
-use Rattle.sg_top.specs.declared.command.Command.TheVariants.{Play, Check, Compile, Upgrade, Verify, Load}
+use Rattle.sg_top.specs.declared.command.Command.TheVariants.{Play, Check, Compile, Upgrade, Explain, Verify, Load}
 use Rattle.sg_top.specs.declared.command.Shows.TheVariants.{Run, Trace, Costs}
 
 -- digits, at least one, stand for a number of 64 bits
@@ -20,6 +20,7 @@ IsWordOf word (Play false Costs) = word ≡ codes "cost"
 IsWordOf word Check = word ≡ codes "check"
 IsWordOf word Compile = word ≡ codes "compile"
 IsWordOf word Upgrade = word ≡ codes "upgrade"
+IsWordOf word Explain = word ≡ codes "explain"
 IsWordOf word Verify = word ≡ codes "verify"
 IsWordOf word _ = ⊥
 

@@ -1,0 +1,24 @@
+//! Why an input is refused, in words; or, where nothing is wrong with it, how all that its descriptors can come to is rebuilt.
+//!
+//! - `explaining`: what is explained of an input (`explain`)
+//! - `reasons`: why the text of an interface is refused
+//! - `stuck`: what a descriptor can come to that no walk restores; `declared`: the interface of a text that isn't accepted
+//! - `words`: the sentences of each kind of fault
+//! - `places`: a place in a text as it is shown
+//! - `rebuilt`: how what descriptors come to is rebuilt, and the counts of a script
+//! - `parts`: texts in a row
+//!
+//! `specs/Explained.antt` says what is explained of an input, and `specs/Words.antt` has the sentences.
+#![tactic(auto)]
+
+mod declared;
+mod explaining;
+mod parts;
+mod places;
+mod reasons;
+mod rebuilt;
+mod stuck;
+mod words;
+
+pub use explaining::explain;
+pub use words::TOO_LONG_EXPLAINED;
