@@ -1,5 +1,5 @@
 -- An input with which nothing is wrong isn't explained as refused.
-use Rattle.std.proofs.Common.{◌≡◌, ℕ, ◌≤◌, ◌<◌, List, ◌++◌, get_or, length, sym, ◌∙◌, ap, subst, inl, inr, arith}
+use Rattle.std.proofs.Common.{◌≡◌, ℕ, ◌≤◌, List, ◌++◌, get_or, length, sym, ◌∙◌, ap, subst, inl, inr, arith}
 use Rattle.std.specs.Prelude.{codes}
 use Rattle.sg_facts.specs.Facts.{Facts}
 use Rattle.sg_facts.specs.Interface.{Declared}
@@ -11,7 +11,7 @@ use Rattle.sg_input.specs.Verdicts.{IsVerdict}
 use Rattle.sg_input.specs.declared.input.Input.TheVariants.{Refused as refused_input}
 use Rattle.sg_input.specs.declared.outcome.Verdict.TheVariants.{Refused}
 use Rattle.sg_script.specs.declared.script.Script.{Script}
-use Rattle.sg_explain.specs.Explained.{ExplainsGood, ExplainsInterface, IsExplained, IsInterfaceText, IsUndivided}
+use Rattle.sg_explain.specs.Explained.{ExplainsGood, IsExplained, IsInterfaceText, IsUndivided}
 
 module _ (services : List Facts) (input : List ℕ) where
   -- ---- an input that no line divides

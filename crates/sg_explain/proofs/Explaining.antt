@@ -1,5 +1,5 @@
 -- What is explained of an input, put together.
-use Rattle.std.proofs.Common.{◌≡◌, ℕ, ◌<◌, ◌≤◌, List, [], ◌∷◌, ◌++◌, Ok, Err, length, refl, sym, ◌∙◌, ap, subst, inl, inr, append-nil, append_assoc, Bool, true, false, arith}
+use Rattle.std.proofs.Common.{◌≡◌, ℕ, ◌<◌, ◌≤◌, List, [], ◌++◌, Ok, Err, length, refl, sym, ◌∙◌, ap, inl, inr, append-nil, append_assoc, true, false, arith}
 use Rattle.std.specs.Prelude.{◌||◌, codes, nat_lt, IfOk}
 use Rattle.std.specs.declared.result.Result.{Result}
 use Rattle.std.proofs.lemmas.Bool.{cases_lt}
@@ -10,7 +10,7 @@ use Rattle.sg_facts.specs.Interface.{Declared}
 use Rattle.sg_facts.specs.Tables.{AreTables}
 use Rattle.sg_facts.specs.declared.tables.WalkLine.{WalkLine}
 use Rattle.sg_input.specs.Divider.{IsCut}
-use Rattle.sg_input.specs.Inputs.{AreTexts, IsInputOf, IsInterface, IsReady, most_interface, most_script}
+use Rattle.sg_input.specs.Inputs.{AreTexts, IsInputOf, IsInterface, most_interface, most_script}
 use Rattle.sg_input.specs.Lines.{refused_line, script_kind_name, too_long_line}
 use Rattle.sg_input.specs.Verdicts.{IsVerdict}
 use Rattle.sg_input.specs.declared.input.Input.TheVariants.{Refused as refused_input}
@@ -19,7 +19,7 @@ use Rattle.sg_script.specs.Reads.{IsReadingOf}
 use Rattle.sg_script.specs.declared.fault.ScriptError.TheVariants.{Fault}
 use Rattle.sg_script.specs.declared.fault.ScriptFault.{ScriptFault}
 use Rattle.sg_script.specs.declared.script.Script.{Script}
-use Rattle.sg_explain.specs.Explained.{ExplainsGood, ExplainsInterface, ExplainsScript, IsExplained, IsInterfaceText, IsUndivided, why_at}
+use Rattle.sg_explain.specs.Explained.{IsExplained, IsInterfaceText, IsUndivided, why_at}
 use Rattle.sg_explain.specs.Rebuilt.{counts_line, rebuilt_line}
 use Rattle.sg_explain.specs.Words.{script_words, too_long_words}
 use Rattle.sg_explain.specs.Inside.Pieces.{TellsInterface, TellsReason, accepted_line}

@@ -1,5 +1,5 @@
 -- The first that no walk restores, one triple after the other.
-use Rattle.std.proofs.Common.{◌≡◌, ◌⊎◌, ℕ, zero, suc, ◌+◌, ◌<◌, ◌≤◌, Bool, true, false, List, [], ◌∷◌, ◌++◌, None, Some, length, take, get_or, refl, sym, ◌∙◌, ap, subst, inl, inr, arith}
+use Rattle.std.proofs.Common.{◌≡◌, ◌⊎◌, ℕ, ◌+◌, ◌<◌, ◌≤◌, Bool, true, false, List, [], ◌∷◌, None, Some, length, take, get_or, refl, sym, ◌∙◌, ap, subst, inl, inr, arith}
 use Rattle.std.specs.Prelude.{◌==◌, ◌&&◌, ◌||◌, if◌then◌else◌, nat_le, nat_lt, is_some, not, IfNone, IfSome}
 use Rattle.std.specs.declared.option.Option.{Option}
 use Rattle.std.specs.List.{Contains}
@@ -16,7 +16,7 @@ use Rattle.sg_check.proofs.sg_walk.ReachedStates.Marks.{only}
 use Rattle.sg_check_statements.specs.Flaws.{HasNoWalk}
 use Rattle.sg_check.specs.sg_walk.ReachedStates.Triples.{IsReachedTriple}
 use Rattle.sg_check.specs.sg_walk.declared.place.Triple.{Triple}
-use Rattle.sg_explain.specs.Stuck.{IsFirstStuck, IsStuck}
+use Rattle.sg_explain.specs.Stuck.{IsStuck}
 use Rattle.sg_explain.specs.Inside.Search.{GoesOn, IsFirstOf, IsFoundAt, IsNoLater, IsStuckIn, TellsStuck, TellsStuckIn, earlier}
 
 -- ---- elements

@@ -1,5 +1,5 @@
 // The interface that a text declares, where it isn't accepted.
-ghost use Rattle.std.specs.Prelude.{◌≡◌, ◌≤◌, ◌<◌, ◌^◌, length, map, filter, IfOk, codes};
+ghost use Rattle.std.specs.Prelude.{◌≡◌, ◌≤◌, ◌<◌, ◌^◌, length, map, filter, IfOk};
 ghost use Rattle.sg_facts.specs.Facts.{facts_of, fun_at, fun_of_shape};
 ghost use Rattle.sg_facts.specs.Fields.{number_of};
 ghost use Rattle.sg_facts.specs.Limits.{most_funs};

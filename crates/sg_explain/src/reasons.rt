@@ -45,7 +45,7 @@ fn put_unparsed(out: &mut Bytes, text: &[u8], error: ParseError) -> Result<(), N
     match error {
         ParseError::NoMemory => Err(NoMemory),
         ParseError::Lex { at } => put_why(out, text, at, &refusal_words(RefusalKind::Lex)),
-        ParseError::Syntax { at } => { put_why(out, text, at, &refusal_words(RefusalKind::Syntax)) }
+        ParseError::Syntax { at } => put_why(out, text, at, &refusal_words(RefusalKind::Syntax)),
     }
 }
 

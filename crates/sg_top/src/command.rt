@@ -144,7 +144,12 @@ impl Command {
     {
         match self {
             Command::Explain => TOO_LONG_EXPLAINED,
-            _ => TOO_LONG,
+            Command::Play { .. }
+            | Command::Check
+            | Command::Compile
+            | Command::Upgrade
+            | Command::Verify
+            | Command::Load { .. } => TOO_LONG,
         }
     }
 }

@@ -1,5 +1,5 @@
 -- A text by itself.
-use Rattle.std.proofs.Common.{◌≤◌, ◌∙◌, length, map, subst, sym}
+use Rattle.std.proofs.Common.{◌∙◌, length, map, subst, sym}
 use Rattle.sg_facts.specs.Facts.{facts_of}
 use Rattle.sg_input.specs.Examined.{IsExamined}
 use Rattle.sg_input.specs.Inputs.{most_interface}

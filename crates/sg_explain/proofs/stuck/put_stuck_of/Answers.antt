@@ -42,6 +42,6 @@ pub returns : goal.returns
 returns c =
     let services = map facts_of c.args.shapes.now in
     let facts = facts_of c.args.shape.now in
-    with_line c.put_stuck_line.result (IsStuckLine services c.args.tree.now c.args.at) _ _ (stuck_line facts c.in_ok-triple.triple)
+    with_line c.put_stuck_line.result (λ line. IsStuckLine services c.args.tree.now c.args.at line) _ _ (stuck_line facts c.in_ok-triple.triple)
     (stuck_told services c.args.tree.now c.args.at facts c.in_ok-iface.iface c.as_slice-2.result.now c.in_ok-triple.triple c.requires.service c.in_ok-iface.ensures c.as_slice-2.ensures c.in_ok-triple.ensures)
     c.put_stuck_line.ensures
