@@ -14,6 +14,7 @@ use Rattle.sg_input.specs.Inputs.{AreTexts, IsInputOf, IsInterface, most_interfa
 use Rattle.sg_input.specs.Lines.{refused_line, script_kind_name, too_long_line}
 use Rattle.sg_input.specs.Verdicts.{IsVerdict}
 use Rattle.sg_input.specs.declared.input.Input.TheVariants.{Refused as refused_input}
+use Rattle.sg_input.specs.declared.outcome.Verdict.{Verdict}
 use Rattle.sg_input.specs.declared.outcome.Verdict.TheVariants.{Accepted, Refused}
 use Rattle.sg_script.specs.Reads.{IsReadingOf}
 use Rattle.sg_script.specs.declared.fault.ScriptError.TheVariants.{Fault}
@@ -21,8 +22,8 @@ use Rattle.sg_script.specs.declared.fault.ScriptFault.{ScriptFault}
 use Rattle.sg_script.specs.declared.script.Script.{Script}
 use Rattle.sg_explain.specs.Explained.{IsExplained, IsInterfaceText, IsUndivided, why_at}
 use Rattle.sg_explain.specs.Rebuilt.{counts_line, rebuilt_line}
-use Rattle.sg_explain.specs.Words.{script_words, too_long_words}
-use Rattle.sg_explain.specs.Inside.Pieces.{TellsInterface, TellsReason, accepted_line}
+use Rattle.sg_explain.specs.Words.{script_words}
+use Rattle.sg_explain.specs.Inside.Pieces.{TellsInterface, TellsLength, TellsReason, accepted_line}
 
 -- ---- lengths
 
@@ -56,17 +57,21 @@ told_tables (Err e) i j walks lines tables same lent is = tt
 module _ (services : List Facts) (input : List ℕ) where
   -- ---- too long
 
-  pub long_text : (told : List ℕ) → IsUndivided input → most_interface < length input → told ≡ too_long_line ++ too_long_words → IsExplained services input (Refused told)
-  long_text told undivided long is = inl (inl (undivided, long), is)
+  pub long_text : {E : Type 0} (r : Result Verdict E) → IsUndivided input → most_interface < length input → IfOk r TellsLength → IfOk r (IsExplained services input)
+  long_text (Ok (Accepted told)) undivided long is = absurd is
+  long_text (Ok (Refused told)) undivided long is = inl (inl (undivided, long), is)
+  long_text (Err e) undivided long is = tt
 
-  long_input : (told : List ℕ) → IsInputOf services input (refused_input too_long_line) → told ≡ too_long_line ++ too_long_words → IsExplained services input (Refused told)
-  long_input told long is = inl (inr long, is)
+  long_input : {E : Type 0} (r : Result Verdict E) → IsInputOf services input (refused_input too_long_line) → IfOk r TellsLength → IfOk r (IsExplained services input)
+  long_input (Ok (Accepted told)) long is = absurd is
+  long_input (Ok (Refused told)) long is = inl (inr long, is)
+  long_input (Err e) long is = tt
 
-  pub long_texts : (told interface script : List ℕ) → IsCut input interface script → (nat_lt most_interface (length interface) || nat_lt most_script (length script)) ≡ true
-      → told ≡ too_long_line ++ too_long_words → IsExplained services input (Refused told)
-  long_texts told interface script cut long is = elim (cases_lt most_interface (length interface)) [
-    | inl gt ↦ long_input told (inl (inr (inl ((interface, script, cut, inl gt), refl)))) is
-    | inr le ↦ long_input told (inl (inr (inl ((interface, script, cut, inr (second_longer most_interface (length interface) most_script (length script) long le)), refl)))) is
+  pub long_texts : {E : Type 0} (r : Result Verdict E) (interface script : List ℕ) → IsCut input interface script
+      → (nat_lt most_interface (length interface) || nat_lt most_script (length script)) ≡ true → IfOk r TellsLength → IfOk r (IsExplained services input)
+  long_texts r interface script cut long is = elim (cases_lt most_interface (length interface)) [
+    | inl gt ↦ long_input r (inl (inr (inl ((interface, script, cut, inl gt), refl)))) is
+    | inr le ↦ long_input r (inl (inr (inl ((interface, script, cut, inr (second_longer most_interface (length interface) most_script (length script) long le)), refl)))) is
   ]
 
   -- ---- the interface

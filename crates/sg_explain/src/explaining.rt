@@ -5,15 +5,14 @@ ghost use Rattle.sg_facts.specs.Facts.{facts_of};
 ghost use Rattle.sg_check.specs.Shapes.{are_shapes};
 ghost use Rattle.sg_input.specs.Divider.{IsCut};
 ghost use Rattle.sg_input.specs.Inputs.{AreTexts, IsInputOf, IsInterface, most_interface, most_script};
-ghost use Rattle.sg_input.specs.Lines.{too_long_line};
 ghost use Rattle.sg_input.specs.Verdicts.{IsVerdict};
 ghost use Rattle.sg_input.specs.declared.input.Input.TheVariants.{Refused as refused_input};
 ghost use Rattle.sg_input.specs.declared.outcome.Verdict.TheVariants.{Refused as refused_with};
 ghost use Rattle.sg_script.specs.Reads.{IsReadingOf};
 ghost use Rattle.sg_explain.specs.Explained.{IsExplained, IsUndivided, why_at};
 ghost use Rattle.sg_explain.specs.Rebuilt.{counts_line, rebuilt_line};
-ghost use Rattle.sg_explain.specs.Words.{script_words, too_long_words};
-ghost use Rattle.sg_explain.specs.Inside.Pieces.{TellsInterface, TellsReason, accepted_line};
+ghost use Rattle.sg_explain.specs.Words.{script_words};
+ghost use Rattle.sg_explain.specs.Inside.Pieces.{TellsInterface, TellsLength, TellsReason, accepted_line};
 
 use crate::parts::put;
 use crate::reasons::{put_reason, put_why};
@@ -51,8 +50,7 @@ fn explain_text(alloc: Global, text: &[u8], shapes: &[Shape]) -> Result<Verdict,
     ensures { IfOk result (IsExplained (map facts_of shapes.now) text.now) }
 {
     if is_longer(text, MOST_INTERFACE) {
-        let long = too_long(alloc)?;
-        return Ok(Verdict::Refused(long));
+        return too_long(alloc);
     }
     let examined = examine(alloc, text, shapes)?;
     match examined {
@@ -80,8 +78,7 @@ fn explain_input(
     ensures { IfOk result (IsExplained (map facts_of shapes.now) input.now) }
 {
     if are_longer(interface, script) {
-        let long = too_long(alloc)?;
-        return Ok(Verdict::Refused(long));
+        return too_long(alloc);
     }
     let examined = examine(alloc, interface, shapes)?;
     match examined {
@@ -179,10 +176,10 @@ fn are_longer(interface: &[u8], script: &[u8]) -> bool
 }
 
 // What is told of an input that is too long.
-fn too_long(alloc: Global) -> Result<Bytes, NoMemory>
-    ensures { IfOk result (λ told. told ≡ too_long_line ++ too_long_words) }
+fn too_long(alloc: Global) -> Result<Verdict, NoMemory>
+    ensures { IfOk result TellsLength }
 {
-    Bytes::from_slice(alloc, TOO_LONG_EXPLAINED)
+    Ok(Verdict::Refused(Bytes::from_slice(alloc, TOO_LONG_EXPLAINED)?))
 }
 
 // What is told of an interface that is accepted.

@@ -9,11 +9,14 @@ use Rattle.sg_facts.specs.declared.tables.WalkLine.{WalkLine}
 use Rattle.sg_script.specs.declared.script.Script.{Script}
 use Rattle.sg_check.specs.sg_walk.declared.place.Triple.{Triple}
 use Rattle.sg_print.specs.TablesText.{set_names}
+use Rattle.sg_input.specs.Lines.{too_long_line}
 use Rattle.sg_input.specs.Verdicts.{IsRefused}
+use Rattle.sg_input.specs.declared.outcome.Verdict.{Verdict}
+use Rattle.sg_input.specs.declared.outcome.Verdict.TheVariants.{Accepted, Refused}
 use Rattle.sg_input.specs.declared.refusal.RefusalKind.{RefusalKind}
 use Rattle.sg_explain.specs.Explained.{IsMore, why_at}
 use Rattle.sg_explain.specs.Rebuilt.{come_to_words, rebuilt_line}
-use Rattle.sg_explain.specs.Words.{refusal_words}
+use Rattle.sg_explain.specs.Words.{refusal_words, too_long_words}
 
 -- the names of the fields of a set, each after a space, or that there is none
 abbrev pub fields_words : List Field → ℕ → List ℕ
@@ -49,3 +52,8 @@ pub record IsReason (services : List Facts) (text why : List ℕ) : Type 0 where
 -- why a text is refused stands after what was there
 abbrev pub TellsReason : List Facts → List ℕ → List ℕ → List ℕ → Type 0
 TellsReason services text old new = (why : List ℕ) × IsReason services text why × (new ≡ old ++ why)
+
+-- what is told of an input that is too long
+abbrev pub TellsLength : Verdict → Type 0
+TellsLength (Accepted told) = ⊥
+TellsLength (Refused told) = told ≡ too_long_line ++ too_long_words

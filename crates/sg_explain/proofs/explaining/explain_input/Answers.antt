@@ -5,10 +5,10 @@ use Rattle.sg_input.specs.Examined.{IsExamined}
 use Rattle.sg_explain.proofs.Explaining.{bad_interface, both_fit, first_of, long_texts}
 use Rattle.sg_explain.proofs.explaining.explain_input.Goals as goal
 
-pub returns-in_ok-long-then-are_longer : goal.returns-in_ok-long-then-are_longer
-returns-in_ok-long-then-are_longer c =
-    long_texts (map facts_of c.args.shapes.now) c.args.input.now c.in_ok-long-then-are_longer.long c.args.interface.now c.args.script.now c.requires.cut
-    (sym c.are_longer.ensures ∙ c.if-are_longer.true) c.in_ok-long-then-are_longer.ensures
+pub returns-then-are_longer : goal.returns-then-are_longer
+returns-then-are_longer c =
+    long_texts (map facts_of c.args.shapes.now) c.args.input.now c.too_long.result c.args.interface.now c.args.script.now c.requires.cut
+    (sym c.are_longer.ensures ∙ c.if-are_longer.true) c.too_long.ensures
 
 pub with_reason-requires-clause-refused : goal.with_reason-requires-clause-refused
 with_reason-requires-clause-refused c = subst (IsExamined (map facts_of c.args.shapes.now) c.args.interface.now) c.in-Refused.is c.in_ok-examined.ensures.answer

@@ -6,10 +6,10 @@ use Rattle.sg_input.specs.Inputs.{most_interface}
 use Rattle.sg_explain.proofs.Explaining.{alone, bad_interface, good_text, long_text, longer_than, no_longer}
 use Rattle.sg_explain.proofs.explaining.explain_text.Goals as goal
 
-pub returns-in_ok-long-then-is_longer : goal.returns-in_ok-long-then-is_longer
-returns-in_ok-long-then-is_longer c =
-    long_text (map facts_of c.args.shapes.now) c.args.text.now c.in_ok-long-then-is_longer.long c.requires.undivided
-    (longer_than most_interface (length c.args.text.now) (sym c.is_longer.ensures ∙ c.if-is_longer.true)) c.in_ok-long-then-is_longer.ensures
+pub returns-then-is_longer : goal.returns-then-is_longer
+returns-then-is_longer c =
+    long_text (map facts_of c.args.shapes.now) c.args.text.now c.too_long.result c.requires.undivided
+    (longer_than most_interface (length c.args.text.now) (sym c.is_longer.ensures ∙ c.if-is_longer.true)) c.too_long.ensures
 
 pub with_reason-requires-clause-refused : goal.with_reason-requires-clause-refused
 with_reason-requires-clause-refused c = subst (IsExamined (map facts_of c.args.shapes.now) c.args.text.now) c.in-Refused.is c.in_ok-examined.ensures.answer
