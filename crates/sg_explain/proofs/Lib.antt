@@ -1,7 +1,7 @@
 pub mod Alone
-pub mod Explaining
+pub mod Explained
 pub mod Protos
-pub mod Reasons
+pub mod Refusing
 pub mod Searching
 pub mod Seams
 pub mod Telling

@@ -2,7 +2,7 @@
 use Rattle.std.proofs.Common.{Err, map, subst}
 use Rattle.sg_facts.specs.Facts.{facts_of}
 use Rattle.sg_script.specs.Reads.{IsReadingOf}
-use Rattle.sg_explain.proofs.Explaining.{bad_script, refused_so}
+use Rattle.sg_explain.proofs.Explained.{bad_script, refused_so}
 use Rattle.sg_explain.proofs.explaining.explain_error.Goals as goal
 
 pub with_fault-requires-clause-refused : goal.with_fault-requires-clause-refused

@@ -2,7 +2,7 @@
 use Rattle.std.proofs.Common.{◌∙◌, map, subst, sym}
 use Rattle.sg_facts.specs.Facts.{facts_of}
 use Rattle.sg_input.specs.Examined.{IsExamined}
-use Rattle.sg_explain.proofs.Explaining.{bad_interface, both_fit, first_of, long_texts}
+use Rattle.sg_explain.proofs.Explained.{bad_interface, both_fit, first_of, long_texts}
 use Rattle.sg_explain.proofs.explaining.explain_input.Goals as goal
 
 pub returns-then-are_longer : goal.returns-then-are_longer

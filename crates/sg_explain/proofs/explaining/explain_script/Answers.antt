@@ -2,7 +2,7 @@
 use Rattle.std.proofs.Common.{Ok, Err, map, subst}
 use Rattle.sg_facts.specs.Facts.{facts_of}
 use Rattle.sg_script.specs.Reads.{IsReadingOf}
-use Rattle.sg_explain.proofs.Explaining.{good_input}
+use Rattle.sg_explain.proofs.Explained.{good_input}
 use Rattle.sg_explain.proofs.explaining.explain_script.Goals as goal
 
 pub explain_error-requires-clause-error : goal.explain_error-requires-clause-error

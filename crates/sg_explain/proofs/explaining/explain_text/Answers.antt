@@ -3,7 +3,7 @@ use Rattle.std.proofs.Common.{◌∙◌, length, map, subst, sym}
 use Rattle.sg_facts.specs.Facts.{facts_of}
 use Rattle.sg_input.specs.Examined.{IsExamined}
 use Rattle.sg_input.specs.Inputs.{most_interface}
-use Rattle.sg_explain.proofs.Explaining.{alone, bad_interface, good_text, long_text, longer_than, no_longer}
+use Rattle.sg_explain.proofs.Explained.{alone, bad_interface, good_text, long_text, longer_than, no_longer}
 use Rattle.sg_explain.proofs.explaining.explain_text.Goals as goal
 
 pub returns-then-is_longer : goal.returns-then-is_longer

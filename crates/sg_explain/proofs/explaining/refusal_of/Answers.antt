@@ -11,5 +11,5 @@ unreachable-requires c =
     never_ready services c.args.input.now c.requires.refused.0 c.in-Ready.field-0 c.in-Ready.field-1 c.requires.refused.1
     (subst (IsInputOf services c.args.input.now) c.in-Ready.is c.in_ok-found.ensures.input)
 
-pub returns-in-Refused : goal.returns-in-Refused
-returns-in-Refused c = subst (IsInputOf (map facts_of c.args.shapes.now) c.args.input.now) c.in-Refused.is c.in_ok-found.ensures.input
+pub returns : goal.returns
+returns c = subst (IsInputOf (map facts_of c.args.shapes.now) c.args.input.now) c.in-Refused.is c.in_ok-found.ensures.input

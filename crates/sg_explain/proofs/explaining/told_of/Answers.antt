@@ -1,6 +1,6 @@
 -- The lines are those of the interface's tables.
 use Rattle.std.proofs.Common.{◌∙◌}
-use Rattle.sg_explain.proofs.Explaining.{told_tables}
+use Rattle.sg_explain.proofs.Explained.{told_tables}
 use Rattle.sg_explain.proofs.explaining.told_of.Goals as goal
 
 pub returns : goal.returns

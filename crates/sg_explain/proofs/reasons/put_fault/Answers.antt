@@ -3,7 +3,7 @@ use Rattle.std.proofs.Common.{map, subst}
 use Rattle.sg_check_statements.specs.Faults.{IsFault}
 use Rattle.sg_facts.specs.Facts.{facts_of}
 use Rattle.sg_input.specs.declared.refusal.RefusalKind.TheVariants.{Check}
-use Rattle.sg_explain.proofs.Reasons.{nothing_more, tells_alone, tells_stuck}
+use Rattle.sg_explain.proofs.Refusing.{nothing_more, tells_alone, tells_stuck}
 use Rattle.sg_explain.proofs.reasons.put_fault.Goals as goal
 
 pub put_stuck-requires-clause-fault : goal.put_stuck-requires-clause-fault

@@ -2,7 +2,7 @@
 use Rattle.std.proofs.Common.{refl, subst, Err}
 use Rattle.sg_input.specs.declared.refusal.RefusalKind.TheVariants.{Lex, Syntax}
 use Rattle.sg_input.specs.sg_parse.Grammar.Parses.{Parses}
-use Rattle.sg_explain.proofs.Reasons.{tells_ok}
+use Rattle.sg_explain.proofs.Refusing.{tells_ok}
 use Rattle.sg_explain.proofs.reasons.put_unparsed.Goals as goal
 
 pub returns-in-Lex : goal.returns-in-Lex
