@@ -88,18 +88,22 @@ not_all i at statements n enough none (proto, has, lacks) = none proto (subst (�
 
 -- ---- the text's fault
 
+-- the first statement that has a flaw is such a prototype
+flawed_proto : (facts : Facts) (tree : Tree) (at : ℕ) → IsFirstStatement (λ before s p. IsProtoWhere facts (HasNoWalk (interface_of facts tree)) s p) tree.statements at
+    → (proto : Statement) × Contains tree.statements proto × IsProtoWhere facts (HasNoWalk (interface_of facts tree)) proto at
+flawed_proto facts tree at it = (
+  it.one,
+  subst (λ l. Contains l it.one) (sym it.split) (Contains-append_right it.before (it.one ∷ it.after) it.one (0, omega arith, refl)),
+  it.flaw,
+)
+
 -- the prototype that a fault is told of
-pub faulty_proto : (services : List Facts) (tree : Tree) (at : ℕ) (facts : Facts) → service_of services tree.facts.service.bytes ≡ Some facts → FirstOf services tree NoWalk at
+faulty_proto : (services : List Facts) (tree : Tree) (at : ℕ) (facts : Facts) → service_of services tree.facts.service.bytes ≡ Some facts → FirstOf services tree NoWalk at
     → (proto : Statement) × Contains tree.statements proto × IsProtoWhere facts (HasNoWalk (interface_of facts tree)) proto at
 faulty_proto services tree at facts service (other, its, first) =
     let both : Some other ≡ Some facts = sym its ∙ service in
     let same : other ≡ facts = cc both in
-    let it : IsFirstStatement (λ before s p. IsProtoWhere facts (HasNoWalk (interface_of facts tree)) s p) tree.statements at =
-    subst (λ f. IsFirstStatement (λ before s p. IsProtoWhere f (HasNoWalk (interface_of f tree)) s p) tree.statements at) same first in (
-      it.one,
-      subst (λ l. Contains l it.one) (sym it.split) (Contains-append_right it.before (it.one ∷ it.after) it.one (0, omega arith, refl)),
-      it.flaw,
-    )
+    flawed_proto facts tree at (subst (λ f. IsFirstStatement (λ before s p. IsProtoWhere f (HasNoWalk (interface_of f tree)) s p) tree.statements at) same first)
 
 -- the service of a text that has such a fault
 pub has_service : (services : List Facts) (tree : Tree) (at : ℕ) → FirstOf services tree NoWalk at → service_of services tree.facts.service.bytes ≡ None → ⊥
