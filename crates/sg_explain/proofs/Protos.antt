@@ -8,15 +8,15 @@ use Rattle.std.proofs.lemmas.List.{take_all}
 use Rattle.std.proofs.lemmas.List.Elements.{Contains-append_right}
 use Rattle.sg_facts.specs.Facts.{Facts}
 use Rattle.sg_facts.specs.Interface.{Declared}
-use Rattle.sg_check.proofs.sg_walk.ReachedStates.Marks.{at_place}
-use Rattle.sg_check_statements.specs.Faults.{FirstOf, IsFirstStatement, interface_of}
-use Rattle.sg_check_statements.specs.Flaws.{HasNoWalk, IsProtoWhere}
-use Rattle.sg_check_statements.specs.Says.{fun_number, service_of}
-use Rattle.sg_check_statements.specs.declared.fault.CheckKind.TheVariants.{NoWalk}
-use Rattle.sg_check_statements.specs.sg_parse.declared.tree.Statement.{Statement}
-use Rattle.sg_check_statements.specs.sg_parse.declared.tree.Statement.TheVariants.{One, Two, Proto}
-use Rattle.sg_check_statements.specs.sg_parse.declared.tree.Tree.{Tree}
-use Rattle.sg_check.specs.sg_walk.declared.place.Triple.{Triple}
+use Rattle.sg_input.proofs.sg_walk.ReachedStates.Marks.{at_place}
+use Rattle.sg_input.specs.sg_check_statements.Faults.{FirstOf, IsFirstStatement, interface_of}
+use Rattle.sg_input.specs.sg_check_statements.Flaws.{HasNoWalk, IsProtoWhere}
+use Rattle.sg_input.specs.sg_check_statements.Says.{fun_number, service_of}
+use Rattle.sg_input.specs.sg_check_statements.declared.fault.CheckKind.TheVariants.{NoWalk}
+use Rattle.sg_input.specs.sg_parse.declared.tree.Statement.{Statement}
+use Rattle.sg_input.specs.sg_parse.declared.tree.Statement.TheVariants.{One, Two, Proto}
+use Rattle.sg_input.specs.sg_parse.declared.tree.Tree.{Tree}
+use Rattle.sg_input.specs.sg_walk.declared.place.Triple.{Triple}
 use Rattle.sg_explain.specs.Stuck.{IsFirstStuck, IsStuckLine}
 use Rattle.sg_explain.specs.Inside.Pieces.{stuck_line}
 use Rattle.sg_explain.specs.Inside.Search.{IsFoundAt, IsFoundIn, proto_at}

@@ -10,12 +10,12 @@ use Rattle.std.proofs.lemmas.List.Elements.{Contains-append_cases}
 use Rattle.sg_facts.specs.Fields.{number_of}
 use Rattle.sg_facts.specs.Interface.{Declared}
 use Rattle.sg_facts.specs.Walks.{IsWalkOf, begin_of, most_calls, restores}
-use Rattle.sg_check.specs.Inside.Reached.{AreTriples}
-use Rattle.sg_check.proofs.Seeking.{walked_set}
-use Rattle.sg_check.proofs.sg_walk.ReachedStates.Marks.{only}
-use Rattle.sg_check_statements.specs.Flaws.{HasNoWalk}
-use Rattle.sg_check.specs.sg_walk.ReachedStates.Triples.{IsReachedTriple}
-use Rattle.sg_check.specs.sg_walk.declared.place.Triple.{Triple}
+use Rattle.sg_input.specs.sg_check.Inside.Reached.{AreTriples}
+use Rattle.sg_input.proofs.sg_check.Seeking.{walked_set}
+use Rattle.sg_input.proofs.sg_walk.ReachedStates.Marks.{only}
+use Rattle.sg_input.specs.sg_check_statements.Flaws.{HasNoWalk}
+use Rattle.sg_input.specs.sg_walk.ReachedStates.Triples.{IsReachedTriple}
+use Rattle.sg_input.specs.sg_walk.declared.place.Triple.{Triple}
 use Rattle.sg_explain.specs.Stuck.{IsStuck}
 use Rattle.sg_explain.specs.Inside.Search.{GoesOn, IsFirstOf, IsFoundAt, IsNoLater, IsStuckIn, TellsStuck, TellsStuckIn, earlier}
 

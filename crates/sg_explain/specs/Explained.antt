@@ -8,7 +8,7 @@ use Rattle.sg_facts.specs.Words.{line_end}
 use Rattle.sg_facts.specs.declared.tables.WalkLine.{WalkLine}
 use Rattle.sg_input.specs.sg_parse.Grammar.Parses.{Parses}
 use Rattle.sg_input.specs.sg_parse.declared.tree.Tree.{Tree}
-use Rattle.sg_check_statements.specs.declared.fault.CheckKind.TheVariants.{NoWalk}
+use Rattle.sg_input.specs.sg_check_statements.declared.fault.CheckKind.TheVariants.{NoWalk}
 use Rattle.sg_script.specs.Reads.{IsReadingOf}
 use Rattle.sg_script.specs.declared.fault.ScriptError.TheVariants.{Fault}
 use Rattle.sg_script.specs.declared.fault.ScriptFault.{ScriptFault}

@@ -6,7 +6,7 @@ use Rattle.sg_facts.specs.Facts.{Facts, fun_at}
 use Rattle.sg_facts.specs.Words.{line_end}
 use Rattle.sg_facts.specs.declared.tables.WalkLine.{WalkLine}
 use Rattle.sg_script.specs.declared.script.Script.{Script}
-use Rattle.sg_print.specs.TablesText.{set_names, walk_names}
+use Rattle.sg_input.specs.sg_print.TablesText.{set_names, walk_names}
 
 -- what a descriptor can come to: the function that made it, its state, and the fields that aren't 0 or empty, by the number of their set
 abbrev pub come_to_words : Facts → ℕ → ℕ → ℕ → List ℕ

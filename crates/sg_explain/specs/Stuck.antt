@@ -6,12 +6,12 @@ use Rattle.sg_facts.specs.Fields.{number_of}
 use Rattle.sg_facts.specs.Interface.{Declared}
 use Rattle.sg_facts.specs.Walks.{IsReachable, begin_of, most_calls, restores}
 use Rattle.sg_facts.specs.Words.{line_end}
-use Rattle.sg_check.specs.sg_walk.declared.place.Triple.{Triple}
-use Rattle.sg_check_statements.specs.Faults.{interface_of}
-use Rattle.sg_check_statements.specs.Flaws.{IsProtoWhere}
-use Rattle.sg_check_statements.specs.Says.{service_of}
-use Rattle.sg_check_statements.specs.sg_parse.declared.tree.Statement.{Statement}
-use Rattle.sg_check_statements.specs.sg_parse.declared.tree.Tree.{Tree}
+use Rattle.sg_input.specs.sg_walk.declared.place.Triple.{Triple}
+use Rattle.sg_input.specs.sg_check_statements.Faults.{interface_of}
+use Rattle.sg_input.specs.sg_check_statements.Flaws.{IsProtoWhere}
+use Rattle.sg_input.specs.sg_check_statements.Says.{service_of}
+use Rattle.sg_input.specs.sg_parse.declared.tree.Statement.{Statement}
+use Rattle.sg_input.specs.sg_parse.declared.tree.Tree.{Tree}
 use Rattle.sg_explain.specs.Rebuilt.{come_to_words}
 
 -- a descriptor that a function made can come to a state with a set of fields, by its number, and no walk of at most 8 calls restores that

@@ -1,8 +1,8 @@
 -- What is said of each kind of fault, in words.
 use Rattle.std.specs.Prelude.{ℕ, List, ◌++◌, codes}
 use Rattle.sg_facts.specs.Words.{line_end}
-use Rattle.sg_check_statements.specs.declared.fault.CheckKind.{CheckKind}
-use Rattle.sg_check_statements.specs.declared.fault.CheckKind.TheVariants.{UnknownService, DuplicateName, UnknownFunction, BadParams, WrongFact, WrongFlag, WrongEffect, ForeignTransition, ForeignRecover, NoCreation, Unreached, NoWalk}
+use Rattle.sg_input.specs.sg_check_statements.declared.fault.CheckKind.{CheckKind}
+use Rattle.sg_input.specs.sg_check_statements.declared.fault.CheckKind.TheVariants.{UnknownService, DuplicateName, UnknownFunction, BadParams, WrongFact, WrongFlag, WrongEffect, ForeignTransition, ForeignRecover, NoCreation, Unreached, NoWalk}
 use Rattle.sg_input.specs.declared.refusal.RefusalKind.{RefusalKind}
 use Rattle.sg_input.specs.declared.refusal.RefusalKind.TheVariants.{Lex, Syntax, Check}
 use Rattle.sg_script.specs.declared.fault.ScriptKind.{ScriptKind}

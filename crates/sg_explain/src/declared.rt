@@ -3,11 +3,11 @@ ghost use Rattle.std.specs.Prelude.{◌≡◌, ◌≤◌, ◌<◌, ◌^◌, leng
 ghost use Rattle.sg_facts.specs.Facts.{facts_of, fun_at, fun_of_shape};
 ghost use Rattle.sg_facts.specs.Fields.{number_of};
 ghost use Rattle.sg_facts.specs.Limits.{most_funs};
-ghost use Rattle.sg_check_statements.specs.Faults.{interface_of};
-ghost use Rattle.sg_check_statements.specs.Says.{has_proto, says_of};
+ghost use Rattle.sg_input.specs.sg_check_statements.Faults.{interface_of};
+ghost use Rattle.sg_input.specs.sg_check_statements.Says.{has_proto, says_of};
 
-use sg_check_statements::{Protos, Statement, Tree, says_of};
 use sg_facts::{FunShape, Interface, NoMemory, PairList, Shape};
+use sg_input::{Protos, Statement, Tree, says_of};
 use std::alloc::Global;
 
 /// The interface that a text declares of a shape with at most `MOST_FUNS` functions, whether the text is accepted or not.

@@ -2,7 +2,7 @@
 ghost use Rattle.std.specs.Prelude.{◌≡◌, ◌||◌, ◌++◌, ℕ, nat_lt, List, Err as failed, length, true, map, IfOk};
 ghost use Rattle.std.specs.List.{flat_map};
 ghost use Rattle.sg_facts.specs.Facts.{facts_of};
-ghost use Rattle.sg_check.specs.Shapes.{are_shapes};
+ghost use Rattle.sg_input.specs.sg_check.Shapes.{are_shapes};
 ghost use Rattle.sg_input.specs.Divider.{IsCut};
 ghost use Rattle.sg_input.specs.Inputs.{AreTexts, IsInputOf, IsInterface, most_interface, most_script};
 ghost use Rattle.sg_input.specs.Verdicts.{IsVerdict};

@@ -1,9 +1,9 @@
 // Why the text of an interface is refused, and what is told of a place.
 ghost use Rattle.std.specs.Prelude.{◌≡◌, ◌++◌, ℕ, List, Ok, Err as failed, true, map, OnOk};
 ghost use Rattle.sg_facts.specs.Facts.{Facts, facts_of};
-ghost use Rattle.sg_check.specs.Shapes.{are_shapes};
-ghost use Rattle.sg_check_statements.specs.Faults.{IsFault};
-ghost use Rattle.sg_check_statements.specs.Stages.{IsFirstFault};
+ghost use Rattle.sg_input.specs.sg_check.Shapes.{are_shapes};
+ghost use Rattle.sg_input.specs.sg_check_statements.Faults.{IsFault};
+ghost use Rattle.sg_input.specs.sg_check_statements.Stages.{IsFirstFault};
 ghost use Rattle.sg_input.specs.Verdicts.{IsVerdict};
 ghost use Rattle.sg_input.specs.declared.outcome.Verdict.TheVariants.{Refused as refused_with};
 ghost use Rattle.sg_input.specs.sg_parse.Grammar.Parses.{Parses};
@@ -14,10 +14,8 @@ use crate::parts::put;
 use crate::places::{put_place, put_shown};
 use crate::stuck::put_stuck;
 use crate::words::{Sentences, refusal_words};
-use sg_check_statements::{CheckError, CheckFault, CheckKind, Tree};
 use sg_facts::{Bytes, NoMemory, Shape};
-use sg_input::{RefusalKind, check, parse};
-use sg_print::ParseError;
+use sg_input::{CheckError, CheckFault, CheckKind, ParseError, RefusalKind, Tree, check, parse};
 use std::alloc::Global;
 
 /// Adds why the text of an interface, which is refused, is refused.

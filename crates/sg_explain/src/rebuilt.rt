@@ -4,7 +4,7 @@ ghost use Rattle.std.specs.List.{flat_map, list_any};
 ghost use Rattle.sg_explain.specs.Rebuilt.{come_to_words, counts_line, rebuilt_line};
 ghost use Rattle.sg_explain.specs.Inside.Pieces.{clients_of, fields_words};
 ghost use Rattle.sg_facts.specs.Facts.{facts_of};
-ghost use Rattle.sg_print.specs.TablesText.{set_names, walk_names};
+ghost use Rattle.sg_input.specs.sg_print.TablesText.{set_names, walk_names};
 
 use crate::parts::put;
 use sg_facts::{Bytes, FieldShape, NoMemory, Shape, WalkLine};

@@ -4,14 +4,14 @@ ghost use Rattle.std.specs.List.{Contains};
 ghost use Rattle.std.specs.Option.{option_copied, option_map};
 ghost use Rattle.sg_facts.specs.Facts.{facts_of};
 ghost use Rattle.sg_facts.specs.Interface.{HasFewFields};
-ghost use Rattle.sg_check.specs.Inside.Reached.{AreTriples};
-ghost use Rattle.sg_check.specs.Shapes.{are_shapes};
-ghost use Rattle.sg_check_statements.specs.Faults.{IsFault};
-ghost use Rattle.sg_check_statements.specs.Flaws.{HasNoWalk, IsProtoWhere};
-ghost use Rattle.sg_check_statements.specs.Says.{service_of};
-ghost use Rattle.sg_check_statements.specs.declared.fault.CheckKind.TheVariants.{NoWalk as no_walk};
-ghost use Rattle.sg_check_statements.specs.sg_parse.declared.tree.Statement.{Statement as Written};
-ghost use Rattle.sg_check.specs.sg_walk.ReachedStates.Triples.{IsReachedTriple};
+ghost use Rattle.sg_input.specs.sg_check.Inside.Reached.{AreTriples};
+ghost use Rattle.sg_input.specs.sg_check.Shapes.{are_shapes};
+ghost use Rattle.sg_input.specs.sg_check_statements.Faults.{IsFault};
+ghost use Rattle.sg_input.specs.sg_check_statements.Flaws.{HasNoWalk, IsProtoWhere};
+ghost use Rattle.sg_input.specs.sg_check_statements.Says.{service_of};
+ghost use Rattle.sg_input.specs.sg_check_statements.declared.fault.CheckKind.TheVariants.{NoWalk as no_walk};
+ghost use Rattle.sg_input.specs.sg_parse.declared.tree.Statement.{Statement as Written};
+ghost use Rattle.sg_input.specs.sg_walk.ReachedStates.Triples.{IsReachedTriple};
 ghost use Rattle.sg_explain.specs.Stuck.{IsFirstStuck, IsStuckLine};
 ghost use Rattle.sg_explain.specs.Inside.Pieces.{stuck_line};
 ghost use Rattle.sg_explain.specs.Inside.Search.{GoesOn, IsFoundAt, IsFoundIn, TellsStuck, TellsStuckIn, earlier, proto_at};
@@ -19,9 +19,8 @@ ghost use Rattle.sg_explain.specs.Inside.Search.{GoesOn, IsFoundAt, IsFoundIn, T
 use crate::declared::interface_of;
 use crate::parts::put;
 use crate::rebuilt::put_come_to;
-use sg_check::{Triple, reachable, shortest};
-use sg_check_statements::{Statement, Tree, fun_number};
 use sg_facts::{Bytes, Interface, NoMemory, Shape};
+use sg_input::{Statement, Tree, Triple, fun_number, reachable, shortest};
 use std::alloc::Global;
 
 /// Adds the line of the first of what a descriptor can come to in a state that no walk restores, where a text is refused for that state at

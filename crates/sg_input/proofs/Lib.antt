@@ -8,4 +8,7 @@ pub mod OneVerdict
 pub mod PlacedLine
 pub mod Said
 pub use Rattle.sg_print.proofs.sg_parse
+pub use Rattle.sg_stub.proofs as sg_stub
+pub use Rattle.sg_stub.proofs.sg_check
+pub use Rattle.sg_stub.proofs.sg_check.sg_walk
 pub use Rattle.sg_entries.proofs as sg_entries

@@ -6,6 +6,7 @@ pub mod Inputs
 pub mod Lines
 pub mod Verdicts
 pub use Rattle.sg_entries.specs as sg_entries
+pub use Rattle.sg_print.specs as sg_print
 pub use Rattle.sg_print.specs.sg_parse
 pub use Rattle.sg_script.specs as sg_script
 pub use Rattle.sg_script.specs.sg_lex

@@ -47,8 +47,9 @@ pub use places::{column_of, line_of};
 pub use reading::read_input;
 pub use refusal::RefusalKind;
 pub use run_input::{RunInput, read_run};
+pub use sg_check_statements::{CheckFault, Protos, Statement, Tree, fun_number, says_of};
 pub use sg_entries::History;
-pub use sg_print::parse;
+pub use sg_print::{ParseError, parse};
 pub use sg_script::Script;
 pub use sg_stub::{
     Accepted, CheckError, CheckKind, Triple, check, compile, reachable, restores, shortest,

@@ -14,4 +14,5 @@ mod words;
 
 pub use printed::{load_line, text};
 pub use sg_hist::{End, EndList, Ended, History};
-pub use words::{push_answer, push_number};
+pub use traced::{count_replays, push_item};
+pub use words::{push_answer, push_call, push_number};

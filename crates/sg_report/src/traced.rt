@@ -6,7 +6,7 @@ ghost use Rattle.sg_facts.specs.Trace.{run_of};
 ghost use Rattle.sg_facts.specs.Inside.Rows.{boot_of};
 ghost use Rattle.sg_hist.specs.Reading.{items_of};
 ghost use Rattle.sg_report.specs.Inside.Pieces.{is_replay_for};
-ghost use Rattle.sg_report.specs.Report.{boots_lines, call_text, item_text, outcome_text};
+ghost use Rattle.sg_report.specs.Report.{boots_lines, call_text, item_text, outcome_text, replays_for};
 ghost use Rattle.sg_report.specs.Inside.Pieces.{boot_lines, replays_of, stop_line, trace_lines};
 ghost use Rattle.sg_facts.specs.sg_base.Counts.{last_count};
 ghost use Rattle.sg_facts.specs.Words.{line_end};
@@ -61,8 +61,8 @@ fn push_items(out: &mut Bytes, iface: &Interface, items: &[Item]) -> Result<(), 
     Ok(())
 }
 
-// An item: why the service was asked, for whom, and how it ended.
-fn push_item(out: &mut Bytes, iface: &Interface, item: &Item) -> Result<(), NoMemory>
+/// An item: why the service was asked, for whom, and how it ended, without the end of a line.
+pub fn push_item(out: &mut Bytes, iface: &Interface, item: &Item) -> Result<(), NoMemory>
     ensures { OnOk result (out.new ≡ out.old ++ item_text iface.now.facts item.now.tag item.now.shown item.now.outcome) }
 {
     match &item.tag {
@@ -139,6 +139,13 @@ fn push_stop(out: &mut Bytes, stop: Option<u64>) -> Result<(), NoMemory>
             out.extend_from_slice(b"\n")
         }
     }
+}
+
+/// How many calls of walks replied in a run, up to the greatest number of 64 bits.
+pub fn count_replays(trace: &Trace) -> u64
+    ensures { result ≡ min (replays_for (λ id. true) (items_of (run_of trace.now).boots)) last_count }
+{
+    replays_in(trace.boots.as_slice())
 }
 
 /// How many calls of walks replied, up to the greatest number of 64 bits.

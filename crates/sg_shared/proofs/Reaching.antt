@@ -3,8 +3,8 @@ use Rattle.std.proofs.Common.{◌≡◌, Ok, Err, ℕ, false, is_err, subst}
 use Rattle.std.proofs.Math.Logic.{∥∥₁_map}
 use Rattle.std.specs.Result.{IfOk, OnOk}
 use Rattle.std.specs.declared.result.Result.{Result}
-use Rattle.sg_plain.specs.sg_hist.declared.ended.Ended.{Ended}
-use Rattle.sg_plain.specs.sg_script.declared.script.Script.{Script}
+use Rattle.sg_sim.specs.sg_plain.sg_hist.declared.ended.Ended.{Ended}
+use Rattle.sg_sim.specs.sg_plain.sg_script.declared.script.Script.{Script}
 use Rattle.sg_shared.specs.Reached.{IsReached, IsReachedEnd}
 use Rattle.sg_sim.proofs.Turns.{ends_behind, turn_more}
 use Rattle.sg_sim.specs.Playing.{ComesTo, EndsAs, IsTurnOf, new_of}

@@ -1,6 +1,6 @@
 -- What turns of clients make of a new world.
-use Rattle.sg_plain.specs.sg_hist.declared.ended.Ended.{Ended}
-use Rattle.sg_plain.specs.sg_script.declared.script.Script.{Script}
+use Rattle.sg_sim.specs.sg_plain.sg_hist.declared.ended.Ended.{Ended}
+use Rattle.sg_sim.specs.sg_plain.sg_script.declared.script.Script.{Script}
 use Rattle.sg_sim.specs.Playing.{ComesTo, EndsAs, new_of}
 use Rattle.sg_sim.specs.sg_seat.WorldView.{WorldView}
 use Rattle.sg_sim.specs.sg_world_laws.Setting.{Setting}

@@ -6,11 +6,11 @@ use Rattle.sg_facts.specs.Legal.{IsLegal, Table}
 use Rattle.sg_facts.specs.Tables.{AreTables}
 use Rattle.sg_facts.specs.Trace.{run_of}
 use Rattle.sg_facts.specs.declared.tables.WalkLine.{WalkLine}
-use Rattle.sg_plain.specs.Calls.{AreEnds}
-use Rattle.sg_plain.specs.Promises.{AreScriptsCalls, AreScriptsStops, AreWoken, IsSetupFirst}
-use Rattle.sg_plain.specs.sg_hist.Ending.{HasRecovered}
-use Rattle.sg_plain.specs.sg_hist.declared.ended.Ended.{Ended}
-use Rattle.sg_plain.specs.sg_script.declared.script.Script.{Script}
+use Rattle.sg_sim.specs.sg_plain.Calls.{AreEnds}
+use Rattle.sg_sim.specs.sg_plain.Promises.{AreScriptsCalls, AreScriptsStops, AreWoken, IsSetupFirst}
+use Rattle.sg_sim.specs.sg_plain.sg_hist.Ending.{HasRecovered}
+use Rattle.sg_sim.specs.sg_plain.sg_hist.declared.ended.Ended.{Ended}
+use Rattle.sg_sim.specs.sg_plain.sg_script.declared.script.Script.{Script}
 use Rattle.sg_sim.specs.Played.{FollowsSchedule}
 
 -- a service: its shape, what it answers, and how many parts an Ok of each of its functions has, before each of which it may stop

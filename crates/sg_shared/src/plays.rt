@@ -1,15 +1,14 @@
 // Plays of a script on a service, in one thread or with a thread for each client.
 ghost use Rattle.std.specs.Prelude.{◌≡◌, [], true, IfOk};
 ghost use Rattle.sg_edge.specs.Stops.{AscendsAbove, struck_of};
-ghost use Rattle.sg_plain.specs.Playing.Playable.{IsPlayable};
+ghost use Rattle.sg_sim.specs.sg_plain.Playing.Playable.{IsPlayable};
 ghost use Rattle.sg_shared.specs.Runs.{IsRunInOrder, IsRunOf};
 ghost use Rattle.sg_sim.specs.sg_play.Waking.Waking.{no_query_waits};
 
 use crate::runs::run;
 use sg_edge::{AtPoints, Gate};
 use sg_facts::{NoMemory, Service, TryCopy};
-use sg_plain::Script;
-use sg_sim::{Played, play_script};
+use sg_sim::{Played, Script, play_script};
 use sg_stub::{Accepted, compile};
 use std::alloc::Global;
 use std::sync::Wait;

@@ -12,15 +12,15 @@ use Rattle.sg_input.specs.sg_script.declared.script.Script.{Script}
 use Rattle.sg_load.specs.Services.{facts_by, standard}
 use Rattle.sg_load.specs.declared.kind.ServiceKind.{ServiceKind}
 use Rattle.sg_load.specs.sg_plain.Playing.Playable.{IsPlayable}
-use Rattle.sg_report.specs.sg_hist.Recovered.{Stubs, waiting}
-use Rattle.sg_report.specs.sg_hist.Ending.{HasRecovered}
-use Rattle.sg_report.specs.sg_hist.declared.ended.Ended.{Ended}
+use Rattle.sg_verify.specs.sg_report.sg_hist.Recovered.{Stubs, waiting}
+use Rattle.sg_verify.specs.sg_report.sg_hist.Ending.{HasRecovered}
+use Rattle.sg_verify.specs.sg_report.sg_hist.declared.ended.Ended.{Ended}
 use Rattle.sg_shared.specs.Runs.{Answering, IsRunOf}
 use Rattle.sg_top.specs.Headline.{HasFewReplays, answering}
-use Rattle.sg_stub.proofs.OneTable.{one_table}
+use Rattle.sg_input.proofs.sg_stub.OneTable.{one_table}
 use Rattle.sg_top.proofs.EachKind.{allowed_kind, allowed_standard}
 use Rattle.sg_top.specs.Inside.Plays.{IsPlayOf}
-use Rattle.sg_report.specs.sg_hist.Clients.{AreNumbered}
+use Rattle.sg_verify.specs.sg_report.sg_hist.Clients.{AreNumbered}
 use Rattle.sg_facts.specs.sg_base.Lists.{Each}
 
 -- the replayed calls of a play are few

@@ -13,7 +13,7 @@ use Rattle.sg_input.specs.Judged.{MayBeJudged}
 use Rattle.sg_verify.specs.Lines.{verdict_line_of}
 use Rattle.sg_verify.specs.Verdicts.{IsVerdictOf}
 use Rattle.sg_verify.specs.declared.verdict.Verdict.{Verdict}
-use Rattle.sg_report.specs.sg_hist.Clients.{MayBeMade}
+use Rattle.sg_verify.specs.sg_report.sg_hist.Clients.{MayBeMade}
 use Rattle.sg_input.proofs.OneRun.{never_ready, one_ready}
 use Rattle.sg_verify.proofs.Verdicts.{one_said as one_verdict}
 use Rattle.sg_top.proofs.Fitting.{interface_service}
@@ -25,7 +25,7 @@ use Rattle.sg_top.specs.Inside.Pieces.{IsIllegal, IsVerified, verdict_status}
 use Rattle.sg_top.specs.Headline.{answering}
 use Rattle.sg_top.specs.Inside.Plays.{IsPlayed}
 use Rattle.std.specs.declared.option.Option.{Option}
-use Rattle.sg_report.specs.sg_hist.declared.ended.Ended.{Ended}
+use Rattle.sg_verify.specs.sg_report.sg_hist.declared.ended.Ended.{Ended}
 use Rattle.sg_top.specs.declared.command.Command.{Command}
 use Rattle.sg_top.specs.declared.command.Command.TheVariants.{Verify}
 use Rattle.sg_top.specs.declared.status.Status.{Status}

@@ -1,7 +1,7 @@
 -- An output that isn't a refusal refuses nothing: a text has one verdict, and an input is one thing.
 use Rattle.std.proofs.Common.{◌≡◌, ℕ, ◌≤◌, inl, inr, Bool, false, List, None, Some, arith, length}
 use Rattle.std.specs.declared.option.Option.{Option}
-use Rattle.sg_report.specs.sg_hist.declared.ended.Ended.{Ended}
+use Rattle.sg_verify.specs.sg_report.sg_hist.declared.ended.Ended.{Ended}
 use Rattle.sg_explain.proofs.Alone.{explained_alone}
 use Rattle.sg_input.specs.declared.outcome.Verdict.{Verdict}
 use Rattle.sg_input.specs.declared.outcome.Verdict.TheVariants.{Accepted as accepted, Refused as refused}

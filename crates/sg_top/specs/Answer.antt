@@ -9,8 +9,8 @@ use Rattle.sg_facts.specs.Facts.{Facts}
 use Rattle.sg_edge.specs.Edge.{Rose, ConsumesAtMost}
 use Rattle.sg_explain.specs.Explained.{IsExplained}
 use Rattle.sg_explain.specs.Words.{too_long_words}
-use Rattle.sg_report.specs.sg_hist.declared.ended.End.{End}
-use Rattle.sg_report.specs.sg_hist.declared.ended.Ended.{Ended}
+use Rattle.sg_verify.specs.sg_report.sg_hist.declared.ended.End.{End}
+use Rattle.sg_verify.specs.sg_report.sg_hist.declared.ended.Ended.{Ended}
 use Rattle.sg_input.specs.declared.outcome.Verdict.{Verdict}
 use Rattle.sg_input.specs.declared.outcome.Verdict.TheVariants.{Accepted as accepted, Refused as refused}
 use Rattle.sg_input.specs.Verdicts.{IsCompiled, IsUpgraded, IsVerdict}
@@ -20,7 +20,7 @@ use Rattle.sg_input.specs.declared.run_input.RunInput.TheVariants.{Refused as re
 use Rattle.sg_input.specs.Lines.{too_long_line}
 use Rattle.sg_input.specs.sg_lex.Table.{IsNumber}
 use Rattle.sg_load.specs.Services.{facts_by}
-use Rattle.sg_report.specs.sg_hist.Recovered.{is_blocked}
+use Rattle.sg_verify.specs.sg_report.sg_hist.Recovered.{is_blocked}
 use Rattle.sg_facts.specs.sg_base.Counts.{last_count}
 use Rattle.sg_input.specs.sg_script.Numbers.{value_of_digits}
 use Rattle.sg_facts.specs.Interface.{Declared}

@@ -9,7 +9,7 @@ use Rattle.sg_facts.specs.Interface.{Declared}
 use Rattle.sg_facts.specs.Tables.{AreTables}
 use Rattle.sg_facts.specs.Trace.{Boot, run_of}
 use Rattle.sg_facts.specs.declared.tables.WalkLine.{WalkLine}
-use Rattle.sg_report.specs.sg_hist.declared.ended.Ended.{Ended}
+use Rattle.sg_verify.specs.sg_report.sg_hist.declared.ended.Ended.{Ended}
 use Rattle.sg_input.specs.Inputs.{IsReady}
 use Rattle.sg_load.specs.Generated.{generated}
 use Rattle.sg_load.specs.Services.{facts_by, standard}
@@ -21,7 +21,7 @@ use Rattle.sg_load.specs.Services.sg_mm.MmFacts.{mm_facts}
 use Rattle.sg_load.specs.Services.sg_mm.MmTable.{mm_parts, mm_table}
 use Rattle.sg_load.specs.Services.sg_ramfs.RamfsFacts.{ramfs_facts}
 use Rattle.sg_load.specs.Services.sg_ramfs.RamfsTable.{ramfs_parts, ramfs_table}
-use Rattle.sg_report.specs.Report.{load_line_of, report_of}
+use Rattle.sg_verify.specs.sg_report.Report.{load_line_of, report_of}
 use Rattle.sg_load.specs.Services.sg_sched.SchedFacts.{sched_facts}
 use Rattle.sg_load.specs.Services.sg_sched.SchedTable.{sched_parts, sched_table}
 use Rattle.sg_load.specs.Services.sg_timer.TimerFacts.{timer_facts}

@@ -27,7 +27,7 @@ pub use sg_input::{
     read_input,
 };
 pub use sg_load::{Arg, Script, ScriptCall, ServiceKind, check, generate, standard};
-pub use sg_report::{End, EndList, Ended, History, text};
 pub use sg_shared::Played;
+pub use sg_verify::{End, EndList, Ended, History, text};
 pub use status::Status;
 pub use top::{Answer, serial, superglue};

@@ -1,7 +1,7 @@
 // What a command makes of its input.
 ghost use Rattle.std.specs.Prelude.{◌≡◌, ℕ, List, true, false, IfOk, None, Some};
 ghost use Rattle.sg_explain.specs.Explained.{IsExplained};
-ghost use Rattle.sg_report.specs.sg_hist.Recovered.{is_blocked};
+ghost use Rattle.sg_verify.specs.sg_report.sg_hist.Recovered.{is_blocked};
 ghost use Rattle.sg_load.specs.sg_plain.Playing.Playable.{IsPlayable};
 ghost use Rattle.sg_load.specs.sg_plain.Inside.Kept.{somebody_waits};
 ghost use Rattle.sg_input.specs.Verdicts.{IsCompiled, IsUpgraded, IsVerdict};
@@ -30,9 +30,8 @@ use sg_input::{
     verdict,
 };
 use sg_load::{Accepted, ServiceKind, generate, standard};
-use sg_report::{End, load_line, text};
 use sg_shared::Played;
-use sg_verify::{Verdict as Judgement, verdict_line};
+use sg_verify::{End, Verdict as Judgement, load_line, text, verdict_line};
 use std::alloc::Global;
 use std::sync::Wait;
 use std::thread::Threads;

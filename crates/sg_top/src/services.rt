@@ -11,7 +11,7 @@ ghost use Rattle.sg_load.specs.Services.{facts_by};
 ghost use Rattle.sg_load.specs.declared.kind.ServiceKind.{ServiceKind as Kind};
 ghost use Rattle.sg_load.specs.sg_check.Shapes.{are_shapes};
 ghost use Rattle.sg_load.specs.sg_plain.Playing.Playable.{IsPlayable};
-ghost use Rattle.sg_report.specs.sg_hist.Clients.{MayBeMade};
+ghost use Rattle.sg_verify.specs.sg_report.sg_hist.Clients.{MayBeMade};
 ghost use Rattle.sg_shared.specs.Runs.{IsRunInOrder, IsRunOf};
 ghost use Rattle.sg_top.specs.Answer.{services};
 ghost use Rattle.sg_top.specs.Headline.{answering};
@@ -25,9 +25,8 @@ use sg_load::kind::{
     EventService, LockService, MmService, RamfsService, SchedService, TimerService,
 };
 use sg_load::{Accepted, ServiceKind};
-use sg_report::Ended;
 use sg_shared::{Played, share, simulate};
-use sg_verify::{Verdict, verify};
+use sg_verify::{Ended, Verdict, verify};
 use std::alloc::Global;
 use std::sync::Wait;
 use std::thread::Threads;

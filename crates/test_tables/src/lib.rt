@@ -11,3 +11,4 @@ pub use sg_mm::MmService;
 pub use sg_ramfs::RamfsService;
 pub use sg_sched::SchedService;
 pub use tables::{event_tables, lock_tables, mm_tables, ramfs_tables, sched_tables};
+pub use test_interfaces::{EVENT, LOCK, MM, RAMFS, SCHED, in_version_2};

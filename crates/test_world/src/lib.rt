@@ -10,7 +10,7 @@
 //! - `calls`: one client's calls, each with the reply that it is to get (`answered`)
 //! - `seen`: whether a text tells what is seen of a world (`shows`)
 //!
-//! `Never`, by which nothing stops, is passed on.
+//! `Never`, by which nothing stops, is passed on, and so is what plays name of services and values.
 #![tactic(auto)]
 
 mod answers;
@@ -29,5 +29,8 @@ pub use plays::play;
 pub use run::{Judge, Run, Unmade, judged, stops_at};
 pub use seen::shows;
 pub use sg_edge::Never;
+pub use sg_facts::{
+    Bytes, Code, Entry, Good, NoMemory, Point, Reply, Service, Stops, Tables, Value, Words,
+};
 pub use sg_world::{Did, Phase, World};
 pub use words::headed;

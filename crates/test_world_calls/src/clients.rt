@@ -1,5 +1,4 @@
 // Clients that leave.
-use sg_facts::{Service, Stops};
 use std::alloc::Global;
 use std::process::Abort;
 use std::test::Fail;
@@ -7,7 +6,7 @@ use test_tables::{
     EventService, LockService, MmService, RamfsService, SchedService, event_tables, lock_tables,
     mm_tables, ramfs_tables, sched_tables,
 };
-use test_world::{Judge, Never, Phase, Run, World, judged};
+use test_world::{Judge, Never, Phase, Run, Service, Stops, World, judged};
 
 // Whether nothing was done in a world: the service is up in its first boot, and no point was asked.
 fn is_quiet<S: Service, T: Stops>(world: &World<S, T>) -> bool {

@@ -1,10 +1,9 @@
 // Steps of clients that have no call under way, and events that may not be made.
-use sg_facts::{Service, Stops};
 use std::alloc::Global;
 use std::process::Abort;
 use std::test::Fail;
 use test_tables::{EventService, LockService, event_tables, lock_tables};
-use test_world::{Asked, Did, Judge, Never, Phase, Run, Unmade, judged};
+use test_world::{Asked, Did, Judge, Never, Phase, Run, Service, Stops, Unmade, judged};
 
 /// The first client is idle, the second waits, and the third has left.
 const RESTING: &str = "offer 1 lock_alloc 0

@@ -1,10 +1,12 @@
 // Texts that tell no event, another reply, or what isn't seen: a play that has one fails.
-use sg_facts::{Bytes, Code, Good, Reply, Service, Stops, Words};
 use std::alloc::Global;
 use std::process::Abort;
 use std::test::Fail;
 use test_tables::{LockService, lock_tables};
-use test_world::{Event, Judge, Never, Run, Unmade, judged, shows, tells_reply};
+use test_world::{
+    Bytes, Code, Event, Good, Judge, Never, Reply, Run, Service, Stops, Unmade, Words, judged,
+    shows, tells_reply,
+};
 
 /// Lines that tell no event.
 const NO_EVENTS: &str = "

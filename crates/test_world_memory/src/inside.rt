@@ -1,7 +1,7 @@
 // A plan of one stop within a step.
 ghost use Rattle.std.specs.Prelude.{◌≡◌, None};
 
-use sg_facts::{Point, Stops};
+use test_world::{Point, Stops};
 
 /// Stops once, at the point of a number among those that aren't asked between calls: a step that is made again for want of memory asks
 /// no such point twice.

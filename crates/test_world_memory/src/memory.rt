@@ -3,7 +3,6 @@
 ghost use Rattle.std.specs.Prelude.{◌≡◌};
 
 use crate::inside::Inside;
-use sg_facts::{Bytes, NoMemory, Service, Tables};
 use std::alloc::Global;
 use std::process::Abort;
 use std::test::Fail;
@@ -11,7 +10,7 @@ use test_tables::{
     EventService, LockService, MmService, RamfsService, SchedService, event_tables, lock_tables,
     mm_tables, ramfs_tables, sched_tables,
 };
-use test_world::{Event, Judge, Run, Unmade, headed, judged};
+use test_world::{Bytes, Event, Judge, NoMemory, Run, Service, Tables, Unmade, headed, judged};
 
 /// Events of two clients around one stop.
 #[derive(Clone, Copy, Debug)]

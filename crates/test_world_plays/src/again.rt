@@ -2,11 +2,12 @@
 // the same replies.
 ghost use Rattle.std.specs.Prelude.{◌≡◌};
 
-use sg_facts::{Entry, NoMemory, Service, Stops, Tables, Value};
 use sg_top::Played;
 use std::alloc::Global;
 use std::test::Fail;
-use test_world::{Asked, Judge, Never, Run, judged};
+use test_world::{
+    Asked, Entry, Judge, Never, NoMemory, Run, Service, Stops, Tables, Value, judged,
+};
 
 // The entries of a history, of which each is to come again.
 #[derive(Clone, Copy, Debug)]

@@ -6,8 +6,10 @@ use sg_top::Played;
 use std::alloc::{AllocError, Global};
 use std::process::Abort;
 use std::test::Fail;
-use test_interfaces::{EVENT, LOCK, MM, RAMFS, SCHED, in_version_2};
-use test_tables::{MmService, RamfsService, SchedService, mm_tables, ramfs_tables, sched_tables};
+use test_tables::{
+    EVENT, LOCK, MM, MmService, RAMFS, RamfsService, SCHED, SchedService, in_version_2, mm_tables,
+    ramfs_tables, sched_tables,
+};
 
 /// The last point of a stop alone.
 const LAST: u32 = 60;

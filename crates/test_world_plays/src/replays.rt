@@ -2,15 +2,14 @@
 ghost use Rattle.std.specs.Prelude.{◌≡◌};
 
 use crate::again::plays_again;
-use sg_facts::{Service, Tables};
 use sg_top::{Answer, MemSink, MemSource, NoMemory, Played, serial};
 use std::alloc::Global;
 use std::test::Fail;
-use test_interfaces::{LOCK, MM, RAMFS, SCHED};
 use test_tables::{
-    LockService, MmService, RamfsService, SchedService, lock_tables, mm_tables, ramfs_tables,
-    sched_tables,
+    LOCK, LockService, MM, MmService, RAMFS, RamfsService, SCHED, SchedService, lock_tables,
+    mm_tables, ramfs_tables, sched_tables,
 };
+use test_world::{Service, Tables};
 
 /// The number of clients of each play.
 const CLIENTS: u8 = 2;

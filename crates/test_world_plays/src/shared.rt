@@ -3,17 +3,16 @@ ghost use Rattle.std.specs.Prelude.{◌≡◌};
 
 use crate::again::plays_again;
 use crate::replays::one_word;
-use sg_facts::{Service, Tables};
 use sg_top::{Answer, MemSink, MemSource, NoMemory, OpenGate, Played, superglue};
 use std::alloc::Global;
 use std::sync::Wait;
 use std::test::Fail;
 use std::thread::Threads;
-use test_interfaces::{EVENT, LOCK, MM, RAMFS, SCHED};
 use test_tables::{
-    EventService, LockService, MmService, RamfsService, SchedService, event_tables, lock_tables,
-    mm_tables, ramfs_tables, sched_tables,
+    EVENT, EventService, LOCK, LockService, MM, MmService, RAMFS, RamfsService, SCHED,
+    SchedService, event_tables, lock_tables, mm_tables, ramfs_tables, sched_tables,
 };
+use test_world::{Service, Tables};
 
 /// The number of clients of each play.
 const CLIENTS: u8 = 8;

@@ -7,8 +7,8 @@ use Rattle.sg_facts.specs.Tables.{AreTables}
 use Rattle.sg_facts.specs.Words.{line_end}
 use Rattle.sg_facts.specs.declared.tables.WalkLine.{WalkLine}
 use Rattle.sg_script.specs.declared.script.Script.{Script}
-use Rattle.sg_check.specs.sg_walk.declared.place.Triple.{Triple}
-use Rattle.sg_print.specs.TablesText.{set_names}
+use Rattle.sg_input.specs.sg_walk.declared.place.Triple.{Triple}
+use Rattle.sg_input.specs.sg_print.TablesText.{set_names}
 use Rattle.sg_input.specs.Lines.{too_long_line}
 use Rattle.sg_input.specs.Verdicts.{IsRefused}
 use Rattle.sg_input.specs.declared.outcome.Verdict.{Verdict}

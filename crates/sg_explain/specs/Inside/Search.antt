@@ -4,11 +4,11 @@ use Rattle.std.specs.declared.option.Option.{Option}
 use Rattle.std.specs.List.{Contains}
 use Rattle.sg_facts.specs.Facts.{Facts}
 use Rattle.sg_facts.specs.Interface.{Declared}
-use Rattle.sg_check_statements.specs.Flaws.{HasNoWalk, IsProtoWhere}
-use Rattle.sg_check_statements.specs.Says.{fun_number}
-use Rattle.sg_check_statements.specs.sg_parse.declared.tree.Statement.{Statement}
-use Rattle.sg_check_statements.specs.sg_parse.declared.tree.Statement.TheVariants.{One, Two, Proto}
-use Rattle.sg_check.specs.sg_walk.declared.place.Triple.{Triple}
+use Rattle.sg_input.specs.sg_check_statements.Flaws.{HasNoWalk, IsProtoWhere}
+use Rattle.sg_input.specs.sg_check_statements.Says.{fun_number}
+use Rattle.sg_input.specs.sg_parse.declared.tree.Statement.{Statement}
+use Rattle.sg_input.specs.sg_parse.declared.tree.Statement.TheVariants.{One, Two, Proto}
+use Rattle.sg_input.specs.sg_walk.declared.place.Triple.{Triple}
 use Rattle.sg_explain.specs.Stuck.{IsFirstStuck, IsStuck}
 
 -- a descriptor can come to this in a state, and no walk restores it

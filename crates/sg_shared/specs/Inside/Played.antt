@@ -4,8 +4,8 @@ use Rattle.sg_edge.specs.Stops.{up_to}
 use Rattle.sg_facts.specs.Interface.{Declared}
 use Rattle.sg_facts.specs.Tables.{AreTables}
 use Rattle.sg_facts.specs.declared.tables.WalkLine.{WalkLine}
-use Rattle.sg_plain.specs.sg_hist.declared.ended.Ended.{Ended}
-use Rattle.sg_plain.specs.sg_script.declared.script.Script.{Script}
+use Rattle.sg_sim.specs.sg_plain.sg_hist.declared.ended.Ended.{Ended}
+use Rattle.sg_sim.specs.sg_plain.sg_script.declared.script.Script.{Script}
 use Rattle.sg_shared.specs.Runs.{Answering}
 use Rattle.sg_sim.specs.Played.{IsPlayed}
 

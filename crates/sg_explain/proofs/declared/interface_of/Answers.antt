@@ -2,8 +2,8 @@
 use Rattle.std.proofs.Common.{◌∙◌, ap, map}
 use Rattle.sg_facts.specs.Facts.{fun_of_shape}
 use Rattle.sg_facts.specs.Fields.{number_of}
-use Rattle.sg_check_statements.specs.Says.{has_proto}
-use Rattle.sg_check.proofs.Listing.{whole}
+use Rattle.sg_input.specs.sg_check_statements.Says.{has_proto}
+use Rattle.sg_input.proofs.sg_check.Listing.{whole}
 use Rattle.sg_explain.proofs.declared.interface_of.Goals as goal
 
 pub returns : goal.returns

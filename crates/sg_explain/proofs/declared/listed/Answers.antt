@@ -1,6 +1,6 @@
 -- Pair by pair.
 use Rattle.std.proofs.Common.{sym, ◌∙◌}
-use Rattle.sg_check.proofs.Listing.{listed_one, passed_one}
+use Rattle.sg_input.proofs.sg_check.Listing.{listed_one, passed_one}
 use Rattle.sg_explain.proofs.declared.listed.Goals.{then-is_listed+in_ok-push, else-is_listed}
 use Rattle.sg_explain.proofs.declared.listed.Goals as goal
 

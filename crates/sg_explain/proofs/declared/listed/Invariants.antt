@@ -2,7 +2,7 @@
 use Rattle.std.proofs.Common.{◌≡◌, take}
 use Rattle.std.specs.Prelude.{filter}
 use Rattle.sg_facts.specs.Facts.{facts_of, fun_at}
-use Rattle.sg_check_statements.specs.Says.{says_of}
+use Rattle.sg_input.specs.sg_check_statements.Says.{says_of}
 use Rattle.sg_explain.proofs.declared.listed.Given as goal
 
 abbrev pub invariant-pairs : goal.invariant-pairs

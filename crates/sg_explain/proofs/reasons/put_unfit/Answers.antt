@@ -1,6 +1,6 @@
 -- The fault of the error is the first.
 use Rattle.std.proofs.Common.{map, subst}
-use Rattle.sg_check_statements.specs.Stages.{IsFirstFault}
+use Rattle.sg_input.specs.sg_check_statements.Stages.{IsFirstFault}
 use Rattle.sg_facts.specs.Facts.{facts_of}
 use Rattle.sg_explain.proofs.reasons.put_unfit.Goals as goal
 

@@ -1,5 +1,5 @@
 -- Triple by triple.
-use Rattle.sg_check.proofs.Seeking.{inside}
+use Rattle.sg_input.proofs.sg_check.Seeking.{inside}
 use Rattle.sg_explain.proofs.Searching.{all_looked_at, none_yet, one_more}
 use Rattle.sg_explain.proofs.stuck.first_stuck.Goals as goal
 

@@ -1,8 +1,8 @@
 -- The interface that the text declares has what the checker found stuck.
 use Rattle.std.proofs.Common.{◌≡◌, ◌≤◌, length, map, subst, sym, true}
-use Rattle.sg_check.proofs.Stages.{all_triples, few_fields, shape_funs, shape_of}
-use Rattle.sg_check.specs.Inside.Reached.{AreTriples}
-use Rattle.sg_check.specs.Shapes.{is_shape}
+use Rattle.sg_input.proofs.sg_check.Stages.{all_triples, few_fields, shape_funs, shape_of}
+use Rattle.sg_input.specs.sg_check.Inside.Reached.{AreTriples}
+use Rattle.sg_input.specs.sg_check.Shapes.{is_shape}
 use Rattle.sg_facts.specs.Facts.{facts_of}
 use Rattle.sg_explain.specs.Inside.Pieces.{stuck_line}
 use Rattle.sg_explain.specs.Stuck.{IsStuckLine}

@@ -1,7 +1,7 @@
 -- Statement by statement.
 use Rattle.std.proofs.Common.{subst}
-use Rattle.sg_check_statements.specs.Flaws.{HasNoWalk, IsProtoWhere}
-use Rattle.sg_check_statements.specs.sg_parse.declared.tree.Statement.{Statement}
+use Rattle.sg_input.specs.sg_check_statements.Flaws.{HasNoWalk, IsProtoWhere}
+use Rattle.sg_input.specs.sg_parse.declared.tree.Statement.{Statement}
 use Rattle.sg_explain.proofs.Protos.{found_one, is_found, none_at_all, none_more, not_all, not_found}
 use Rattle.sg_explain.proofs.stuck.stuck_at.Goals as goal
 

@@ -2,7 +2,7 @@
 use Rattle.std.proofs.Common.{◌∙◌, ap, subst₂, sym}
 use Rattle.std.specs.Result.{OnOk}
 use Rattle.sg_facts.specs.Tables.{Compiled}
-use Rattle.sg_plain.specs.sg_script.declared.script.Script.{Script}
+use Rattle.sg_sim.specs.sg_plain.sg_script.declared.script.Script.{Script}
 use Rattle.sg_shared.proofs.Reaching.{reached_setup}
 use Rattle.sg_sim.specs.Playing.{ComesTo, new_of}
 use Rattle.sg_sim.specs.sg_world.Worlded.{setting_of}

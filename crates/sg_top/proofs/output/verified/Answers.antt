@@ -6,7 +6,7 @@ use Rattle.sg_facts.specs.sg_base.Lists.{Each}
 use Rattle.sg_input.specs.Inputs.{IsRunReady}
 use Rattle.sg_verify.specs.Lines.{verdict_line_of}
 use Rattle.sg_verify.specs.Verdicts.{IsVerdictOf}
-use Rattle.sg_report.specs.sg_hist.Clients.{MayBeMade}
+use Rattle.sg_verify.specs.sg_report.sg_hist.Clients.{MayBeMade}
 use Rattle.sg_top.specs.Answer.{services}
 use Rattle.sg_top.specs.Headline.{answering}
 use Rattle.sg_top.specs.Inside.Plays.{IsPlayed}

@@ -1,7 +1,7 @@
 -- One turn more was made.
 use Rattle.std.proofs.Common.{◌∙◌, subst₂}
 use Rattle.sg_facts.specs.Tables.{Compiled}
-use Rattle.sg_plain.specs.sg_script.declared.script.Script.{Script}
+use Rattle.sg_sim.specs.sg_plain.sg_script.declared.script.Script.{Script}
 use Rattle.sg_shared.proofs.Reaching.{reached_more}
 use Rattle.sg_sim.specs.Playing.{IsTurnOf}
 use Rattle.sg_sim.specs.sg_world.Worlded.{setting_of}
