@@ -11,12 +11,12 @@ use Rattle.std.specs.declared.result.Result.TheVariants.{Ok, Err}
 use Rattle.sg_top.specs.declared.command.Command.{Command}
 use Rattle.sg_top.specs.declared.output.Output.{Output}
 use Rattle.sg_top.specs.declared.command.Shows.{Shows}
-use Rattle.sg_top.specs.declared.command.Command.TheVariants.{Play, Check, Compile, Upgrade, Explain, Verify, Load}
+use Rattle.sg_top.specs.declared.command.Command.TheVariants.{Play, Check, Compile, Upgrade, Explain, Explore, Verify, Load}
 use Rattle.sg_top.specs.declared.status.Status.{Status}
 use Rattle.sg_top.specs.declared.status.Status.TheVariants.{Done, Waits, OtherWords, Refused, ReadFault, WriteFault, NoMemory, Illegal}
 use Rattle.sg_load.specs.sg_plain.Inside.Kept.{somebody_waits}
 use Rattle.sg_top.specs.Answer.{Ends, HasRead, IsAnswer, IsOutput, IsOwnOutput, IsRefusal, ReadsInput, ended_status, has_input, is_play, most_bytes, too_long_output, IsPlayOutput}
-use Rattle.sg_top.specs.Inside.Pieces.{IsIllegal, SaysIllegal, SaysRefused, verdict_status}
+use Rattle.sg_top.specs.Inside.Pieces.{IsExploration, IsIllegal, SaysIllegal, SaysRefused, verdict_status}
 use Rattle.sg_verify.specs.declared.verdict.Verdict.{Verdict as Judgement}
 use Rattle.sg_verify.specs.declared.verdict.Verdict.TheVariants.{Legal, BadSeq, BadReply}
 use Rattle.sg_top.specs.Inside.Delivery.{IsDelivered, IsWritten}
@@ -68,20 +68,21 @@ said_good Legal is = cc is
 said_good (BadSeq at next) is = cc is
 said_good (BadReply at answered) is = cc is
 
+-- the status of runs, by whether some client waits at the end of one
+waits_so : (waits : Bool) → (cond waits Waits Done ≡ Done) ⊎ (cond waits Waits Done ≡ Waits)
+waits_so true = inr refl
+waits_so false = inl refl
+
+waits_good : (waits : Bool) → cond waits Waits Done ≡ Refused → ⊥
+waits_good true is = cc is
+waits_good false is = cc is
+
 -- the status of a play that came to its end
 ends_so : (ends : List (ℕ × End)) → (ended_status ends ≡ Done) ⊎ (ended_status ends ≡ Waits)
-ends_so ends = by (somebody_waits ends)
-  where
-    by : (b : Bool) → (cond b Waits Done ≡ Done) ⊎ (cond b Waits Done ≡ Waits)
-    by true = inr refl
-    by false = inl refl
+ends_so ends = waits_so (somebody_waits ends)
 
 ends_good : (ends : List (ℕ × End)) → ended_status ends ≡ Refused → ⊥
-ends_good ends is = by (somebody_waits ends) is
-  where
-    by : (b : Bool) → cond b Waits Done ≡ Refused → ⊥
-    by true is = cc is
-    by false is = cc is
+ends_good ends is = waits_good (somebody_waits ends) is
 
 -- an output of an input that is refused has its refusal, and no run came to its end
 refusal : (command : Command) (bytes : List ℕ) (ended : Option Ended) (status : Status) (output : List ℕ) → status ≡ Refused → length bytes ≤ most_bytes command
@@ -92,11 +93,13 @@ refusal Check bytes ended status output two short (none, inl accepted) = absurd 
 refusal Compile bytes ended status output two short (none, inl accepted) = absurd (cc (two, accepted.0))
 refusal Upgrade bytes ended status output two short (none, inl accepted) = absurd (cc (two, accepted.0))
 refusal Explain bytes ended status output two short (none, inl accepted) = absurd (cc (two, accepted.0))
+refusal (Explore most) bytes ended status output two short (none, inl explored) = absurd (waits_good explored.found.waits (sym explored.answered ∙ two))
 refusal Verify bytes ended status output two short (none, inl judged) = absurd (said_good judged.said (sym judged.answered ∙ two))
 refusal Check bytes ended status output two short (none, inr refused) = (none, inl (short, refused.1))
 refusal Compile bytes ended status output two short (none, inr refused) = (none, inl (short, refused.1))
 refusal Upgrade bytes ended status output two short (none, inr refused) = (none, inl (short, refused.1))
 refusal Explain bytes ended status output two short (none, inr refused) = (none, inl (short, refused.1))
+refusal (Explore most) bytes ended status output two short (none, inr refused) = (none, inl (short, refused.1))
 refusal Verify bytes ended status output two short (none, inr refused) = (none, inl (short, refused.1))
 refusal (Load service number) bytes ended status output two short is = absurd is
 
@@ -109,6 +112,7 @@ own_good Check ended status output own two = own
 own_good Compile ended status output own two = own
 own_good Upgrade ended status output own two = own
 own_good Explain ended status output own two = own
+own_good (Explore most) ended status output own two = own
 own_good Verify ended status output own two = own
 
 -- its status, its run, and that it is a play's
@@ -125,6 +129,7 @@ own_is Check ended status output own = absurd own
 own_is Compile ended status output own = absurd own
 own_is Upgrade ended status output own = absurd own
 own_is Explain ended status output own = absurd own
+own_is (Explore most) ended status output own = absurd own
 own_is Verify ended status output own = absurd own
 
 refused_by : (command : Command) (source source' : Ends) (ended : Option Ended) (status : Status) (output : List ℕ) → status ≡ Refused
@@ -161,6 +166,11 @@ output_status Check bytes ended status output (none, inl accepted) = inl accepte
 output_status Compile bytes ended status output (none, inl accepted) = inl accepted.0
 output_status Upgrade bytes ended status output (none, inl accepted) = inl accepted.0
 output_status Explain bytes ended status output (none, inl accepted) = inl accepted.0
+output_status (Explore most) bytes ended status output (none, inl explored) = by (waits_so explored.found.waits)
+  where
+    by : (cond explored.found.waits Waits Done ≡ Done) ⊎ (cond explored.found.waits Waits Done ≡ Waits) → IsMade status
+    by (inl done) = inl (explored.answered ∙ done)
+    by (inr waits) = inr (inl (explored.answered ∙ waits))
 output_status Verify bytes ended status output (none, inl judged) = by (said_so judged.said)
   where
     by : (verdict_status judged.said ≡ Done) ⊎ (verdict_status judged.said ≡ Illegal) → IsMade status
@@ -170,6 +180,7 @@ output_status Check bytes ended status output (none, inr refused) = inr (inr (in
 output_status Compile bytes ended status output (none, inr refused) = inr (inr (inr refused.0))
 output_status Upgrade bytes ended status output (none, inr refused) = inr (inr (inr refused.0))
 output_status Explain bytes ended status output (none, inr refused) = inr (inr (inr refused.0))
+output_status (Explore most) bytes ended status output (none, inr refused) = inr (inr (inr refused.0))
 output_status Verify bytes ended status output (none, inr refused) = inr (inr (inr refused.0))
 output_status (Load service number) bytes ended status output is = absurd is
 
@@ -196,6 +207,7 @@ output_run Check bytes ended status output good play is = absurd (cc play)
 output_run Compile bytes ended status output good play is = absurd (cc play)
 output_run Upgrade bytes ended status output good play is = absurd (cc play)
 output_run Explain bytes ended status output good play is = absurd (cc play)
+output_run (Explore most) bytes ended status output good play is = absurd (cc play)
 output_run Verify bytes ended status output good play is = absurd (cc play)
 output_run (Load service number) bytes ended status output good play is = absurd is
 
@@ -221,6 +233,7 @@ output_play Check bytes ended status output is some = absurd (no_run ended is.0 
 output_play Compile bytes ended status output is some = absurd (no_run ended is.0 some)
 output_play Upgrade bytes ended status output is some = absurd (no_run ended is.0 some)
 output_play Explain bytes ended status output is some = absurd (no_run ended is.0 some)
+output_play (Explore most) bytes ended status output is some = absurd (no_run ended is.0 some)
 output_play Verify bytes ended status output is some = absurd (no_run ended is.0 some)
 output_play (Load service number) bytes ended status output is some = absurd is
 
@@ -313,6 +326,7 @@ no_output Check bytes ended status output without is = cc without
 no_output Compile bytes ended status output without is = cc without
 no_output Upgrade bytes ended status output without is = cc without
 no_output Explain bytes ended status output without is = cc without
+no_output (Explore most) bytes ended status output without is = cc without
 no_output Verify bytes ended status output without is = cc without
 no_output (Load service number) bytes ended status output without is = is
 
@@ -536,3 +550,11 @@ pub delivered : {E : Type 0} (IsOne : Option Ended → Status → List ℕ → T
     → OnErr made ((status ≡ NoMemory) × (ended ≡ None) × (sink'.told ≡ sink.told) × (sink'.faults ≡ sink.faults)) → IsDelivered IsOne sink sink' status ended
 delivered IsOne sink sink' status ended (Ok o) one written unmade = inl (o.text, o.status, subst (λ e. IsOne e o.status o.text) (sym written.0) one, written.1)
 delivered IsOne sink sink' status ended (Err e) one written unmade = inr (unmade.0, unmade.1, same_ends sink' sink unmade.2 unmade.3)
+
+-- what runs with other stops found was delivered; or nothing was made, and nothing is written
+pub found_output : {E : Type 0} (bytes : List ℕ) (most : ℕ) (sink sink' : Ends) (status : Status) (ended : Option Ended) (made : Result Output E)
+    → IfOk made (λ o. o.ended ≡ None) → IfOk made (λ o. IsExploration bytes most o.status o.text) → IfOk made (λ o. (ended ≡ o.ended) × IsWritten sink sink' o.text o.status status)
+    → OnErr made ((status ≡ NoMemory) × (ended ≡ None) × (sink'.told ≡ sink.told) × (sink'.faults ≡ sink.faults))
+    → IsDelivered (IsOutput (Explore most) bytes) sink sink' status ended
+found_output bytes most sink sink' status ended (Ok o) none found written unmade = inl (o.text, o.status, (written.0 ∙ none, found), written.1)
+found_output bytes most sink sink' status ended (Err e) none found written unmade = inr (unmade.0, unmade.1, same_ends sink' sink unmade.2 unmade.3)

@@ -1,19 +1,21 @@
 -- The words say at most one command.
-use Rattle.std.proofs.Common.{◌≡◌, ◌<◌, ◌≤◌, ℕ, true, false, List, [], ◌∷◌, None, Some, get_or, length, map, slice_index_or, refl, sym, ◌∙◌, ap, subst, arith}
+use Rattle.std.proofs.Common.{◌≡◌, ◌<◌, ◌≤◌, ℕ, true, false, List, [], ◌∷◌, None, Some, get_or, inl, inr, length, map, slice_index_or, refl, sym, ◌∙◌, ap, subst, arith}
 use Rattle.std.proofs.lemmas.List.{length-map}
 use Rattle.std.specs.Prelude.{◌==◌, if◌then◌else◌, MatchOption, codes, string_bytes}
 use Rattle.std.specs.Str.{bytes_eq}
 use Rattle.std.specs.declared.option.Option.{Option}
 use Rattle.std.specs.declared.string.String.{String}
 use Rattle.std.specs.declared.alloc.Global.{Global}
+use Rattle.sg_explore.specs.Tried.{most_paired}
 use Rattle.sg_load.specs.Services.{facts_by}
 use Rattle.sg_load.specs.declared.kind.ServiceKind.{ServiceKind}
+use Rattle.sg_input.specs.sg_lex.Table.{IsNumber}
 use Rattle.sg_input.specs.sg_script.Numbers.{value_of_digits}
 use Rattle.sg_top.specs.declared.command.Command.{Command}
-use Rattle.sg_top.specs.declared.command.Command.TheVariants.{Play, Check, Compile, Upgrade, Explain, Verify, Load}
-use Rattle.sg_top.specs.declared.command.Shows.TheVariants.{Run, Trace, Costs}
+use Rattle.sg_top.specs.declared.command.Command.TheVariants.{Play, Check, Compile, Upgrade, Explain, Explore, Verify, Load}
+use Rattle.sg_top.specs.declared.command.Shows.TheVariants.{Run, Trace, Costs, Picture, Columns}
 use Rattle.sg_top.specs.Answer.{IsCommand, IsSerialCommand}
-use Rattle.sg_top.specs.Inside.Words.{AreDigitsOf, IsLoadOf, IsPairOf, IsWordOf}
+use Rattle.sg_top.specs.Inside.Words.{AreBoundOf, AreDigitsOf, IsLoadOf, IsPairOf, IsWordOf}
 use Rattle.sg_top.proofs.EachKind.{called, kind_called}
 
 -- ---- texts
@@ -23,10 +25,14 @@ abbrev texts_of : Command → List ℕ → List (List ℕ)
 texts_of (Play threads Run) digits = (if threads then codes "run" else codes "sim") ∷ []
 texts_of (Play threads Trace) digits = (if threads then codes "run" else codes "sim") ∷ codes "trace" ∷ []
 texts_of (Play threads Costs) digits = codes "cost" ∷ []
+texts_of (Play threads Picture) digits = codes "draw" ∷ []
+texts_of (Play threads Columns) digits = codes "draw" ∷ codes "text" ∷ []
 texts_of Check digits = codes "check" ∷ []
 texts_of Compile digits = codes "compile" ∷ []
 texts_of Upgrade digits = codes "upgrade" ∷ []
 texts_of Explain digits = codes "explain" ∷ []
+texts_of (Explore most) [] = codes "explore" ∷ []
+texts_of (Explore most) (d ∷ digits) = codes "explore" ∷ (d ∷ digits) ∷ []
 texts_of Verify digits = codes "verify" ∷ []
 texts_of (Load service number) digits = codes "load" ∷ (facts_by service).name ∷ digits ∷ []
 
@@ -34,7 +40,16 @@ texts_of (Load service number) digits = codes "load" ∷ (facts_by service).name
 abbrev Digits : Command → List ℕ → Type 0
 Digits (Load service number) digits = AreDigitsOf number digits
 Digits (Play true Costs) digits = ⊥
+Digits (Play true Picture) digits = ⊥
+Digits (Play true Columns) digits = ⊥
+Digits (Explore most) digits = value_of_digits digits ≡ most
 Digits _ digits = Unit {0}
+
+-- a word with digits, at least one, says an exploration
+says_bound : (texts : List (List ℕ)) (most : ℕ) (digits : List ℕ) → IsNumber digits → value_of_digits digits ≡ most → texts ≡ codes "explore" ∷ digits ∷ []
+    → (shown : List ℕ) × Digits (Explore most) shown × (texts ≡ texts_of (Explore most) shown)
+says_bound texts most [] number value is = absurd number
+says_bound texts most (d ∷ digits) number value is = (d ∷ digits, value, is)
 
 says : (words : List (String Global)) (c : Command) → IsCommand words c → (digits : List ℕ) × Digits c digits × (map string_bytes words ≡ texts_of c digits)
 says words (Play false Run) is = ([], tt, is)
@@ -43,10 +58,16 @@ says words (Play false Trace) is = ([], tt, is)
 says words (Play true Trace) is = ([], tt, is)
 says words (Play false Costs) is = ([], tt, is)
 says words (Play true Costs) is = absurd is
+says words (Play false Picture) is = ([], tt, is)
+says words (Play true Picture) is = absurd is
+says words (Play false Columns) is = ([], tt, is)
+says words (Play true Columns) is = absurd is
 says words Check is = ([], tt, is)
 says words Compile is = ([], tt, is)
 says words Upgrade is = ([], tt, is)
 says words Explain is = ([], tt, is)
+says words (Explore most) (inl (none, is)) = ([], sym none, is)
+says words (Explore most) (inr (digits, (number, value, few), is)) = says_bound (map string_bytes words) most digits number value is
 says words Verify is = ([], tt, is)
 says words (Load service number) is = (is.0, is.1, is.2)
 
@@ -63,6 +84,8 @@ command_in texts =
     else if bytes_eq (text_at 0 texts) (codes "explain") then Explain
     else if bytes_eq (text_at 0 texts) (codes "verify") then Verify
     else if bytes_eq (text_at 0 texts) (codes "cost") then Play false Costs
+    else if bytes_eq (text_at 0 texts) (codes "draw") then Play false (if length texts == 2 then Columns else Picture)
+    else if bytes_eq (text_at 0 texts) (codes "explore") then Explore (value_of_digits (text_at 1 texts))
     else Play (bytes_eq (text_at 0 texts) (codes "run")) (if length texts == 2 then Trace else Run)
 
 it_is : (c : Command) (digits : List ℕ) → Digits c digits → command_in (texts_of c digits) ≡ c
@@ -72,10 +95,16 @@ it_is (Play false Costs) digits fit = refl
 it_is (Play true Run) digits fit = refl
 it_is (Play true Trace) digits fit = refl
 it_is (Play true Costs) digits fit = absurd fit
+it_is (Play false Picture) digits fit = refl
+it_is (Play true Picture) digits fit = absurd fit
+it_is (Play false Columns) digits fit = refl
+it_is (Play true Columns) digits fit = absurd fit
 it_is Check digits fit = refl
 it_is Compile digits fit = refl
 it_is Upgrade digits fit = refl
 it_is Explain digits fit = refl
+it_is (Explore most) [] fit = ap Explore fit
+it_is (Explore most) (d ∷ digits) fit = ap Explore fit
 it_is Verify digits fit = refl
 it_is (Load service number) digits fit = ap (λ k. Load k (value_of_digits digits)) (called service) ∙ ap (Load service) fit.1
 
@@ -89,6 +118,11 @@ one_command words a b x y =
 pub one_serial : (words : List (String Global)) (a b : Command) → IsSerialCommand words a → IsSerialCommand words b → a ≡ b
 one_serial words a b x y = one_command words a b x.0 y.0
 
+-- the points that an exploration pairs are no more than may be
+pub few_paired : (words : List (String Global)) (most : ℕ) → IsCommand words (Explore most) → most ≤ most_paired
+few_paired words most (inl (none, is)) = omega (arith, none)
+few_paired words most (inr (digits, bound, is)) = bound.2
+
 -- ---- how many words
 
 -- a command has from one to three
@@ -99,10 +133,14 @@ count_is words c is = let u = says words c is in by c u.0 (sym (length-map words
     by (Play threads Run) digits l = (omega (arith, l), omega (arith, l))
     by (Play threads Trace) digits l = (omega (arith, l), omega (arith, l))
     by (Play threads Costs) digits l = (omega (arith, l), omega (arith, l))
+    by (Play threads Picture) digits l = (omega (arith, l), omega (arith, l))
+    by (Play threads Columns) digits l = (omega (arith, l), omega (arith, l))
     by Check digits l = (omega (arith, l), omega (arith, l))
     by Compile digits l = (omega (arith, l), omega (arith, l))
     by Upgrade digits l = (omega (arith, l), omega (arith, l))
     by Explain digits l = (omega (arith, l), omega (arith, l))
+    by (Explore most) [] l = (omega (arith, l), omega (arith, l))
+    by (Explore most) (d ∷ digits) l = (omega (arith, l), omega (arith, l))
     by Verify digits l = (omega (arith, l), omega (arith, l))
     by (Load s n) digits l = (omega (arith, l), omega (arith, l))
 
@@ -115,10 +153,16 @@ word_of word (Play false Trace) is = absurd (omega (arith, ap length is))
 word_of word (Play true Trace) is = absurd (omega (arith, ap length is))
 word_of word (Play false Costs) is = ap (text_at 0) is
 word_of word (Play true Costs) is = absurd is
+word_of word (Play false Picture) is = ap (text_at 0) is
+word_of word (Play true Picture) is = absurd is
+word_of word (Play false Columns) is = absurd (omega (arith, ap length is))
+word_of word (Play true Columns) is = absurd is
 word_of word Check is = ap (text_at 0) is
 word_of word Compile is = ap (text_at 0) is
 word_of word Upgrade is = ap (text_at 0) is
 word_of word Explain is = ap (text_at 0) is
+word_of word (Explore most) (inl (none, is)) = (none, ap (text_at 0) is)
+word_of word (Explore most) (inr (digits, bound, is)) = absurd (omega (arith, ap length is))
 word_of word Verify is = ap (text_at 0) is
 word_of word (Load s n) is = absurd (omega (arith, ap length is.2))
 
@@ -129,10 +173,15 @@ of_word word (Play false Trace) is = absurd is
 of_word word (Play true Trace) is = absurd is
 of_word word (Play false Costs) is = ap (λ t. t ∷ []) is
 of_word word (Play true Costs) is = absurd is
+of_word word (Play false Picture) is = ap (λ t. t ∷ []) is
+of_word word (Play true Picture) is = absurd is
+of_word word (Play false Columns) is = absurd is
+of_word word (Play true Columns) is = absurd is
 of_word word Check is = ap (λ t. t ∷ []) is
 of_word word Compile is = ap (λ t. t ∷ []) is
 of_word word Upgrade is = ap (λ t. t ∷ []) is
 of_word word Explain is = ap (λ t. t ∷ []) is
+of_word word (Explore most) (none, is) = inl (none, ap (λ t. t ∷ []) is)
 of_word word Verify is = ap (λ t. t ∷ []) is
 of_word word (Load s n) is = absurd is
 
@@ -165,10 +214,16 @@ pair_of word more (Play false Trace) is = (ap (text_at 0) is, ap (text_at 1) is)
 pair_of word more (Play true Trace) is = (ap (text_at 0) is, ap (text_at 1) is)
 pair_of word more (Play false Costs) is = absurd (omega (arith, ap length is))
 pair_of word more (Play true Costs) is = absurd is
+pair_of word more (Play false Picture) is = absurd (omega (arith, ap length is))
+pair_of word more (Play true Picture) is = absurd is
+pair_of word more (Play false Columns) is = (ap (text_at 0) is, ap (text_at 1) is)
+pair_of word more (Play true Columns) is = absurd is
 pair_of word more Check is = absurd (omega (arith, ap length is))
 pair_of word more Compile is = absurd (omega (arith, ap length is))
 pair_of word more Upgrade is = absurd (omega (arith, ap length is))
 pair_of word more Explain is = absurd (omega (arith, ap length is))
+pair_of word more (Explore most) (inl (none, is)) = absurd (omega (arith, ap length is))
+pair_of word more (Explore most) (inr (digits, bound, is)) = (ap (text_at 0) is, subst (AreBoundOf most) (sym (ap (text_at 1) is)) bound)
 pair_of word more Verify is = absurd (omega (arith, ap length is))
 pair_of word more (Load s n) is = absurd (omega (arith, ap length is.2))
 
@@ -179,10 +234,15 @@ of_pair word more (Play false Trace) is = cc (is.0, is.1)
 of_pair word more (Play true Trace) is = cc (is.0, is.1)
 of_pair word more (Play false Costs) is = absurd is
 of_pair word more (Play true Costs) is = absurd is
+of_pair word more (Play false Picture) is = absurd is
+of_pair word more (Play true Picture) is = absurd is
+of_pair word more (Play false Columns) is = cc (is.0, is.1)
+of_pair word more (Play true Columns) is = absurd is
 of_pair word more Check is = absurd is
 of_pair word more Compile is = absurd is
 of_pair word more Upgrade is = absurd is
 of_pair word more Explain is = absurd is
+of_pair word more (Explore most) is = inr (string_bytes more, is.1, ap (λ t. t ∷ string_bytes more ∷ []) is.0)
 of_pair word more Verify is = absurd is
 of_pair word more (Load s n) is = absurd is
 
@@ -215,6 +275,7 @@ no_service word name digits none Check is = is
 no_service word name digits none Compile is = is
 no_service word name digits none Upgrade is = is
 no_service word name digits none Explain is = is
+no_service word name digits none (Explore most) is = is
 no_service word name digits none Verify is = is
 no_service word name digits none (Load s n) is = none s is.1
 
@@ -223,10 +284,16 @@ load_of word name digits (Play threads Run) is = absurd (omega (arith, ap length
 load_of word name digits (Play threads Trace) is = absurd (omega (arith, ap length is))
 load_of word name digits (Play false Costs) is = absurd (omega (arith, ap length is))
 load_of word name digits (Play true Costs) is = absurd is
+load_of word name digits (Play false Picture) is = absurd (omega (arith, ap length is))
+load_of word name digits (Play true Picture) is = absurd is
+load_of word name digits (Play false Columns) is = absurd (omega (arith, ap length is))
+load_of word name digits (Play true Columns) is = absurd is
 load_of word name digits Check is = absurd (omega (arith, ap length is))
 load_of word name digits Compile is = absurd (omega (arith, ap length is))
 load_of word name digits Upgrade is = absurd (omega (arith, ap length is))
 load_of word name digits Explain is = absurd (omega (arith, ap length is))
+load_of word name digits (Explore most) (inl (none, is)) = absurd (omega (arith, ap length is))
+load_of word name digits (Explore most) (inr (shown, bound, is)) = absurd (omega (arith, ap length is))
 load_of word name digits Verify is = absurd (omega (arith, ap length is))
 load_of word name digits (Load s n) is = (ap (text_at 0) is.2, ap (text_at 1) is.2, subst (AreDigitsOf n) (sym (ap (text_at 2) is.2)) is.1)
 
@@ -236,6 +303,7 @@ of_load word name digits Check is = absurd is
 of_load word name digits Compile is = absurd is
 of_load word name digits Upgrade is = absurd is
 of_load word name digits Explain is = absurd is
+of_load word name digits (Explore most) is = absurd is
 of_load word name digits Verify is = absurd is
 of_load word name digits (Load s n) is = (string_bytes digits, is.2, cc (is.0, is.1))
 

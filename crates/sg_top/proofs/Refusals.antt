@@ -14,7 +14,7 @@ use Rattle.sg_input.proofs.OneRun.{never_ready as never_printed}
 use Rattle.sg_top.specs.Headline.{IsRunOfInput, played_services}
 use Rattle.sg_top.specs.declared.command.Command.{Command}
 use Rattle.sg_top.specs.declared.command.Shows.{Shows}
-use Rattle.sg_top.specs.declared.command.Command.TheVariants.{Play, Check, Compile, Upgrade, Explain, Verify, Load}
+use Rattle.sg_top.specs.declared.command.Command.TheVariants.{Play, Check, Compile, Upgrade, Explain, Explore, Verify, Load}
 use Rattle.sg_top.specs.declared.status.Status.{Status}
 use Rattle.sg_top.specs.declared.status.Status.TheVariants.{Refused}
 use Rattle.sg_top.specs.Answer.{IsOutput, IsRefusal, has_input, most_bytes, services, IsPlayOutput}
@@ -49,11 +49,13 @@ good_alone Check bytes ended status output line good (none, inl accepts) bad = n
 good_alone Compile bytes ended status output line good (none, inl accepts) bad = not_untabled bytes line output accepts.1 bad
 good_alone Upgrade bytes ended status output line good (none, inl accepts) bad = not_unupgraded bytes line output accepts.1 bad
 good_alone Explain bytes ended status output line good (none, inl explained) bad = explained_alone services bytes output line explained.1 bad
+good_alone (Explore most) bytes ended status output line good (none, inl explored) bad = never_ready services bytes line explored.i explored.script bad explored.ready
 good_alone Verify bytes ended status output line good (none, inl judged) bad = never_printed services bytes line judged.i judged.history bad judged.ready
 good_alone Check bytes ended status output line good (none, inr other) bad = good other.0
 good_alone Compile bytes ended status output line good (none, inr other) bad = good other.0
 good_alone Upgrade bytes ended status output line good (none, inr other) bad = good other.0
 good_alone Explain bytes ended status output line good (none, inr other) bad = good other.0
+good_alone (Explore most) bytes ended status output line good (none, inr other) bad = good other.0
 good_alone Verify bytes ended status output line good (none, inr other) bad = good other.0
 good_alone (Load service number) bytes ended status output line good is bad = bad
 
@@ -70,6 +72,7 @@ refuses_nothing Check bytes line without is = cc without
 refuses_nothing Compile bytes line without is = cc without
 refuses_nothing Upgrade bytes line without is = cc without
 refuses_nothing Explain bytes line without is = cc without
+refuses_nothing (Explore most) bytes line without is = cc without
 refuses_nothing Verify bytes line without is = cc without
 refuses_nothing (Load service number) bytes line without (inl is) = is.1
 refuses_nothing (Load service number) bytes line without (inr is) = cc is.0

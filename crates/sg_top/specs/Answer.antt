@@ -9,13 +9,16 @@ use Rattle.sg_facts.specs.Facts.{Facts}
 use Rattle.sg_edge.specs.Edge.{Rose, ConsumesAtMost}
 use Rattle.sg_explain.specs.Explained.{IsExplained}
 use Rattle.sg_explain.specs.Words.{too_long_words}
+use Rattle.sg_explore.specs.Explored.{IsExplored}
+use Rattle.sg_explore.specs.Tried.{most_paired}
+use Rattle.sg_explore.specs.declared.exploring.Explored.{Explored}
 use Rattle.sg_verify.specs.sg_report.sg_hist.declared.ended.End.{End}
 use Rattle.sg_verify.specs.sg_report.sg_hist.declared.ended.Ended.{Ended}
 use Rattle.sg_input.specs.declared.outcome.Verdict.{Verdict}
 use Rattle.sg_input.specs.declared.outcome.Verdict.TheVariants.{Accepted as accepted, Refused as refused}
 use Rattle.sg_input.specs.Verdicts.{IsCompiled, IsUpgraded, IsVerdict}
 use Rattle.sg_input.specs.declared.input.Input.TheVariants.{Refused as refused_input}
-use Rattle.sg_input.specs.Inputs.{IsInputOf, IsRunInputOf, IsRunReady, most_interface, most_run, most_script}
+use Rattle.sg_input.specs.Inputs.{IsInputOf, IsReady, IsRunInputOf, IsRunReady, most_interface, most_run, most_script}
 use Rattle.sg_input.specs.declared.run_input.RunInput.TheVariants.{Refused as refused_run}
 use Rattle.sg_input.specs.Lines.{too_long_line}
 use Rattle.sg_input.specs.sg_lex.Table.{IsNumber}
@@ -23,6 +26,7 @@ use Rattle.sg_load.specs.Services.{facts_by}
 use Rattle.sg_verify.specs.sg_report.sg_hist.Recovered.{is_blocked}
 use Rattle.sg_facts.specs.sg_base.Counts.{last_count}
 use Rattle.sg_input.specs.sg_script.Numbers.{value_of_digits}
+use Rattle.sg_input.specs.sg_script.declared.script.Script.{Script}
 use Rattle.sg_facts.specs.Interface.{Declared}
 use Rattle.sg_facts.specs.declared.entry.Entry.{Entry}
 use Rattle.sg_load.specs.declared.kind.ServiceKind.{ServiceKind}
@@ -32,9 +36,9 @@ use Rattle.sg_verify.specs.declared.verdict.Verdict.{Verdict as Judgement}
 use Rattle.sg_verify.specs.declared.verdict.Verdict.TheVariants.{Legal}
 use Rattle.sg_top.specs.Headline.{IsRunOfLoad, IsRunOfInput, answering, played_services}
 use Rattle.sg_top.specs.declared.command.Command.{Command}
-use Rattle.sg_top.specs.declared.command.Command.TheVariants.{Play, Check, Compile, Upgrade, Explain, Verify, Load}
+use Rattle.sg_top.specs.declared.command.Command.TheVariants.{Play, Check, Compile, Upgrade, Explain, Explore, Verify, Load}
 use Rattle.sg_top.specs.declared.command.Shows.{Shows}
-use Rattle.sg_top.specs.declared.command.Shows.TheVariants.{Run, Trace, Costs}
+use Rattle.sg_top.specs.declared.command.Shows.TheVariants.{Run, Trace, Costs, Picture, Columns}
 use Rattle.sg_top.specs.declared.status.Status.{Status}
 use Rattle.sg_top.specs.declared.status.Status.TheVariants.{Done, Waits, OtherWords, Refused, ReadFault, WriteFault, NoMemory, Illegal}
 
@@ -46,10 +50,17 @@ IsCommand words (Play threads Run) = map string_bytes words ≡ (if threads then
 IsCommand words (Play threads Trace) = map string_bytes words ≡ (if threads then codes "run" else codes "sim") ∷ codes "trace" ∷ []
 IsCommand words (Play false Costs) = map string_bytes words ≡ codes "cost" ∷ []
 IsCommand words (Play true Costs) = ⊥
+IsCommand words (Play false Picture) = map string_bytes words ≡ codes "draw" ∷ []
+IsCommand words (Play true Picture) = ⊥
+IsCommand words (Play false Columns) = map string_bytes words ≡ codes "draw" ∷ codes "text" ∷ []
+IsCommand words (Play true Columns) = ⊥
 IsCommand words Check = map string_bytes words ≡ codes "check" ∷ []
 IsCommand words Compile = map string_bytes words ≡ codes "compile" ∷ []
 IsCommand words Upgrade = map string_bytes words ≡ codes "upgrade" ∷ []
 IsCommand words Explain = map string_bytes words ≡ codes "explain" ∷ []
+IsCommand words (Explore most) =
+    ((most ≡ 0) × (map string_bytes words ≡ codes "explore" ∷ []))
+    ⊎ ((digits : List ℕ) × (IsNumber digits × (value_of_digits digits ≡ most) × (most ≤ most_paired)) × (map string_bytes words ≡ codes "explore" ∷ digits ∷ []))
 IsCommand words Verify = map string_bytes words ≡ codes "verify" ∷ []
 IsCommand words (Load service number) = (digits : List ℕ) × (IsNumber digits × (value_of_digits digits ≡ number) × (number ≤ last_count))
     × (map string_bytes words ≡ codes "load" ∷ (facts_by service).name ∷ digits ∷ [])
@@ -58,9 +69,9 @@ IsCommand words (Load service number) = (digits : List ℕ) × (IsNumber digits 
 abbrev pub is_play : Command → Bool
 is_play command = elim command [ Play threads shows ↦ true | Load service number ↦ true | _ ↦ false ]
 
--- whether a command is a play whose clients have threads of their own
+-- whether a command takes threads: a play whose clients have threads of their own, or runs that are made on all processors
 abbrev pub is_in_threads : Command → Bool
-is_in_threads command = elim command [ Play threads shows ↦ threads | _ ↦ false ]
+is_in_threads command = elim command [ Play threads shows ↦ threads | Explore most ↦ true | _ ↦ false ]
 
 -- the words say a command that one thread does
 abbrev pub IsSerialCommand : List (String Global) → Command → Type 0
@@ -77,6 +88,7 @@ abbrev pub most_bytes : Command → ℕ
 most_bytes command = elim command [
   | Play threads shows ↦ most_interface + 4 + most_script
   | Explain ↦ most_interface + 4 + most_script
+  | Explore most ↦ most_interface + 4 + most_script
   | Verify ↦ most_interface + 4 + most_run
   | Load service number ↦ 0
   | _ ↦ most_interface
@@ -109,6 +121,19 @@ pub record IsJudgedAs (bytes : List ℕ) (status : Status) (output : List ℕ) :
   pub answered : status ≡ (elim said as (λ v. Status) [ Legal ↦ Done | _ ↦ Illegal ])
   pub line : output ≡ verdict_line_of i.facts history said
 
+-- an input is an interface of one of the services and a script for it, and this was found by runs of the script with other stops: its text,
+-- and the status, which says whether some client waits at the end of some run
+pub record IsExploredAs (bytes : List ℕ) (most : ℕ) (status : Status) (output : List ℕ) : Type 0 where
+  pub i : Declared
+  pub script : Script
+  pub ready : IsReady services bytes i script
+  pub kind : ServiceKind
+  pub its : (answering kind).facts ≡ i.facts
+  pub found : Explored
+  pub runs : IsExplored i (answering kind) script most found
+  pub answered : status ≡ (if found.waits then Waits else Done)
+  pub text : output ≡ found.text
+
 -- the output of a play, and its status: what is printed of the run, or the line of an input that is refused
 abbrev pub IsPlayOutput : List ℕ → Bool → Shows → Option Ended → Status → List ℕ → Type 0
 IsPlayOutput bytes in_threads shows None status output = (status ≡ Refused) × IsInputOf services bytes (refused_input output)
@@ -127,6 +152,8 @@ IsOutput Check bytes ended status output = (ended ≡ None) × IsOfText (IsVerdi
 IsOutput Compile bytes ended status output = (ended ≡ None) × IsOfText (IsCompiled services bytes) status output
 IsOutput Upgrade bytes ended status output = (ended ≡ None) × IsOfText (IsUpgraded services bytes) status output
 IsOutput Explain bytes ended status output = (ended ≡ None) × IsOfText (IsExplained services bytes) status output
+IsOutput (Explore most) bytes ended status output =
+    (ended ≡ None) × (IsExploredAs bytes most status output ⊎ ((status ≡ Refused) × IsInputOf services bytes (refused_input output)))
 IsOutput Verify bytes ended status output =
     (ended ≡ None) × (IsJudgedAs bytes status output ⊎ ((status ≡ Refused) × IsRunInputOf services bytes (refused_run output)))
 IsOutput (Load service number) bytes ended status output = ⊥
@@ -143,6 +170,7 @@ IsRefusal command bytes output =
     ((length bytes ≤ most_bytes command) × (elim command as (λ c. Type 0) [
       | Play threads shows ↦ IsInputOf services bytes (refused_input output)
       | Explain ↦ IsExplained services bytes (refused output)
+      | Explore most ↦ IsInputOf services bytes (refused_input output)
       | Verify ↦ IsRunInputOf services bytes (refused_run output)
       | Load service number ↦ ⊥
       | _ ↦ IsVerdict services bytes (refused output)

@@ -5,6 +5,7 @@ use Rattle.sg_load.specs.Services.sg_event.EventFacts.{event_facts}
 use Rattle.sg_load.specs.Services.sg_event.EventTable.{event_parts, event_table}
 use Rattle.sg_cost.specs.Costs.{AreFew, costs_at}
 use Rattle.sg_cost.specs.Lines.{cost_text_of}
+use Rattle.sg_draw.specs.Pictures.{AreColumnsOf, IsPictureOf}
 use Rattle.sg_facts.specs.Interface.{Declared}
 use Rattle.sg_facts.specs.Tables.{AreTables}
 use Rattle.sg_facts.specs.Trace.{Boot, run_of}
@@ -30,7 +31,7 @@ use Rattle.sg_input.specs.sg_script.declared.script.Script.{Script}
 use Rattle.sg_shared.specs.Runs.{Answering, IsRunOf}
 use Rattle.sg_shared.specs.sg_sim.Played.{FollowsSchedule}
 use Rattle.sg_top.specs.declared.command.Shows.{Shows}
-use Rattle.sg_top.specs.declared.command.Shows.TheVariants.{Run, Trace, Costs}
+use Rattle.sg_top.specs.declared.command.Shows.TheVariants.{Run, Trace, Costs, Picture, Columns}
 
 -- ---- services
 
@@ -54,10 +55,13 @@ abbrev pub HasFewReplays : Declared → Ended → Type 0
 HasFewReplays i ended = (walks : List WalkLine) × AreTables i walks
     × ((before : List Boot) (b : Boot) (later : List Boot) → (run_of ended.trace).boots ≡ before ++ b ∷ later → AreFew i walks ended.history.items before b later)
 
--- this is printed of a run: its report, with what was done to the service or without, or what its calls could cost after one more stop
+-- this is printed of a run: its report, with what was done to the service or without; what its calls could cost after one more stop; or a
+-- picture of what was done, as a document or in the columns of a terminal
 abbrev pub IsShown : Shows → Declared → Ended → List ℕ → Type 0
 IsShown Run i ended written = written ≡ report_of i.facts ended false
 IsShown Trace i ended written = written ≡ report_of i.facts ended true
+IsShown Picture i ended written = IsPictureOf i.facts ended written
+IsShown Columns i ended written = AreColumnsOf i.facts ended written
 IsShown Costs i ended written =
     (walks : List WalkLine) × AreTables i walks × (written ≡ cost_text_of i.facts (costs_at i walks ended.history.items (run_of ended.trace)))
 

@@ -2,10 +2,13 @@
 ghost use Rattle.std.specs.Char.{is_ascii_digit};
 ghost use Rattle.std.specs.List.{list_all};
 ghost use Rattle.std.specs.Prelude.{ℕ, ◌≡◌, MatchOption};
-ghost use Rattle.sg_top.specs.Inside.Words.{AreDigitsOf};
+ghost use Rattle.std.specs.Prelude.{codes};
+ghost use Rattle.sg_top.specs.declared.command.Command.{Command as Asked};
+ghost use Rattle.sg_top.specs.Inside.Words.{AreDigitsOf, IsPairOf};
 
 use crate::services::kind_named;
 use sg_explain::TOO_LONG_EXPLAINED;
+use sg_explore::MOST_PAIRED;
 use sg_input::{MOST_INPUT, MOST_INTERFACE, MOST_RUN_INPUT, TOO_LONG};
 use sg_load::ServiceKind;
 
@@ -18,13 +21,18 @@ pub enum Shows {
     Trace,
     /// What its calls could cost after one more stop, in replayed calls, and what those of each boot cost.
     Costs,
+    /// A picture of what was done to the service, as a document of scalable graphics.
+    Picture,
+    /// The same picture in the columns of a terminal.
+    Columns,
 }
 
 /// A command of the program.
 #[derive(Clone, Copy, Debug, PartialEq, Eq)]
 pub enum Command {
     /// `sim`, or `run` with a thread for each client: plays an input, and prints the report of its run; with `trace` after it too
-    /// what was done to the service. `cost`: plays it as `sim` does, and prints what its calls could cost after one more stop.
+    /// what was done to the service. `cost`: plays it as `sim` does, and prints what its calls could cost after one more stop. `draw`:
+    /// plays it as `sim` does, and draws what was done to the service; with `text` after it in the columns of a terminal.
     Play { threads: bool, shows: Shows },
     /// `check`: says whether an input is the text of an interface that is accepted.
     Check,
@@ -34,6 +42,9 @@ pub enum Command {
     Upgrade,
     /// `explain`: says of an input of `check` or of `sim` what these would say of it, and why, in words.
     Explain,
+    /// `explore`: plays an input's script with other stops, with a stop at each point by itself, and prints what differs; with a number
+    /// after it too with each two stops up to that point. All processors are used.
+    Explore { most: u64 },
     /// `verify`: says whether the entries of a printed run are a history that a service which never failed could have given.
     Verify,
     /// `load SERVICE NUMBER`: plays the script that is generated for a service from a number, and prints one line. It has no input.
@@ -80,7 +91,12 @@ impl Command {
             "check" => Some(Command::Check),
             "compile" => Some(Command::Compile),
             "upgrade" => Some(Command::Upgrade),
+            "draw" => Some(Command::Play {
+                threads: false,
+                shows: Shows::Picture,
+            }),
             "explain" => Some(Command::Explain),
+            "explore" => Some(Command::Explore { most: 0 }),
             "verify" => Some(Command::Verify),
             _ => None,
         }
@@ -88,6 +104,20 @@ impl Command {
 
     // The command of two words; None where they are no command's.
     fn of_two_words(word: &str, more: &str) -> Option<Command>
+        ensures { MatchOption result ((command : Asked) → IsPairOf word.now more.now command → ⊥) (IsPairOf word.now more.now) }
+    {
+        match word {
+            "explore" => exploration_up_to(more),
+            "draw" => drawing_as(more),
+            _ => Command::of_traced(word, more),
+        }
+    }
+
+    // The command of a word and another, of which the first is none that takes a number or a form of picture; None where they are no
+    // command's.
+    fn of_traced(word: &str, more: &str) -> Option<Command>
+        requires explores { word.now ≡ codes "explore" → ⊥ }
+        requires draws { word.now ≡ codes "draw" → ⊥ }
         ensures { MatchOption result ((command : Asked) → IsPairOf word.now more.now command → ⊥) (IsPairOf word.now more.now) }
     {
         if more != "trace" {
@@ -118,11 +148,14 @@ impl Command {
         Some(Command::Load { service, number })
     }
 
-    /// Whether the command is a play with a thread for each client.
+    /// Whether the command takes threads: a play with a thread for each client, or runs that are made on all processors.
     pub fn is_in_threads(self) -> bool
         ensures { result ≡ is_in_threads self }
     {
-        matches!(self, Command::Play { threads: true, .. })
+        matches!(
+            self,
+            Command::Play { threads: true, .. } | Command::Explore { .. }
+        )
     }
 
     /// The greatest number of bytes of the command's input.
@@ -130,7 +163,7 @@ impl Command {
         ensures { result ≡ most_bytes self }
     {
         match self {
-            Command::Play { .. } | Command::Explain => MOST_INPUT,
+            Command::Play { .. } | Command::Explain | Command::Explore { .. } => MOST_INPUT,
             Command::Check | Command::Compile | Command::Upgrade => MOST_INTERFACE,
             Command::Verify => MOST_RUN_INPUT,
             Command::Load { .. } => 0,
@@ -148,10 +181,36 @@ impl Command {
             | Command::Check
             | Command::Compile
             | Command::Upgrade
+            | Command::Explore { .. }
             | Command::Verify
             | Command::Load { .. } => TOO_LONG,
         }
     }
+}
+
+// The exploration that tries each two stops up to the number that digits stand for; None where a word is no digits, or its number is
+// too great.
+fn exploration_up_to(digits: &str) -> Option<Command>
+    ensures { MatchOption result ((command : Asked) → IsPairOf (codes "explore") digits.now command → ⊥) (IsPairOf (codes "explore") digits.now) }
+{
+    let most = number_of(digits)?;
+    if most > MOST_PAIRED {
+        return None;
+    }
+    Some(Command::Explore { most })
+}
+
+// The drawing in the form that a word asks for; None where it is no form's.
+fn drawing_as(form: &str) -> Option<Command>
+    ensures { MatchOption result ((command : Asked) → IsPairOf (codes "draw") form.now command → ⊥) (IsPairOf (codes "draw") form.now) }
+{
+    if form != "text" {
+        return None;
+    }
+    Some(Command::Play {
+        threads: false,
+        shows: Shows::Columns,
+    })
 }
 
 // The number of 64 bits that digits stand for; None where a word is no digits, or its number is greater.

@@ -1,5 +1,6 @@
 //! The program as a call: reads an interface and a script, plays it, and writes every reply; or says whether an interface is
-//! accepted, prints its tables, or prints it as one of version 2; or explains why an input is refused; or plays a generated script.
+//! accepted, prints its tables, or prints it as one of version 2; or explains why an input is refused; or draws a
+//! run, or tries all stops; or plays a generated script.
 //!
 //! - `top`: what the words, the source and the sink come to (`superglue`, `serial`, `Answer`)
 //! - `status`: how a call ends, and the number of that (`Status`)
@@ -21,6 +22,7 @@ mod top;
 pub use command::{Command, Shows};
 pub use laws::printed_runs_are_read;
 pub use sg_edge::{Gate, MemSink, MemSource, NoMemory, OpenGate, StdSink, StdSource};
+pub use sg_explore::{MOST_PAIRED, NoProgress, Progress};
 pub use sg_facts::{Interface, MOST_FUNS};
 pub use sg_input::{
     Input, MOST_DIVIDER, MOST_INPUT, MOST_INTERFACE, MOST_SCRIPT, cut, one_cut, one_input, parse,

@@ -1,5 +1,5 @@
 // What a command makes of its input.
-ghost use Rattle.std.specs.Prelude.{◌≡◌, ℕ, List, true, false, IfOk, None, Some};
+ghost use Rattle.std.specs.Prelude.{◌≡◌, ◌≤◌, ℕ, List, true, false, if◌then◌else◌, IfOk, None, Some};
 ghost use Rattle.sg_explain.specs.Explained.{IsExplained};
 ghost use Rattle.sg_verify.specs.sg_report.sg_hist.Recovered.{is_blocked};
 ghost use Rattle.sg_load.specs.sg_plain.Playing.Playable.{IsPlayable};
@@ -8,22 +8,27 @@ ghost use Rattle.sg_input.specs.Verdicts.{IsCompiled, IsUpgraded, IsVerdict};
 ghost use Rattle.sg_load.specs.Generated.{generated};
 ghost use Rattle.sg_load.specs.Services.{facts_by, standard};
 ghost use Rattle.sg_top.specs.Answer.{IsOfText, IsOutput, IsOwnOutput, ended_status, has_input, is_in_threads, services, IsPlayOutput};
-ghost use Rattle.sg_top.specs.Inside.Pieces.{IsVerified, verdict_status};
+ghost use Rattle.sg_explore.specs.Tried.{most_paired};
+ghost use Rattle.sg_top.specs.Inside.Pieces.{IsExploration, IsVerified, verdict_status};
 ghost use Rattle.sg_verify.specs.Lines.{verdict_line_of};
 ghost use Rattle.sg_top.specs.Headline.{IsShown, answering};
 ghost use Rattle.sg_shared.specs.Runs.{IsRunInOrder};
 ghost use Rattle.sg_top.specs.declared.command.Command.TheVariants.{Load as load};
-ghost use Rattle.sg_top.specs.declared.status.Status.TheVariants.{Refused as refused_status};
+ghost use Rattle.sg_top.specs.declared.status.Status.TheVariants.{Done as done_status, Refused as refused_status, Waits as waits_status};
 ghost use Rattle.sg_top.specs.Inside.Delivery.{IsSaid};
 ghost use Rattle.sg_top.specs.Inside.Plays.{IsPlayOf};
 ghost use Rattle.sg_top.specs.declared.command.Shows.TheVariants.{Costs as shows_costs};
 
 use crate::command::{Command, Shows};
-use crate::services::{cost_kind, kind_of, shapes, share_kind, simulate_kind, verify_kind};
+use crate::services::{
+    cost_kind, explore_kind, kind_of, shapes, share_kind, simulate_kind, verify_kind,
+};
 use crate::status::Status;
 use sg_cost::cost_text;
+use sg_draw::{columns, picture};
 use sg_edge::Gate;
 use sg_explain::explain;
+use sg_explore::{Explored, Progress};
 use sg_facts::{Bytes, Interface, NoMemory};
 use sg_input::{
     History, Input, RunInput, Script, Verdict, compile, compiled, read_input, read_run, upgraded,
@@ -58,7 +63,7 @@ pub fn output_of(alloc: Global, command: Command, bytes: &[u8]) -> Result<Output
         Command::Upgrade => upgrade(alloc, bytes),
         Command::Explain => explained(alloc, bytes),
         Command::Verify => verified(alloc, bytes),
-        Command::Load { .. } => unreachable!(),
+        Command::Explore { .. } | Command::Load { .. } => unreachable!(),
     }
 }
 
@@ -193,6 +198,42 @@ pub fn output_of_threads<R: Threads + Wait + Sync, G: Gate>(
     }
 }
 
+/// What was found by runs of an input's script with other stops, made on all processors; or the line of an input that is refused.
+pub fn explored<R: Threads + Sync, P: Progress>(
+    rt: &R,
+    alloc: Global,
+    bytes: &[u8],
+    most: u64,
+    progress: &P,
+) -> Result<Output, NoMemory>
+    requires most { most ≤ most_paired }
+    ensures ended { IfOk result (λ o. o.ended ≡ None) }
+    ensures found { IfOk result (λ o. IsExploration bytes.now most o.status o.text) }
+{
+    match read_input(alloc, bytes, &shapes())? {
+        Input::Ready(accepted, script) => {
+            let kind = kind_of(accepted.interface());
+            let found = explore_kind(rt, alloc, kind, &accepted, &script, most, progress)?;
+            Ok(output_finding(found))
+        }
+        Input::Refused(line) => Ok(refusing(line)),
+    }
+}
+
+// The output that tells what was found.
+fn output_finding(found: Explored) -> Output
+    ensures ended { result.ended ≡ None }
+    ensures status { result.status ≡ (if found.waits then waits_status else done_status) }
+    ensures text { result.text ≡ found.text }
+{
+    let Explored { text, waits } = found;
+    Output {
+        text,
+        status: status_where(waits),
+        ended: None,
+    }
+}
+
 // The output that refuses an input with this line.
 fn refusing(line: Bytes) -> Output
     ensures ended { result.ended ≡ None }
@@ -240,6 +281,8 @@ fn shown(
         Shows::Run => text(alloc, accepted.interface(), played.ended(), false),
         Shows::Trace => text(alloc, accepted.interface(), played.ended(), true),
         Shows::Costs => costs_shown(alloc, kind, accepted, played),
+        Shows::Picture => picture(alloc, accepted.interface(), played.ended()),
+        Shows::Columns => columns(alloc, accepted.interface(), played.ended()),
     }
 }
 
@@ -295,11 +338,14 @@ fn output_of_run(played: Played, text: Bytes) -> Output
 fn status_of(ends: &[(u8, End)]) -> Status
     ensures { result ≡ ended_status ends.now }
 {
-    if somebody_waits(ends) {
-        Status::Waits
-    } else {
-        Status::Done
-    }
+    status_where(somebody_waits(ends))
+}
+
+// The status of runs, by whether some client waits at the end of one.
+fn status_where(waits: bool) -> Status
+    ensures { result ≡ (if waits then waits_status else done_status) }
+{
+    if waits { Status::Waits } else { Status::Done }
 }
 
 // Whether some client waits at its end.

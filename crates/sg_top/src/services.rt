@@ -1,8 +1,10 @@
 // The services: their shapes, which of them an interface or a name is of, and runs of scripts on them in one thread or with a thread for
-// each client, the judgement of their histories, and what their runs cost.
+// each client, the judgement of their histories, what their runs cost, and what is found by runs with other stops.
 ghost use Rattle.std.specs.Prelude.{◌≡◌, ◌≤◌, true, map, length, IfOk, MatchOption};
 ghost use Rattle.sg_cost.specs.Costs.{costs_at};
 ghost use Rattle.sg_edge.specs.Stops.{AscendsAbove};
+ghost use Rattle.sg_explore.specs.Explored.{IsExplored};
+ghost use Rattle.sg_explore.specs.Tried.{most_paired};
 ghost use Rattle.sg_facts.specs.Facts.{facts_of};
 ghost use Rattle.sg_facts.specs.Limits.{most_script_calls};
 ghost use Rattle.sg_facts.specs.Trace.{run_of};
@@ -19,6 +21,7 @@ ghost use Rattle.sg_top.specs.Inside.Plays.{IsPlayOf, IsPlayed, IsVerdictBy};
 
 use sg_cost::{Costs, costs_of};
 use sg_edge::Gate;
+use sg_explore::{Explored, Progress, explore};
 use sg_facts::{Interface, NoMemory, Service, Shape, Tables};
 use sg_input::{History, Script};
 use sg_load::kind::{
@@ -122,6 +125,44 @@ pub fn share_kind<R: Threads + Wait + Sync, G: Gate>(
         ServiceKind::Files => share::<R, RamfsService, G>(rt, alloc, accepted, script, gate),
         ServiceKind::Threads => share::<R, SchedService, G>(rt, alloc, accepted, script, gate),
         ServiceKind::Timers => share::<R, TimerService, G>(rt, alloc, accepted, script, gate),
+    }
+}
+
+/// What is found by runs of a script with other stops, under an accepted interface of a service: with a stop at each point, and with each
+/// two up to a point.
+pub fn explore_kind<R: Threads + Sync, P: Progress>(
+    rt: &R,
+    alloc: Global,
+    kind: ServiceKind,
+    accepted: &Accepted,
+    script: &Script,
+    most: u64,
+    progress: &P,
+) -> Result<Explored, NoMemory>
+    requires service { accepted.now.facts ≡ facts_by kind }
+    requires playable { IsPlayable accepted.now script.now }
+    requires most { most ≤ most_paired }
+    ensures { IfOk result (IsExplored accepted.now (answering kind) script.now most) }
+{
+    match kind {
+        ServiceKind::Locks => {
+            explore::<R, LockService, P>(rt, alloc, accepted, script, most, progress)
+        }
+        ServiceKind::Events => {
+            explore::<R, EventService, P>(rt, alloc, accepted, script, most, progress)
+        }
+        ServiceKind::Pages => {
+            explore::<R, MmService, P>(rt, alloc, accepted, script, most, progress)
+        }
+        ServiceKind::Files => {
+            explore::<R, RamfsService, P>(rt, alloc, accepted, script, most, progress)
+        }
+        ServiceKind::Threads => {
+            explore::<R, SchedService, P>(rt, alloc, accepted, script, most, progress)
+        }
+        ServiceKind::Timers => {
+            explore::<R, TimerService, P>(rt, alloc, accepted, script, most, progress)
+        }
     }
 }
 

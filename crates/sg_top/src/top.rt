@@ -3,13 +3,15 @@ ghost use Rattle.std.specs.Prelude.{◌≡◌, ◌≤◌, ◌+◌, true, false, 
 ghost use Rattle.sg_edge.specs.Edge.{ConsumesAtMost};
 ghost use Rattle.sg_top.specs.Answer.{IsAnswer, IsCommand, IsSerialCommand, ReadsInput, has_input, is_in_threads, most_bytes};
 ghost use Rattle.sg_top.specs.Inside.Delivery.{IsWritten};
-ghost use Rattle.sg_top.specs.declared.command.Command.TheVariants.{Play as play};
+ghost use Rattle.sg_explore.specs.Tried.{most_paired};
+ghost use Rattle.sg_top.specs.declared.command.Command.TheVariants.{Explore as exploration, Play as play};
 ghost use Rattle.sg_top.specs.declared.status.Status.TheVariants.{NoMemory as no_memory};
 
 use crate::command::{Command, Shows};
-use crate::output::{Output, loaded, output_of, output_of_threads};
+use crate::output::{Output, explored, loaded, output_of, output_of_threads};
 use crate::status::Status;
 use sg_edge::{Gate, Intake, ReadError, Sink, Source, read_all, write_all};
+use sg_explore::Progress;
 use sg_facts::NoMemory;
 use sg_input::{MOST_INPUT, TOO_LONG};
 use sg_shared::Played;
@@ -28,21 +30,25 @@ pub struct Answer {
 
 /// Does what the words after the program's name say: `sim` plays the input in one thread, `run` with a thread for each client,
 /// and `sim trace` and `run trace` print too what was done to the service; `cost` plays the input as `sim` does, and prints what its
-/// calls could cost after one more stop; `check` says whether the input is the text of an
+/// calls could cost after one more stop, and `draw` draws what was done to the service, with `text` after it in the columns of a terminal;
+/// `explore` plays the script with a stop at each point, and with a number after it with each two stops up to that point, on all
+/// processors, and prints what differs; `check` says whether the input is the text of an
 /// interface that is accepted, `compile` prints the tables of such a text, `upgrade` prints it as one of version 2, `explain` says of an input
 /// what `check` or `sim` would say of it, and why, `verify` says whether the entries of a
 /// printed run are a legal history, `load SERVICE NUMBER` plays the script that is generated for a service from a number and prints one
 /// line, and any other words are answered by `OtherWords`.
 /// It reads nothing for a load, and else at most one byte more than the command's input may have, makes its whole output before it
 /// writes any of it, and answers with the status that says how it ended, and with the run of a play. For `run` each thread passes the
-/// gate before it offers a call of its client, and after the call was answered.
-pub fn superglue<R: Threads + Wait + Sync, I: Source, O: Sink, G: Gate>(
+/// gate before it offers a call of its client, and after the call was answered. For `explore` the progress is told how many of its runs
+/// are made.
+pub fn superglue<R: Threads + Wait + Sync, I: Source, O: Sink, G: Gate, P: Progress>(
     rt: &R,
     alloc: Global,
     words: &[String],
     input: &mut I,
     output: &mut O,
     gate: &G,
+    progress: &P,
 ) -> Answer
     ensures answer { IsAnswer (IsCommand words.now)
         (record { told = I.left input.old; faults = I.faults input.old }) (record { told = I.left input.new; faults = I.faults input.new })
@@ -57,12 +63,13 @@ pub fn superglue<R: Threads + Wait + Sync, I: Source, O: Sink, G: Gate>(
         Command::Play { threads, shows } if threads => {
             with_threads(rt, alloc, shows, input, output, gate)
         }
+        Command::Explore { most } => with_exploration(rt, alloc, most, input, output, progress),
         _ => in_one_thread(alloc, command, input, output),
     }
 }
 
-/// What `superglue` does, in one thread and with no handle, for all words but those of `run`, which are other words here. It always
-/// returns.
+/// What `superglue` does, in one thread and with no handle, for all words but those of `run` and `explore`, which are other words here.
+/// It always returns.
 pub fn serial<I: Source, O: Sink>(
     alloc: Global,
     words: &[String],
@@ -106,6 +113,7 @@ fn in_one_thread<I: Source, O: Sink>(
         | Command::Upgrade
         | Command::Explain
         | Command::Verify => with_input(alloc, command, input, output),
+        Command::Explore { .. } => unreachable!(),
     }
 }
 
@@ -127,6 +135,33 @@ fn with_threads<R: Threads + Wait + Sync, I: Source, O: Sink, G: Gate>(
     match read_all(alloc, input, MOST_INPUT) {
         Ok(Intake::Whole(bytes)) => {
             let made = output_of_threads(rt, alloc, bytes.as_slice(), shows, gate);
+            deliver_made(output, made)
+        }
+        Ok(Intake::TooLong) => deliver(output, TOO_LONG, Status::Refused, None),
+        Err(ReadError::Failed) => without_run(Status::ReadFault),
+        Err(ReadError::NoMemory) => without_run(Status::NoMemory),
+    }
+}
+
+// Reads the input of an exploration, and writes what was found.
+fn with_exploration<R: Threads + Sync, I: Source, O: Sink, P: Progress>(
+    rt: &R,
+    alloc: Global,
+    most: u64,
+    input: &mut I,
+    output: &mut O,
+    progress: &P,
+) -> Answer
+    requires most { most ≤ most_paired }
+    ensures answer { IsAnswer (λ said. said ≡ exploration most)
+        (record { told = I.left input.old; faults = I.faults input.old }) (record { told = I.left input.new; faults = I.faults input.new })
+        (record { told = O.written output.old; faults = O.faults output.old }) (record { told = O.written output.new; faults = O.faults output.new })
+        result.status result.ended }
+    ensures most_read { ReadsInput (λ said. said ≡ exploration most) (I.left input.old) (I.left input.new) }
+{
+    match read_all(alloc, input, MOST_INPUT) {
+        Ok(Intake::Whole(bytes)) => {
+            let made = explored(rt, alloc, bytes.as_slice(), most, progress);
             deliver_made(output, made)
         }
         Ok(Intake::TooLong) => deliver(output, TOO_LONG, Status::Refused, None),

@@ -1,7 +1,10 @@
 //! The program: hands its words, standard input and standard output to the call of `sg_top`, and ends with the number of the
-//! status that is answered.
+//! status that is answered. `terminal` tells on standard error how far an exploration has come.
 #![tactic(auto)]
 
+mod terminal;
+
+use crate::terminal::Terminal;
 use sg_top::{OpenGate, Status, StdSink, StdSource, superglue};
 use std::env;
 use std::io::Error;
@@ -13,7 +16,15 @@ fn main(rt: HostRuntime) -> ExitCode {
         Ok(words) => {
             let mut input = StdSource::new(rt.stdin());
             let mut output = StdSink::new(rt.stdout());
-            let answer = superglue(&rt, rt.alloc(), &words, &mut input, &mut output, &OpenGate);
+            let answer = superglue(
+                &rt,
+                rt.alloc(),
+                &words,
+                &mut input,
+                &mut output,
+                &OpenGate,
+                &Terminal::new(&rt),
+            );
             answer.status
         }
         Err(error) => Status::without_words(error.kind()),

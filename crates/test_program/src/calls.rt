@@ -1,7 +1,7 @@
 // Other words, a run as it is given, and the numbers of statuses.
 use crate::answers::{REPORT, SCRIPT, Sizes, input_of, said, words_of};
 use sg_facts::NoMemory;
-use sg_top::{Command, MemSink, MemSource, OpenGate, Status, serial, superglue};
+use sg_top::{Command, MemSink, MemSource, NoProgress, OpenGate, Status, serial, superglue};
 use std::alloc::Global;
 use std::io::ErrorKind;
 use std::sync::Wait;
@@ -51,7 +51,12 @@ fn touches_nothing_at_other_words(rt: HostRuntime) -> Result<(), Fail> {
 }
 
 // The words of plays with a thread for each client.
-static THREAD_WORDS: [[&str; 2]; 2] = [["run", ""], ["run", "trace"]];
+static THREAD_WORDS: [[&str; 2]; 4] = [
+    ["run", ""],
+    ["run", "trace"],
+    ["explore", ""],
+    ["explore", "1000"],
+];
 
 // What the whole call says.
 fn said_by_all<R: Threads + Wait + Sync>(
@@ -61,7 +66,7 @@ fn said_by_all<R: Threads + Wait + Sync>(
     source: &mut MemSource,
     sink: &mut MemSink,
 ) -> (Status, Option<Sizes>) {
-    said(superglue(rt, alloc, words, source, sink, &OpenGate))
+    said(superglue(rt, alloc, words, source, sink, &OpenGate, &NoProgress))
 }
 
 // Whether words are a command's which touches nothing in one thread, and whose first read the whole call makes.

@@ -22,7 +22,7 @@ mod reports;
 #[cfg(test)]
 mod versions;
 
-use sg_top::{OpenGate, Status, StdSink, StdSource, superglue};
+use sg_top::{NoProgress, OpenGate, Status, StdSink, StdSource, superglue};
 use std::env;
 use std::io::Error;
 use std::process::ExitCode;
@@ -33,7 +33,15 @@ fn main(rt: HostRuntime) -> ExitCode {
         Ok(words) => {
             let mut input = StdSource::new(rt.stdin());
             let mut output = StdSink::new(rt.stdout());
-            let answer = superglue(&rt, rt.alloc(), &words, &mut input, &mut output, &OpenGate);
+            let answer = superglue(
+                &rt,
+                rt.alloc(),
+                &words,
+                &mut input,
+                &mut output,
+                &OpenGate,
+                &NoProgress,
+            );
             answer.status
         }
         Err(error) => Status::without_words(error.kind()),

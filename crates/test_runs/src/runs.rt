@@ -1,6 +1,6 @@
 // Whether each run comes out as it is written.
 use crate::texts::{EVENTS, FILES, LOCKS, PAGES, THREADS, TIMERS};
-use sg_top::{Gate, MemSink, MemSource, NoMemory, OpenGate, superglue};
+use sg_top::{Gate, MemSink, MemSource, NoMemory, NoProgress, OpenGate, superglue};
 use std::alloc::Global;
 use std::process::Abort;
 use std::sync::Wait;
@@ -32,7 +32,7 @@ pub fn played_with<R: Threads + Wait + Sync, G: Gate>(
     }
     let mut source = MemSource::new(alloc, input, 4_096, &[])?;
     let mut sink = MemSink::new(alloc, 4_096, &[])?;
-    let answer = superglue(rt, alloc, &list, &mut source, &mut sink, gate);
+    let answer = superglue(rt, alloc, &list, &mut source, &mut sink, gate, &NoProgress);
     Ok((
         answer.status.number(),
         Vec::from_slice(alloc, sink.written())?,

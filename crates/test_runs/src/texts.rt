@@ -3,6 +3,56 @@
 
 /// Locks.
 pub const LOCKS: &str = "\
+explore: 0
+client 1 { lock_alloc(); lock_take($1); lock_release($1); lock_free($1); } stop 9;
+points 17
+runs 18
+stops 17
+replays 2 at 9
+blocked 0
+same
+
+explore 30: 0
+setup { lock_alloc(); } client 1 { lock_take($1); lock_release($1); } client 2 { lock_take(1); lock_release(1); }
+points 22
+runs 430
+stops 376
+replays 4 at 9 17
+blocked 0
+differs 78 at 6
+c1.1 lock_alloc() = ok #1
+c1.2 lock_take(1) = ok
+c1.3 lock_release(1) = ok
+c2.1 lock_take(1) = ok
+c2.2 lock_release(1) = ok
+client 1 done
+client 2 done
+calls 5 boots 2 replays 1
+
+explore: 3
+client 1 { lock_alloc(); lock_take($1); } client 2 { lock_take(1); }
+points 10
+runs 11
+stops 10
+replays 2 at 9
+blocked 7
+differs 5 at 1
+c2.1 lock_take(1) = refused NoDesc
+c1.1 lock_alloc() = ok #1
+c1.2 lock_take(1) = ok
+client 1 done
+client 2 done
+calls 3 boots 2 replays 0
+
+explore 5: 0
+schedule 1;
+points 0
+runs 1
+stops 0
+replays 0
+blocked 0
+same
+
 run: 0
 client 1 { lock_alloc(); lock_take($1); lock_release($1); lock_free($1); }
 c1.1 lock_alloc() = ok #1

@@ -1,5 +1,5 @@
 // Inputs of an interface and a printed run, and what is said of them.
-use sg_top::{MemSink, MemSource, NoMemory, OpenGate, Status, serial, superglue};
+use sg_top::{MemSink, MemSource, NoMemory, NoProgress, OpenGate, Status, serial, superglue};
 use std::alloc::{AllocError, Global};
 use std::sync::Wait;
 use std::thread::Threads;
@@ -52,7 +52,15 @@ pub fn ask_threads<R: Threads + Wait + Sync>(
     let input = input_of(alloc, interface, script)?;
     let mut source = MemSource::new(alloc, &input, MOST_READ, &[])?;
     let mut sink = MemSink::new(alloc, MOST_READ, &[])?;
-    superglue(rt, alloc, &words, &mut source, &mut sink, &OpenGate);
+    superglue(
+        rt,
+        alloc,
+        &words,
+        &mut source,
+        &mut sink,
+        &OpenGate,
+        &NoProgress,
+    );
     Ok(Vec::from_slice(alloc, sink.written())?)
 }
 

@@ -3,7 +3,7 @@ ghost use Rattle.std.specs.Prelude.{◌≡◌};
 
 use crate::again::plays_again;
 use crate::replays::one_word;
-use sg_top::{Answer, MemSink, MemSource, NoMemory, OpenGate, Played, superglue};
+use sg_top::{Answer, MemSink, MemSource, NoMemory, NoProgress, OpenGate, Played, superglue};
 use std::alloc::Global;
 use std::sync::Wait;
 use std::test::Fail;
@@ -84,7 +84,15 @@ fn run_of<R: Threads + Wait + Sync>(
     let words = one_word(alloc, "run")?;
     let mut source = MemSource::new(alloc, input, 4_096, &[])?;
     let mut sink = MemSink::new(alloc, 4_096, &[])?;
-    let Answer { ended, .. } = superglue(rt, alloc, &words, &mut source, &mut sink, &OpenGate);
+    let Answer { ended, .. } = superglue(
+        rt,
+        alloc,
+        &words,
+        &mut source,
+        &mut sink,
+        &OpenGate,
+        &NoProgress,
+    );
     Ok(ended)
 }
 

@@ -8,9 +8,9 @@ use Rattle.sg_explain.specs.Explained.{IsExplained}
 use Rattle.sg_input.specs.Verdicts.{IsVerdict}
 use Rattle.sg_verify.specs.declared.verdict.Verdict.{Verdict as Judgement}
 use Rattle.sg_verify.specs.declared.verdict.Verdict.TheVariants.{Legal}
-use Rattle.sg_top.specs.Answer.{IsJudgedAs, IsRefusal, services, most_bytes}
+use Rattle.sg_top.specs.Answer.{IsExploredAs, IsJudgedAs, IsRefusal, services, most_bytes}
 use Rattle.sg_top.specs.declared.command.Command.{Command}
-use Rattle.sg_top.specs.declared.command.Command.TheVariants.{Play, Explain, Verify, Load}
+use Rattle.sg_top.specs.declared.command.Command.TheVariants.{Play, Explain, Explore, Verify, Load}
 use Rattle.sg_top.specs.declared.status.Status.{Status}
 use Rattle.sg_top.specs.declared.status.Status.TheVariants.{Done, Refused, ReadFault, WriteFault, NoMemory, Illegal}
 
@@ -22,11 +22,16 @@ verdict_status said = elim said as (λ v. Status) [ Legal ↦ Done | _ ↦ Illeg
 abbrev pub IsVerified : List ℕ → Status → List ℕ → Type 0
 IsVerified bytes status output = IsJudgedAs bytes status output ⊎ ((status ≡ Refused) × IsRunInputOf services bytes (refused_run output))
 
+-- the output of an exploration, and its status: what was found, or the line of an input that is refused
+abbrev pub IsExploration : List ℕ → ℕ → Status → List ℕ → Type 0
+IsExploration bytes most status output = IsExploredAs bytes most status output ⊎ ((status ≡ Refused) × IsInputOf services bytes (refused_input output))
+
 -- the line with which a command refuses bytes that aren't too many
 abbrev pub IsRefusedAs : Command → List ℕ → List ℕ → Type 0
 IsRefusedAs command bytes output = elim command as (λ c. Type 0) [
   | Play threads shows ↦ IsInputOf services bytes (refused_input output)
   | Explain ↦ IsExplained services bytes (refused output)
+  | Explore most ↦ IsInputOf services bytes (refused_input output)
   | Verify ↦ IsRunInputOf services bytes (refused_run output)
   | Load service number ↦ ⊥
   | _ ↦ IsVerdict services bytes (refused output)

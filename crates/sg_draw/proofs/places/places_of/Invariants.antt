@@ -1,0 +1,13 @@
+-- The entries from a place on are noted.
+use Rattle.std.proofs.Common.{◌≤◌, drop, length}
+use Rattle.sg_draw.specs.Inside.Places.{ArePlacesIn}
+use Rattle.sg_draw.proofs.places.places_of.Given as goal
+
+abbrev pub invariant-entries : goal.invariant-entries
+invariant-entries l = record {
+  low : l.at ≤ length l.history;
+  kept : ArePlacesIn l.places.entries l.history (drop l.at l.history);
+}
+
+abbrev pub decreases-entries : goal.decreases-entries
+decreases-entries l = l.at

@@ -1,0 +1,4 @@
+mod Adding
+mod Entries
+mod Summing
+mod Trying

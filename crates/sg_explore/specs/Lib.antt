@@ -1,0 +1,4 @@
+pub mod Explored
+pub mod Inside
+pub mod Text
+pub mod Tried
