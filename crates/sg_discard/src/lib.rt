@@ -2,6 +2,8 @@
 //!
 //! - `discard`: ends a world where it stands
 //!
+//! It passes on the types of worlds.
+//!
 //! What ends a world is written out, part by part, wherever one is dropped, and its proof takes long each time. So a world is dropped
 //! here and nowhere else: who owns one hands it over.
 #![tactic(auto)]
@@ -9,3 +11,4 @@
 mod ending;
 
 pub use ending::discard;
+pub use sg_world::{Did, Mark, MarkKind, Phase, Withdrawn, World};

@@ -27,3 +27,4 @@ mod text;
 
 pub use exploring::{Explored, MOST_PAIRED, explore};
 pub use progress::{NoProgress, Progress};
+pub use sg_shared::{Played, share, simulate};

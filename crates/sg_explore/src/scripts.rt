@@ -2,7 +2,7 @@
 ghost use Rattle.std.specs.Prelude.{◌≡◌, IfOk};
 
 use sg_facts::{ListOf, NoMemory, PointList, TryCopy};
-use sg_script::{Arg, ArgList, CallList, ClientList, Script, ScriptCall};
+use sg_shared::{Arg, ArgList, CallList, ClientList, Script, ScriptCall};
 use std::alloc::Global;
 
 /// A script with these stops in place of its own.

@@ -13,6 +13,8 @@ mod parts;
 mod turn;
 
 pub use parts::{most_client, script_call};
-pub use sg_plain::{End, EndList, Ended, Phase, Script};
+pub use sg_plain::{
+    Arg, ArgList, CallList, ClientList, End, EndList, Ended, Phase, Script, ScriptCall,
+};
 pub use sg_world::World;
 pub use turn::{make_step, offer_next};

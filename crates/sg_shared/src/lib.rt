@@ -18,5 +18,5 @@ mod threads;
 
 pub use plays::{share, simulate};
 pub use runs::run;
-pub use sg_sim::{Played, Script, play_script};
+pub use sg_sim::{Arg, ArgList, CallList, ClientList, Played, Script, ScriptCall, play_script};
 pub use sg_stub::Accepted;

@@ -18,4 +18,4 @@ mod turn;
 pub use play::Play;
 pub use played::Played;
 pub use plays::play_script;
-pub use sg_play::{Phase, Script};
+pub use sg_play::{Arg, ArgList, CallList, ClientList, Phase, Script, ScriptCall};

@@ -15,7 +15,7 @@ use Rattle.sg_load.specs.sg_plain.Playing.Playable.{IsPlayable}
 use Rattle.sg_verify.specs.sg_report.sg_hist.Recovered.{Stubs, waiting}
 use Rattle.sg_verify.specs.sg_report.sg_hist.Ending.{HasRecovered}
 use Rattle.sg_verify.specs.sg_report.sg_hist.declared.ended.Ended.{Ended}
-use Rattle.sg_shared.specs.Runs.{Answering, IsRunOf}
+use Rattle.sg_explore.specs.sg_shared.Runs.{Answering, IsRunOf}
 use Rattle.sg_top.specs.Headline.{HasFewReplays, answering}
 use Rattle.sg_input.proofs.sg_stub.OneTable.{one_table}
 use Rattle.sg_top.proofs.EachKind.{allowed_kind, allowed_standard}

@@ -12,7 +12,7 @@ use Rattle.sg_load.specs.Services.{facts_by, standard}
 use Rattle.sg_load.specs.declared.kind.ServiceKind.{ServiceKind}
 use Rattle.sg_load.specs.declared.kind.ServiceKind.TheVariants.{Locks, Events, Pages, Files, Threads, Timers}
 use Rattle.sg_load.specs.sg_check.Shapes.{all_differ}
-use Rattle.sg_shared.specs.Runs.{Answering}
+use Rattle.sg_explore.specs.sg_shared.Runs.{Answering}
 use Rattle.sg_top.specs.Answer.{services}
 use Rattle.sg_top.specs.Headline.{answering, played_services}
 use Rattle.sg_top.specs.Inside.Plays.{IsPlayed}

@@ -7,7 +7,7 @@ use Rattle.sg_facts.specs.Interface.{Declared}
 use Rattle.sg_facts.specs.Trace.{run_of}
 use Rattle.sg_verify.specs.sg_report.sg_hist.declared.ended.Ended.{Ended}
 use Rattle.sg_input.specs.sg_script.declared.script.Script.{Script}
-use Rattle.sg_shared.specs.sg_sim.Played.{FollowsSchedule}
+use Rattle.sg_explore.specs.sg_shared.sg_sim.Played.{FollowsSchedule}
 use Rattle.sg_input.specs.Inputs.{IsReady}
 use Rattle.sg_load.specs.Generated.{generated}
 use Rattle.sg_load.specs.Services.{facts_by, standard}
@@ -21,7 +21,7 @@ use Rattle.sg_top.specs.Answer.{IsOwnOutput, ended_status, services, IsPlayOutpu
 use Rattle.sg_top.specs.declared.command.Command.TheVariants.{Load}
 use Rattle.sg_top.specs.declared.command.Shows.{Shows}
 use Rattle.sg_top.specs.declared.status.Status.{Status}
-use Rattle.sg_shared.specs.Runs.{IsRunInOrder, IsRunOf}
+use Rattle.sg_explore.specs.sg_shared.Runs.{IsRunInOrder, IsRunOf}
 use Rattle.sg_top.specs.Headline.{IsRunOfInput, IsShown, answering, played_services}
 
 -- what a fact of an outcome makes

@@ -28,8 +28,8 @@ use Rattle.sg_load.specs.Services.sg_sched.SchedTable.{sched_parts, sched_table}
 use Rattle.sg_load.specs.Services.sg_timer.TimerFacts.{timer_facts}
 use Rattle.sg_load.specs.Services.sg_timer.TimerTable.{timer_parts, timer_table}
 use Rattle.sg_input.specs.sg_script.declared.script.Script.{Script}
-use Rattle.sg_shared.specs.Runs.{Answering, IsRunOf}
-use Rattle.sg_shared.specs.sg_sim.Played.{FollowsSchedule}
+use Rattle.sg_explore.specs.sg_shared.Runs.{Answering, IsRunOf}
+use Rattle.sg_explore.specs.sg_shared.sg_sim.Played.{FollowsSchedule}
 use Rattle.sg_top.specs.declared.command.Shows.{Shows}
 use Rattle.sg_top.specs.declared.command.Shows.TheVariants.{Run, Trace, Costs, Picture, Columns}
 

@@ -12,7 +12,7 @@ ghost use Rattle.sg_explore.specs.Tried.{most_paired};
 ghost use Rattle.sg_top.specs.Inside.Pieces.{IsExploration, IsVerified, verdict_status};
 ghost use Rattle.sg_verify.specs.Lines.{verdict_line_of};
 ghost use Rattle.sg_top.specs.Headline.{IsShown, answering};
-ghost use Rattle.sg_shared.specs.Runs.{IsRunInOrder};
+ghost use Rattle.sg_explore.specs.sg_shared.Runs.{IsRunInOrder};
 ghost use Rattle.sg_top.specs.declared.command.Command.TheVariants.{Load as load};
 ghost use Rattle.sg_top.specs.declared.status.Status.TheVariants.{Done as done_status, Refused as refused_status, Waits as waits_status};
 ghost use Rattle.sg_top.specs.Inside.Delivery.{IsSaid};
@@ -28,14 +28,13 @@ use sg_cost::cost_text;
 use sg_draw::{columns, picture};
 use sg_edge::Gate;
 use sg_explain::explain;
-use sg_explore::{Explored, Progress};
+use sg_explore::{Explored, Played, Progress};
 use sg_facts::{Bytes, Interface, NoMemory};
 use sg_input::{
     History, Input, RunInput, Script, Verdict, compile, compiled, read_input, read_run, upgraded,
     verdict,
 };
 use sg_load::{Accepted, ServiceKind, generate, standard};
-use sg_shared::Played;
 use sg_verify::{End, Verdict as Judgement, load_line, text, verdict_line};
 use std::alloc::Global;
 use std::sync::Wait;

@@ -14,21 +14,20 @@ ghost use Rattle.sg_load.specs.declared.kind.ServiceKind.{ServiceKind as Kind};
 ghost use Rattle.sg_load.specs.sg_check.Shapes.{are_shapes};
 ghost use Rattle.sg_load.specs.sg_plain.Playing.Playable.{IsPlayable};
 ghost use Rattle.sg_verify.specs.sg_report.sg_hist.Clients.{MayBeMade};
-ghost use Rattle.sg_shared.specs.Runs.{IsRunInOrder, IsRunOf};
+ghost use Rattle.sg_explore.specs.sg_shared.Runs.{IsRunInOrder, IsRunOf};
 ghost use Rattle.sg_top.specs.Answer.{services};
 ghost use Rattle.sg_top.specs.Headline.{answering};
 ghost use Rattle.sg_top.specs.Inside.Plays.{IsPlayOf, IsPlayed, IsVerdictBy};
 
 use sg_cost::{Costs, costs_of};
 use sg_edge::Gate;
-use sg_explore::{Explored, Progress, explore};
+use sg_explore::{Explored, Played, Progress, explore, share, simulate};
 use sg_facts::{Interface, NoMemory, Service, Shape, Tables};
 use sg_input::{History, Script};
 use sg_load::kind::{
     EventService, LockService, MmService, RamfsService, SchedService, TimerService,
 };
 use sg_load::{Accepted, ServiceKind};
-use sg_shared::{Played, share, simulate};
 use sg_verify::{Ended, Verdict, verify};
 use std::alloc::Global;
 use std::sync::Wait;

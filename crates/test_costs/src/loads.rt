@@ -1,119 +1,132 @@
-// No boot of a generated script of each service needs more than its bound, and all boots together need what the load's line says.
-use crate::asking::{costs, text_of};
-use sg_top::Status::Done;
-use sg_top::{Arg, NoMemory, Script, ScriptCall, ServiceKind, generate};
+// The lines of loads, and words that are no load.
+use sg_top::{MemSink, MemSource, NoMemory, serial};
 use std::alloc::Global;
-use std::fmt::Write;
 use std::process::Abort;
 use std::test::Fail;
 
-// A service, and the replayed calls of its load of 7.
-type Load = (ServiceKind, u64);
+// A load's words, and its line.
+type Load = (&'static str, &'static str);
 
 // The counts of replays are those of two other programs.
-static LOADS: [Load; 6] = [
-    (ServiceKind::Locks, 579),
-    (ServiceKind::Events, 594),
-    (ServiceKind::Pages, 281),
-    (ServiceKind::Files, 358),
-    (ServiceKind::Threads, 453),
-    (ServiceKind::Timers, 537),
+static LOADS: [Load; 12] = [
+    (
+        "load lock 0",
+        "load lock 0: calls 20000 boots 33 replays 586 blocked 0\n",
+    ),
+    (
+        "load lock 7",
+        "load lock 7: calls 20000 boots 33 replays 579 blocked 0\n",
+    ),
+    (
+        "load event 0",
+        "load event 0: calls 20000 boots 33 replays 565 blocked 0\n",
+    ),
+    (
+        "load event 7",
+        "load event 7: calls 20000 boots 33 replays 594 blocked 0\n",
+    ),
+    (
+        "load mm 0",
+        "load mm 0: calls 20000 boots 33 replays 303 blocked 0\n",
+    ),
+    (
+        "load mm 7",
+        "load mm 7: calls 20000 boots 33 replays 281 blocked 0\n",
+    ),
+    (
+        "load ramfs 0",
+        "load ramfs 0: calls 20000 boots 33 replays 375 blocked 0\n",
+    ),
+    (
+        "load ramfs 7",
+        "load ramfs 7: calls 20000 boots 33 replays 358 blocked 0\n",
+    ),
+    (
+        "load sched 0",
+        "load sched 0: calls 20000 boots 33 replays 422 blocked 0\n",
+    ),
+    (
+        "load sched 7",
+        "load sched 7: calls 20000 boots 33 replays 453 blocked 0\n",
+    ),
+    (
+        "load timer 0",
+        "load timer 0: calls 20000 boots 33 replays 575 blocked 0\n",
+    ),
+    (
+        "load timer 7",
+        "load timer 7: calls 20000 boots 33 replays 537 blocked 0\n",
+    ),
 ];
 
-// An argument, as it is written.
-fn push_arg(out: &mut String, arg: &Arg) -> Result<(), NoMemory> {
-    match arg {
-        Arg::Number(number) => write!(out, "{number}")?,
-        Arg::Text(text) => write!(out, "\"{}\"", str::from_utf8(text.bytes()).unwrap_or(""))?,
-        Arg::Back(call) => write!(out, "${call}")?,
+// What words come to: the number of the status, and what is printed. Nothing may be read: the first read fails.
+fn printed(alloc: Global, words: &str) -> Result<(u8, Vec<u8>), NoMemory> {
+    let mut list = Vec::new(alloc);
+    for word in words.split_whitespace() {
+        list.push(word.to_string(alloc)?)?;
     }
-    Ok(())
+    let mut source = MemSource::new(alloc, b"", 1, &[1])?;
+    let mut sink = MemSink::new(alloc, 7, &[])?;
+    let answer = serial(alloc, &list, &mut source, &mut sink);
+    Ok((
+        answer.status.number(),
+        Vec::from_slice(alloc, sink.written())?,
+    ))
 }
 
-// A call, as it is written.
-fn push_call(out: &mut String, service: ServiceKind, call: &ScriptCall) -> Result<(), NoMemory> {
-    let shape = service.shape();
-    let fun = shape.funs.get(usize::from(call.fun).saturating_sub(1));
-    let name = fun.map_or("", |fun| str::from_utf8(fun.name).unwrap_or(""));
-    write!(out, "{name}(")?;
-    for (at, arg) in call.args.as_slice().iter().enumerate() {
-        if at > 0 {
-            write!(out, ", ")?;
-        }
-        push_arg(out, arg)?;
-    }
-    write!(out, ");\n")?;
-    Ok(())
+// Whether words come to a line.
+fn prints(alloc: Global, words: &str, line: &str) -> Result<bool, NoMemory> {
+    let (number, text) = printed(alloc, words)?;
+    Ok(number == 0 && text.as_slice() == line.as_bytes())
 }
 
-// Calls in braces, as they are written.
-fn push_calls(
-    out: &mut String,
-    service: ServiceKind,
-    calls: &[ScriptCall],
-) -> Result<(), NoMemory> {
-    write!(out, "{{\n")?;
-    for call in calls {
-        push_call(out, service, call)?;
+// Each load prints its line, twice.
+fn try_each(rt: &impl Abort, alloc: Global, loads: &[Load]) -> Result<(), Fail> {
+    for (words, line) in loads {
+        assert!(rt; prints(alloc, words, line)?, "{words}");
+        assert!(rt; prints(alloc, words, line)?, "{words}");
     }
-    write!(out, "}}\n")?;
-    Ok(())
-}
-
-// A script without a schedule, as it is written.
-fn written(alloc: Global, service: ServiceKind, script: &Script) -> Result<String, NoMemory> {
-    let mut out = String::new(alloc);
-    write!(out, "setup ")?;
-    push_calls(&mut out, service, script.setup.as_slice())?;
-    for (client, calls) in script.clients.as_slice() {
-        write!(out, "client {client} ")?;
-        push_calls(&mut out, service, calls.as_slice())?;
-    }
-    write!(out, "stop")?;
-    for stop in script.stops.as_slice() {
-        write!(out, " {stop}")?;
-    }
-    write!(out, ";\n")?;
-    Ok(out)
-}
-
-// The number that stands after a word in a line.
-fn number_after(line: &str, word: &str) -> Option<u64> {
-    let (_, rest) = line.split_once(word)?;
-    rest.split_whitespace().next()?.parse().ok()
-}
-
-// The replayed calls of all boots, where none needs more than its bound.
-fn walks_within(text: &str) -> Option<u64> {
-    let mut all = 0_u64;
-    for line in text.lines() {
-        if line.starts_with("boot ") {
-            let walks = number_after(line, " walks ")?;
-            if walks > number_after(line, " bound ")? {
-                return None;
-            }
-            all = all.saturating_add(walks);
-        }
-    }
-    Some(all)
-}
-
-// What a generated script costs is within the bounds, and as much as is known.
-fn try_load(rt: &impl Abort, alloc: Global, load: &Load) -> Result<(), Fail> {
-    let (service, replays) = load;
-    let script = generate(alloc, *service, 7)?;
-    let text = written(alloc, *service, &script)?;
-    let (status, said) = costs(alloc, text_of(*service), text.as_bytes())?;
-    assert_eq!(rt; status, Done, "{service:?}");
-    let walks = walks_within(str::from_utf8(&said).unwrap_or(""));
-    assert_eq!(rt; walks, Some(*replays), "{service:?}");
     Ok(())
 }
 
 #[test]
-fn loads_are_within_their_bounds(rt: HostRuntime) -> Result<(), Fail> {
-    for load in &LOADS {
-        try_load(&rt, rt.alloc(), load)?;
+fn plays_the_loads_of_0_and_7(rt: HostRuntime) -> Result<(), Fail> {
+    try_each(&rt, rt.alloc(), &LOADS)
+}
+
+#[test]
+fn takes_zeros_before_a_number(rt: HostRuntime) -> Result<(), Fail> {
+    let line = "load lock 7: calls 20000 boots 33 replays 579 blocked 0\n";
+    assert!(rt; prints(rt.alloc(), "load lock 0000000000000000000000007", line)?);
+    Ok(())
+}
+
+#[test]
+fn takes_the_greatest_number(rt: HostRuntime) -> Result<(), Fail> {
+    let (number, text) = printed(rt.alloc(), "load sched 18446744073709551615")?;
+    let text = str::from_utf8(&text).unwrap_or("");
+    assert_eq!(rt; number, 0);
+    assert!(rt; text.starts_with("load sched 18446744073709551615: calls 20000 boots 33 replays "));
+    Ok(())
+}
+
+static OTHER_WORDS: [&str; 9] = [
+    "load",
+    "load lock",
+    "load lock -1",
+    "load lock +1",
+    "load lock 1x",
+    "load lock 18446744073709551616",
+    "load locks 1",
+    "load lock 1 1",
+    "loads lock 1",
+];
+
+#[test]
+fn plays_no_other_words(rt: HostRuntime) -> Result<(), Fail> {
+    for words in &OTHER_WORDS {
+        let (number, text) = printed(rt.alloc(), words)?;
+        assert!(rt; number == 1 && text.is_empty(), "{words}");
     }
     Ok(())
 }

@@ -2,6 +2,9 @@
 //!
 //! - `texts`: runs, a text for each service
 //! - `runs`: whether each comes out as it is written
+//! - `asking`: what `explain` prints of an input, and inputs that are made from the interface of locks
+//! - `faults`: what is explained of each kind of fault, and of inputs with which nothing is wrong, byte by byte
+//! - `too_long`: what is explained of inputs that are too long
 //! - `drawn`: pictures of runs: what stands beside the lanes, and how long a document is
 //! - `gate`: two clients in threads of their own, of which one waits for the other at the gate
 //! - `inputs`: runs whose inputs are made: long ones, other interfaces, and what is refused
@@ -9,7 +12,11 @@
 #![tactic(auto)]
 
 #[cfg(test)]
+mod asking;
+#[cfg(test)]
 mod drawn;
+#[cfg(test)]
+mod faults;
 #[cfg(test)]
 mod gate;
 #[cfg(test)]
@@ -20,3 +27,5 @@ mod runs;
 mod stops;
 #[cfg(test)]
 mod texts;
+#[cfg(test)]
+mod too_long;

@@ -1,7 +1,7 @@
 // Whether texts tell what steps did, and what was replied.
 use crate::words::{Written, first_word};
+use sg_discard::Did;
 use sg_facts::{Code, Good, Reply};
-use sg_world::Did;
 
 /// Whether a text tells what a step did: a word, or the reply that it handed over.
 pub fn tells(text: &str, did: &Did) -> bool {

@@ -28,9 +28,9 @@ pub use events::{Asked, Event};
 pub use plays::play;
 pub use run::{Judge, Run, Unmade, judged, stops_at};
 pub use seen::shows;
+pub use sg_discard::{Did, Phase, World};
 pub use sg_edge::Never;
 pub use sg_facts::{
     Bytes, Code, Entry, Good, NoMemory, Point, Reply, Service, Stops, Tables, Value, Words,
 };
-pub use sg_world::{Did, Phase, World};
 pub use words::headed;

@@ -1,19 +1,18 @@
 // A world with its interface beside it, so that each event is checked before it is made.
 ghost use Rattle.std.specs.Prelude.{◌≡◌, ◌≤◌, ◌<◌, ◌+◌, ◌^◌, [], IfOk, length, true};
 ghost use Rattle.sg_edge.specs.Stops.{AscendsAbove, struck_of};
-ghost use Rattle.sg_world.specs.sg_seat.WorldView.{IsFree, MayWithdraw, seat_of};
+ghost use Rattle.sg_discard.specs.sg_seat.WorldView.{IsFree, MayWithdraw, seat_of};
 
 use crate::answers::tells;
 use crate::events::{Asked, Event, args_of};
 use crate::fits::{number_of, takes};
-use sg_discard::discard;
+use sg_discard::{Did, Phase, World, discard};
 use sg_edge::AtPoints;
 use sg_facts::{
     Args, Bytes, Call, Interface, LAST_CLIENT, NoMemory, PointList, Reply, Service, Stops, Tables,
     Tag, Trace, TryCopy,
 };
 use sg_report::{End, EndList, Ended, text};
-use sg_world::{Did, Phase, World};
 use std::alloc::Global;
 
 /// Why an event wasn't made, or a play isn't as it is told.

@@ -1,8 +1,8 @@
 // Whether texts tell what is seen of a world.
 use crate::run::Run;
 use crate::words::first_word;
+use sg_discard::{Mark, MarkKind, Phase, Withdrawn};
 use sg_facts::{Service, Stops};
-use sg_world::{Mark, MarkKind, Phase, Withdrawn};
 
 /// Whether a line tells what is seen of a world:
 /// - `up` or `down`: whether its service runs

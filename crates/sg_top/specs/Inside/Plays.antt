@@ -7,7 +7,7 @@ use Rattle.sg_facts.specs.declared.entry.Entry.{Entry}
 use Rattle.sg_input.specs.sg_script.declared.script.Script.{Script}
 use Rattle.sg_load.specs.sg_plain.Playing.Playable.{IsPlayable}
 use Rattle.sg_verify.specs.sg_report.sg_hist.declared.ended.Ended.{Ended}
-use Rattle.sg_shared.specs.Runs.{Answering, IsRunOf}
+use Rattle.sg_explore.specs.sg_shared.Runs.{Answering, IsRunOf}
 use Rattle.sg_top.specs.Answer.{services}
 use Rattle.sg_verify.specs.Verdicts.{IsVerdictOf}
 use Rattle.sg_verify.specs.declared.verdict.Verdict.{Verdict}

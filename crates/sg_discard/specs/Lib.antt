@@ -1,0 +1,1 @@
+pub use Rattle.sg_world.specs.sg_seat
