@@ -10,7 +10,7 @@ use std::thread::Threads;
 use test_interfaces::LOCK;
 
 // Words that are no command's, up to two of them; an empty one isn't given.
-static OTHER_WORDS: [[&str; 2]; 9] = [
+static OTHER_WORDS: [[&str; 2]; 15] = [
     ["", ""],
     ["sim ", ""],
     ["SIM", ""],
@@ -20,6 +20,12 @@ static OTHER_WORDS: [[&str; 2]; 9] = [
     ["trace", "sim"],
     ["sim", "traces"],
     ["check", "check"],
+    ["explore", "1001"],
+    ["explore", "-1"],
+    ["explore", "18446744073709551616"],
+    ["explain", "sim"],
+    ["draw", "svg"],
+    ["draw", "trace"],
 ];
 
 // Whether words come to `OtherWords` in one thread, without a run and with nothing written; with a source whose first read fails, so

@@ -5,7 +5,7 @@
 //! - `asking`: what `explain` prints of an input, and inputs that are made from the interface of locks
 //! - `faults`: what is explained of each kind of fault, and of inputs with which nothing is wrong, byte by byte
 //! - `too_long`: what is explained of inputs that are too long
-//! - `drawn`: pictures of runs: what stands beside the lanes, and how long a document is
+//! - `drawn`: pictures of runs: what stands beside the lanes, how texts stand in a document, and how long one is
 //! - `gate`: two clients in threads of their own, of which one waits for the other at the gate
 //! - `inputs`: runs whose inputs are made: long ones, other interfaces, and what is refused
 //! - `stops`: runs with a stop at each point, and with two
