@@ -97,7 +97,7 @@ impl<S: Service> Cell<S> {
     }
 
     /// Asks the running service a call, and then the point after its reply, and notes the item with the number of points asked,
-    /// in the room that was taken for it. `shown` is the call under the clients' ids. `Stopped` comes from a part of an Ok or from
+    /// in the room that was taken for it. `shown` is the call under the clients' ids: the same but for its descriptor. `Stopped` comes from a part of an Ok or from
     /// that point: the service has failed then, and its boot ends at the last point asked. After `NoMemory`, which is the
     /// service's own, nothing changed. A reply has at most 4 words and 256 bytes, and a patch fits its file.
     pub fn invoke<T: Stops>(
@@ -105,11 +105,11 @@ impl<S: Service> Cell<S> {
         alloc: Global,
         stops: &mut T,
         tag: Tag,
-        shown: Call,
-        call: &Call,
+        shown: &Call,
+        call: Call,
     ) -> Outcome
-        requires { MayInvoke S.facts self.old tag shown call.now }
-        ensures outcome { (held : Object) → self.old.running ≡ Some held → Invoked S.facts S.ask S.parts held self.old tag shown call.now
+        requires { MayInvoke S.facts self.old tag shown.now call }
+        ensures outcome { (held : Object) → self.old.running ≡ Some held → Invoked S.facts S.ask S.parts held self.old tag shown.now call
             (record { asked = T.asked stops.old; struck = T.struck stops.old }) result
             self.new (record { asked = T.asked stops.new; struck = T.struck stops.new }) }
         ensures fits { (held : Object) → self.old.running ≡ Some held → FitsRoom held result }
@@ -118,7 +118,7 @@ impl<S: Service> Cell<S> {
             → T.test (T.asked stops.new) (T.struck stops.new) (T.plan stops.new) }
     {
         let outcome = match &mut self.service {
-            Some(service) => ask(service, alloc, stops, call),
+            Some(service) => ask(service, alloc, stops, &call),
             None => unreachable!(),
         };
         match outcome {
@@ -126,13 +126,13 @@ impl<S: Service> Cell<S> {
             Outcome::Stopped => {
                 let point = stops.asked();
                 self.journal
-                    .note_call(tag, shown, call.desc, point, &Outcome::Stopped);
+                    .note_call(tag, shown, call, point, &Outcome::Stopped);
                 fail(&mut self.service, &mut self.journal, point);
                 Outcome::Stopped
             }
             outcome => {
                 self.journal
-                    .note_call(tag, shown, call.desc, stops.asked(), &outcome);
+                    .note_call(tag, shown, call, stops.asked(), &outcome);
                 outcome
             }
         }

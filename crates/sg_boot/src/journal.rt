@@ -1,14 +1,18 @@
 // What was done to a service, with room for more.
 ghost use Rattle.std.specs.Prelude.{◌≡◌, ◌≢◌, ◌≤◌, [], length, map, IfOk, OnOk};
 ghost use Rattle.sg_facts.specs.Trace.{run_of};
+ghost use Rattle.sg_facts.specs.Inside.Items.{IsBriefItem};
 ghost use Rattle.sg_facts.specs.Inside.Rows.{boot_of};
+ghost use Rattle.sg_facts.specs.Lent.{item_asked};
 ghost use Rattle.sg_hist.specs.Growing.{booted, noted, struck};
 ghost use Rattle.sg_boot.specs.Invoking.{item_of_call, with_item, with_stop};
 ghost use Rattle.sg_boot.specs.Inside.Journals.{last_room};
 ghost use Rattle.sg_boot.specs.Inside.Rooms.{FitsItemRoom};
 
 use crate::room::ItemRoom;
-use sg_facts::{BootList, BootLog, Call, Item, ItemList, NoMemory, Outcome, Tag, Trace};
+use sg_facts::{
+    Asking, BootList, BootLog, Brief, Call, Item, ItemList, NoMemory, Outcome, Tag, Trace,
+};
 use std::alloc::Global;
 use std::marker::Model;
 
@@ -86,32 +90,46 @@ impl Journal {
         Ok(())
     }
 
-    /// Notes the item of a call that was asked, with the number of points asked. The outcome is copied into the room for it.
+    /// Notes the item of a call that was asked, with the number of points asked. What can be kept in brief takes no room but its place;
+    /// any other outcome is copied into the room for it, and the arguments are those of the call that was asked.
     pub(crate) fn note_call(
         &mut self,
         tag: Tag,
-        shown: Call,
-        real: u64,
+        shown: &Call,
+        call: Call,
         points: u64,
         outcome: &Outcome,
     )
         requires room { 1 ≤ self.old.room }
         requires fits { FitsItemRoom outcome.now }
-        ensures { self.new.run ≡ with_item self.old.run (item_of_call tag shown real points outcome.now) points }
+        requires same { call ≡ record shown.now { desc = call.desc } }
+        ensures { self.new.run ≡ with_item self.old.run (item_of_call tag shown.now call.desc points outcome.now) points }
     {
-        self.ready = false;
-        let outcome = self.room.fill(outcome);
-        note(
-            &mut self.trace.boots,
-            Item {
-                tag,
-                shown,
-                real,
-                points,
-                outcome,
-            },
-        );
         self.trace.points = points;
+        let asking = Asking {
+            tag: &tag,
+            shown,
+            real: call.desc,
+            points,
+            outcome,
+        };
+        match asking.in_brief() {
+            Some(brief) => note_brief(&mut self.trace.boots, &brief, &asking),
+            None => {
+                self.ready = false;
+                let outcome = self.room.fill(outcome);
+                note(
+                    &mut self.trace.boots,
+                    Item {
+                        tag,
+                        real: call.desc,
+                        shown: shown_call(shown, call),
+                        points,
+                        outcome,
+                    },
+                );
+            }
+        }
     }
 
     /// Notes an item, whose number of points is the number asked.
@@ -188,6 +206,37 @@ fn note(boots: &mut BootList, item: Item)
     match boots.pop() {
         Some(mut last) => {
             last.items.add(item);
+            boots.add(last);
+        }
+        None => unreachable!(),
+    }
+}
+
+// The call that is shown, with the arguments of the one that was asked.
+fn shown_call(shown: &Call, call: Call) -> Call
+    requires { call ≡ record shown.now { desc = call.desc } }
+    ensures { result ≡ shown.now }
+{
+    Call {
+        args: call.args,
+        client: shown.client,
+        seq: shown.seq,
+        fun: shown.fun,
+        desc: shown.desc,
+    }
+}
+
+// Adds an asking in brief to the last boot.
+fn note_brief(boots: &mut BootList, brief: &Brief, asking: &Asking)
+    requires begun { boots.old.items ≢ [] }
+    requires room { 1 ≤ last_room boots.old.items }
+    requires brief { IsBriefItem brief.now (item_asked asking.now) }
+    ensures begun { boots.new.items ≢ [] }
+    ensures boots { map boot_of boots.new.items ≡ noted (map boot_of boots.old.items) (item_asked asking.now) }
+{
+    match boots.pop() {
+        Some(mut last) => {
+            last.items.add_brief(brief, asking);
             boots.add(last);
         }
         None => unreachable!(),

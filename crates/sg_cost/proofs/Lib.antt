@@ -9,6 +9,7 @@ pub mod Indexed
 pub mod KeptCosts
 pub mod LastBoots
 pub mod LineCosts
+pub mod Noting
 pub mod RowFacts
 pub mod RowsAt
 pub mod Scripted

@@ -16,9 +16,9 @@ use crate::funs::fun_costs;
 use crate::rows::{row_costs, total};
 use crate::words::read_words;
 use crate::{BootCostList, Costs};
-use sg_facts::{Entry, NoMemory, Service, Tables, Trace};
+use sg_facts::{NoMemory, Service, Tables, Trace};
 use sg_needs::Tracker;
-use sg_report::Ended;
+use sg_report::{Ended, History};
 use std::alloc::Global;
 
 /// What the calls of a run could cost after one more stop, and what those of each boot cost: the live descriptors with the calls of
@@ -41,23 +41,22 @@ pub fn costs_of<S: Service>(
     ensures within { IfOk result (λ costs. Each (λ b. b.walks ≤ b.bound) costs.boots) }
 {
     let _ = tables.lines();
-    let history = ended.history.as_slice();
-    read_words(history);
-    costs_in(alloc, tables, history, &ended.trace)
+    read_words(&ended.history);
+    costs_in(alloc, tables, &ended.history, &ended.trace)
 }
 
 // What the calls of a run cost, where each entry of its history may be tracked.
 fn costs_in(
     alloc: Global,
     tables: &Tables,
-    history: &[Entry],
+    history: &History,
     trace: &Trace,
 ) -> Result<Costs, NoMemory>
     requires fields { HasFewFields tables.now.iface }
-    requires few { length history.now ≤ most_entries }
-    requires may { MayBeTracked tables.now.iface.facts history.now }
-    requires run { AreInRun tables.now.iface.facts history.now (run_of trace.now) }
-    ensures { IfOk result (λ costs. costs ≡ costs_at tables.now.iface tables.now.walks history.now (run_of trace.now)) }
+    requires few { length history.now.items ≤ most_entries }
+    requires may { MayBeTracked tables.now.iface.facts history.now.items }
+    requires run { AreInRun tables.now.iface.facts history.now.items (run_of trace.now) }
+    ensures { IfOk result (λ costs. costs ≡ costs_at tables.now.iface tables.now.walks history.now.items (run_of trace.now)) }
 {
     let mut front = Front::new(alloc);
     let boots = boot_costs(alloc, tables, history, trace, &mut front)?;

@@ -10,6 +10,7 @@ ghost use Rattle.sg_needs.specs.sg_track.Tracked.{MayTrack, Tracked};
 use crate::last_boots::{LastBoots, last_boot};
 use sg_facts::{Entry, NoMemory, Reply, Tables};
 use sg_needs::Tracker;
+use sg_report::History;
 use std::alloc::Global;
 
 /// The rows that the first entries of a history come to, and how many entries these are.
@@ -36,23 +37,23 @@ impl Front {
         &mut self,
         alloc: Global,
         tables: &Tables,
-        history: &[Entry],
+        history: &History,
         last: &LastBoots,
         first: u64,
     ) -> Result<(), NoMemory>
-        requires may { MayBeTracked tables.now.iface.facts history.now }
-        requires front { IsFront tables.now.iface.facts history.now self.old.place self.old.rows }
-        requires over { list_all (is_over last.now.entries first) (take self.old.place history.now) ≡ true }
-        ensures front { OnOk result (IsFront tables.now.iface.facts history.now self.new.place self.new.rows) }
-        ensures over { OnOk result (list_all (is_over last.now.entries first) (take self.new.place history.now) ≡ true) }
-        ensures next { OnOk result ((e : IsEntry) → slice_get history.now self.new.place ≡ Some e → is_over last.now.entries first e ≡ false) }
+        requires may { MayBeTracked tables.now.iface.facts history.now.items }
+        requires front { IsFront tables.now.iface.facts history.now.items self.old.place self.old.rows }
+        requires over { list_all (is_over last.now.entries first) (take self.old.place history.now.items) ≡ true }
+        ensures front { OnOk result (IsFront tables.now.iface.facts history.now.items self.new.place self.new.rows) }
+        ensures over { OnOk result (list_all (is_over last.now.entries first) (take self.new.place history.now.items) ≡ true) }
+        ensures next { OnOk result ((e : IsEntry) → slice_get history.now.items self.new.place ≡ Some e → is_over last.now.entries first e ≡ false) }
     {
         'entries: for at in self.place..history.len() {
-            let entry = &history[at];
-            if !is_over(last, entry, first) {
+            let entry = history.entry(alloc, at)?;
+            if !is_over(last, &entry, first) {
                 return Ok(());
             }
-            self.track(alloc, tables, entry)?;
+            self.track(alloc, tables, &entry)?;
         }
         Ok(())
     }
@@ -62,14 +63,15 @@ impl Front {
         &mut self,
         alloc: Global,
         tables: &Tables,
-        history: &[Entry],
+        history: &History,
     ) -> Result<(), NoMemory>
-        requires may { MayBeTracked tables.now.iface.facts history.now }
-        requires front { IsFront tables.now.iface.facts history.now self.old.place self.old.rows }
-        ensures { OnOk result (IsFront tables.now.iface.facts history.now (length history.now) self.new.rows) }
+        requires may { MayBeTracked tables.now.iface.facts history.now.items }
+        requires front { IsFront tables.now.iface.facts history.now.items self.old.place self.old.rows }
+        ensures { OnOk result (IsFront tables.now.iface.facts history.now.items (length history.now.items) self.new.rows) }
     {
         'entries: for at in self.place..history.len() {
-            self.track(alloc, tables, &history[at])?;
+            let entry = history.entry(alloc, at)?;
+            self.track(alloc, tables, &entry)?;
         }
         Ok(())
     }

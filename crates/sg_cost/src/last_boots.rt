@@ -4,7 +4,7 @@ ghost use Rattle.sg_cost.specs.Inside.LastBoots.{AreLastBoots, has_call, kept_bo
 ghost use Rattle.sg_facts.specs.Inside.Rows.{boot_of};
 
 use indexmap::IndexMap;
-use sg_facts::{BootLog, Item, NoMemory, Tag};
+use sg_facts::{BootLog, ItemList, LentTag, NoMemory};
 use std::alloc::Global;
 
 /// The last boot, counted from 1, in which the service was asked each call of a client.
@@ -16,18 +16,20 @@ pub(crate) fn last_boots(alloc: Global, boots: &[BootLog]) -> Result<LastBoots, 
 {
     let mut last = LastBoots::new(alloc);
     'boots: for (at, boot) in boots.iter().enumerate() {
-        note_boot(&mut last, at as u64 + 1, boot.items.as_slice())?;
+        note_boot(&mut last, at as u64 + 1, &boot.items)?;
     }
     Ok(last)
 }
 
 // Notes a boot as the last of the calls that it has.
-fn note_boot(last: &mut LastBoots, number: u64, items: &[Item]) -> Result<(), NoMemory>
-    ensures { OnOk result ((client seq : ℕ) → kept_boot last.new.entries client seq ≡ (if has_call client seq items.now then number else kept_boot last.old.entries client seq)) }
+#[tactic(auto, using(std::proofs::lemmas::Grind::common_steps, sg_facts::proofs::Places::take_next))]
+fn note_boot(last: &mut LastBoots, number: u64, items: &ItemList) -> Result<(), NoMemory>
+    ensures { OnOk result ((client seq : ℕ) → kept_boot last.new.entries client seq ≡ (if has_call client seq items.now.items then number else kept_boot last.old.entries client seq)) }
 {
-    'items: for item in items {
-        if let Tag::Client { client, seq } = &item.tag {
-            note_call(last, *client, *seq, number)?;
+    'items: for at in 0..items.len() {
+        let item = items.at(at);
+        if let LentTag::Client { client, seq } = item.tag {
+            note_call(last, client, seq, number)?;
         }
     }
     Ok(())

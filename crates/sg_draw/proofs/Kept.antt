@@ -1,7 +1,8 @@
 -- The places of calls in a history.
-use Rattle.std.proofs.Common.{◌≡◌, ℕ, zero, suc, ◌-◌, ◌<◌, ◌≤◌, Bool, true, false, cond, List, [], ◌∷◌, Some, drop, length, sym, ◌∙◌, ap, subst, arith}
+use Rattle.std.proofs.Common.{◌≡◌, ℕ, suc, ◌-◌, ◌<◌, ◌≤◌, Bool, true, false, cond, List, ◌∷◌, Some, drop, length, sym, ◌∙◌, ap, subst, arith}
 use Rattle.std.proofs.Math.Seq.{drop-cons}
-use Rattle.std.specs.Prelude.{slice_get, slice_index_or}
+use Rattle.std.proofs.lemmas.Option.{get_or_from_slice_get, slice_get_within}
+use Rattle.std.specs.Prelude.{slice_get}
 use Rattle.std.specs.Map.{lookup}
 use Rattle.std.specs.Option.{option_and_then}
 use Rattle.sg_facts.specs.declared.entry.Entry.{Entry}
@@ -19,19 +20,14 @@ places_more old new history later e at kept own noted = λ client seq.
     by client seq true = own
     by client seq false = kept client seq
 
-got_at : (xs : List Entry) (n : ℕ) (x : Entry) → n < length xs → x ≡ slice_index_or xs n x → slice_get xs n ≡ Some x
-got_at [] n x at own = absurd (omega (arith, at))
-got_at (y ∷ xs) zero x at own = ap Some (sym own)
-got_at (y ∷ xs) (suc n) x at own = got_at xs n x (omega (arith, at)) own
-
 -- the entry before those that are noted is noted
 pub places_back : (old new : List ((ℕ × ℕ) × ℕ)) (history : List Entry) (at : ℕ) (e : Entry) → 0 < at → at ≤ length history → ArePlacesIn old history (drop at history)
-    → e ≡ slice_index_or history (at - 1) e
+    → slice_get history (at - 1) ≡ Some e
     → ((client seq : ℕ) → lookup (same_call (client, seq)) new ≡ cond (same_call (e.call.client, e.call.seq) (client, seq)) (Some (at - 1)) (lookup (same_call (client, seq)) old))
     → ArePlacesIn new history (drop (at - 1) history)
 places_back old new history at e some low kept own noted =
-    let within : at - 1 < length history = omega arith in
     let next : suc (at - 1) ≡ at = omega arith in
     let front : drop (at - 1) history ≡ e ∷ drop at history
-    = drop-cons history (at - 1) e within ∙ ap (λ x. x ∷ drop (suc (at - 1)) history) (sym own) ∙ ap (λ k. e ∷ drop k history) next in
-    subst (ArePlacesIn new history) (sym front) (places_more old new history (drop at history) e (at - 1) kept (got_at history (at - 1) e within own) noted)
+    = drop-cons history (at - 1) e (slice_get_within history (at - 1) e own) ∙ ap (λ x. x ∷ drop (suc (at - 1)) history) (get_or_from_slice_get history (at - 1) e e own)
+    ∙ ap (λ k. e ∷ drop k history) next in
+    subst (ArePlacesIn new history) (sym front) (places_more old new history (drop at history) e (at - 1) kept own noted)

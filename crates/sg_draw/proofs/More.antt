@@ -1,14 +1,16 @@
 -- Rows and their labels, one after the other.
-use Rattle.std.proofs.Common.{◌≡◌, ℕ, ◌+◌, ◌<◌, List, [], ◌∷◌, ◌++◌, length, map, sym, ◌∙◌, ap, append_assoc, take, arith}
-use Rattle.std.specs.Prelude.{codes, slice_index_or}
+use Rattle.std.proofs.Common.{◌≡◌, ℕ, ◌+◌, ◌<◌, List, [], ◌∷◌, ◌++◌, Some, length, map, sym, ◌∙◌, ap, append_assoc, take, arith}
+use Rattle.std.specs.Prelude.{codes, slice_get, slice_index_or}
 use Rattle.std.specs.Fmt.{decimal}
 use Rattle.std.proofs.lemmas.List.{map-append, take_more}
+use Rattle.sg_facts.proofs.Places.{take_next}
 use Rattle.sg_facts.specs.Facts.{Facts}
 use Rattle.sg_facts.specs.Trace.{Boot}
 use Rattle.sg_facts.specs.declared.entry.Entry.{Entry}
 use Rattle.sg_draw.proofs.Pieces.{append_nil}
 use Rattle.sg_draw.specs.Labels.{label_of, labels_from}
-use Rattle.sg_draw.specs.Inside.Rows.{stop_labels}
+use Rattle.sg_draw.specs.Inside.Rows.{labels_in, stop_labels}
+use Rattle.sg_draw.specs.declared.rows.Row.{Row}
 
 -- one element more
 pub one_more : {A : Type 0} (xs : List A) (n : ℕ) (x : A) → n < length xs → x ≡ slice_index_or xs n x → take (n + 1) xs ≡ take n xs ++ x ∷ []
@@ -17,6 +19,14 @@ one_more xs n x at own = take_more xs n x at ∙ ap (λ y. take n xs ++ y ∷ []
 -- what is made of one element more
 pub map_more : {A B : Type 0} (f : A → B) (xs : List A) (n : ℕ) (x : A) → n < length xs → x ≡ slice_index_or xs n x → map f (take (n + 1) xs) ≡ map f (take n xs) ++ f x ∷ []
 map_more f xs n x at own = ap (map f) (one_more xs n x at own) ∙ map-append f (take n xs) (x ∷ [])
+
+-- one row more, whose label is what is made of what is found after the first elements
+pub labels_next : {A : Type 0} (f : A → List ℕ) (xs : List A) (at : ℕ) (x : A) (first : List (List ℕ)) (rows new : List Row) (row : Row) → slice_get xs at ≡ Some x
+    → labels_in rows ≡ first ++ map f (take at xs) → row.label ≡ f x → new ≡ rows ++ row ∷ [] → labels_in new ≡ first ++ map f (take (at + 1) xs)
+labels_next f xs at x first rows new row found before label adds =
+    ap labels_in adds ∙ map-append (λ (r : Row). r.label) rows (row ∷ []) ∙ ap (λ l. l ++ row.label ∷ []) before ∙ ap (λ t. (first ++ map f (take at xs)) ++ t ∷ []) label
+    ∙ append_assoc first (map f (take at xs)) (f x ∷ [])
+    ∙ sym (ap (λ l. first ++ l) (ap (map f) (take_next xs at x found) ∙ map-append f (take at xs) (x ∷ [])))
 
 -- the labels of a boot of this number
 abbrev pub boot_labels : Facts → List Entry → ℕ → Boot → List (List ℕ)

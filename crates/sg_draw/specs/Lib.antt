@@ -1,4 +1,3 @@
--- What the contracts of private functions cite, and no clause of the program.
 pub mod Inside
 pub mod Labels
 pub mod Pictures

@@ -1,26 +1,28 @@
 // What is written beside the rows of a picture.
 ghost use Rattle.std.specs.Prelude.{◌≡◌, ◌++◌, IfOk, OnOk, codes};
 ghost use Rattle.std.specs.Fmt.{decimal};
-ghost use Rattle.std.specs.Option.{option_copied};
+ghost use Rattle.std.specs.Option.{option_map};
+ghost use Rattle.sg_facts.specs.Lent.{item_in, outcome_in, tag_in};
+ghost use Rattle.sg_report.specs.sg_hist.Lent.{entry_in};
 ghost use Rattle.sg_draw.specs.Labels.{answer_told, label_of, reply_told};
 ghost use Rattle.sg_draw.specs.Pictures.{client_name, title_of};
 ghost use Rattle.sg_draw.specs.Inside.Places.{ArePlaces};
 
 use crate::places::{Places, entry_of};
-use sg_facts::{Bytes, Entry, Interface, Item, NoMemory, Outcome, Tag};
-use sg_report::{push_answer, push_item, push_number};
+use sg_facts::{Bytes, Interface, LentItem, LentOutcome, LentTag, NoMemory};
+use sg_report::{History, LentEntry, push_answer, push_item, push_number};
 use std::alloc::Global;
 
 /// The label of an item: its line in the trace, and after a call of a client that replied its reply, where the history has the call.
 pub(crate) fn item_label(
     alloc: Global,
     iface: &Interface,
-    history: &[Entry],
+    history: &History,
     places: &Places,
-    item: &Item,
+    item: &LentItem,
 ) -> Result<Bytes, NoMemory>
-    requires { ArePlaces places.now.entries history.now }
-    ensures { IfOk result (λ label. label ≡ label_of iface.now.facts history.now item.now) }
+    requires { ArePlaces places.now.entries history.now.items }
+    ensures { IfOk result (λ label. label ≡ label_of iface.now.facts history.now.items (item_in item.now)) }
 {
     let mut label = Bytes::new(alloc);
     push_item(&mut label, iface, item)?;
@@ -32,15 +34,15 @@ pub(crate) fn item_label(
 fn push_told(
     out: &mut Bytes,
     iface: &Interface,
-    history: &[Entry],
+    history: &History,
     places: &Places,
-    item: &Item,
+    item: &LentItem,
 ) -> Result<(), NoMemory>
-    requires { ArePlaces places.now.entries history.now }
-    ensures { OnOk result (out.new ≡ out.old ++ answer_told iface.now.facts history.now item.now.tag item.now.outcome) }
+    requires { ArePlaces places.now.entries history.now.items }
+    ensures { OnOk result (out.new ≡ out.old ++ answer_told iface.now.facts history.now.items (tag_in item.now.tag) (outcome_in item.now.outcome)) }
 {
     match (&item.tag, &item.outcome) {
-        (Tag::Client { client, seq }, Outcome::Replied { .. }) => {
+        (LentTag::Client { client, seq }, LentOutcome::Replied { .. }) => {
             push_reply(out, iface, entry_of(places, history, *client, *seq))
         }
         _ => Ok(()),
@@ -48,8 +50,8 @@ fn push_told(
 }
 
 // The reply of an entry, where there is one.
-fn push_reply(out: &mut Bytes, iface: &Interface, entry: Option<&Entry>) -> Result<(), NoMemory>
-    ensures { OnOk result (out.new ≡ out.old ++ reply_told iface.now.facts (option_copied entry.entry)) }
+fn push_reply(out: &mut Bytes, iface: &Interface, entry: Option<LentEntry>) -> Result<(), NoMemory>
+    ensures { OnOk result (out.new ≡ out.old ++ reply_told iface.now.facts (option_map entry_in entry.entry)) }
 {
     match entry {
         None => Ok(()),

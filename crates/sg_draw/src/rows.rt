@@ -9,8 +9,10 @@ ghost use Rattle.sg_draw.specs.Inside.Rows.{labels_in, stop_labels};
 
 use crate::labels::{item_label, numbered};
 use crate::places::{Places, places_of};
-use sg_facts::{BootLog, Bytes, Entry, Interface, Item, ListOf, NoMemory, Outcome, Tag};
-use sg_report::Ended;
+use sg_facts::{
+    BootLog, Bytes, Interface, ItemList, LentItem, LentOutcome, LentTag, ListOf, NoMemory,
+};
+use sg_report::{Ended, History};
 use std::alloc::Global;
 
 /// Why the service was asked, as a picture shows it.
@@ -58,7 +60,7 @@ pub(crate) type RowList = ListOf<Row>;
 pub(crate) fn rows_of(alloc: Global, iface: &Interface, ended: &Ended) -> Result<RowList, NoMemory>
     ensures { IfOk result (λ rows. labels_in rows ≡ labels_of iface.now.facts ended.now) }
 {
-    let history = ended.history.as_slice();
+    let history = &ended.history;
     let places = places_of(alloc, history)?;
     let mut rows = RowList::new(alloc);
     add_boots(
@@ -82,16 +84,16 @@ fn add_boots(
     alloc: Global,
     rows: &mut RowList,
     iface: &Interface,
-    history: &[Entry],
+    history: &History,
     places: &Places,
     boots: &[BootLog],
 ) -> Result<(), NoMemory>
-    requires { ArePlaces places.now.entries history.now }
-    ensures { OnOk result (labels_in rows.new ≡ labels_in rows.old ++ labels_from iface.now.facts history.now 1 (map boot_of boots.now)) }
+    requires { ArePlaces places.now.entries history.now.items }
+    ensures { OnOk result (labels_in rows.new ≡ labels_in rows.old ++ labels_from iface.now.facts history.now.items 1 (map boot_of boots.now)) }
 {
     'boots: for (at, boot) in boots.iter().enumerate() {
         add_boot(alloc, rows, at as u64 + 1)?;
-        add_items(alloc, rows, iface, history, places, boot.items.as_slice())?;
+        add_items(alloc, rows, iface, history, places, &boot.items)?;
         add_stop(alloc, rows, boot.stop)?;
     }
     Ok(())
@@ -109,21 +111,23 @@ fn add_boot(alloc: Global, rows: &mut RowList, number: u64) -> Result<(), NoMemo
 }
 
 // The rows of items.
+#[tactic(auto, using(std::proofs::lemmas::Grind::common_steps, sg_facts::proofs::Places::take_next))]
 fn add_items(
     alloc: Global,
     rows: &mut RowList,
     iface: &Interface,
-    history: &[Entry],
+    history: &History,
     places: &Places,
-    items: &[Item],
+    items: &ItemList,
 ) -> Result<(), NoMemory>
-    requires { ArePlaces places.now.entries history.now }
-    ensures { OnOk result (labels_in rows.new ≡ labels_in rows.old ++ map (label_of iface.now.facts history.now) items.now) }
+    requires { ArePlaces places.now.entries history.now.items }
+    ensures { OnOk result (labels_in rows.new ≡ labels_in rows.old ++ map (label_of iface.now.facts history.now.items) items.now.items) }
 {
-    'items: for item in items {
-        let label = item_label(alloc, iface, history, places, item)?;
+    'items: for at in 0..items.len() {
+        let item = items.at(at);
+        let label = item_label(alloc, iface, history, places, &item)?;
         rows.push(Row {
-            event: Event::Item(turn_of(item)),
+            event: Event::Item(turn_of(&item)),
             label,
         })?;
     }
@@ -147,15 +151,15 @@ fn add_stop(alloc: Global, rows: &mut RowList, stop: Option<u64>) -> Result<(), 
 }
 
 // An item, as a picture shows it.
-fn turn_of(item: &Item) -> Turn {
-    let (asked, client) = match &item.tag {
-        Tag::Client { client, .. } => (Asked::Call, *client),
-        Tag::Walk { client, .. } => (Asked::Walk, *client),
-        Tag::Load { client, .. } => (Asked::Load, *client),
+fn turn_of(item: &LentItem) -> Turn {
+    let (asked, client) = match item.tag {
+        LentTag::Client { client, .. } => (Asked::Call, client),
+        LentTag::Walk { client, .. } => (Asked::Walk, client),
+        LentTag::Load { client, .. } => (Asked::Load, client),
     };
     Turn {
         asked,
         client,
-        waits: matches!(item.outcome, Outcome::Blocks),
+        waits: matches!(item.outcome, LentOutcome::Blocks),
     }
 }

@@ -1,4 +1,3 @@
 mod Adding
-mod Entries
 mod Summing
 mod Trying

@@ -7,7 +7,6 @@
 //! - `scripts`: a script with other stops
 //! - `stops`: the points at which a play stops (`StopsAt`), and rows of them (`Row`)
 //! - `outcomes`: what is kept of a play (`Outcome`)
-//! - `same`: whether two histories have the same entries
 //! - `tally`: what is counted of plays (`Tally`), and the first that differs (`Shown`)
 //! - `text`: what is printed of a tally
 //!
@@ -19,7 +18,6 @@ mod outcomes;
 mod plays;
 mod progress;
 mod rows;
-mod same;
 mod scripts;
 mod stops;
 mod tally;

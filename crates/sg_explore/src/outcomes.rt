@@ -6,7 +6,6 @@ ghost use Rattle.sg_report.specs.sg_hist.Recovered.{is_blocked, struck_in};
 ghost use Rattle.sg_explore.specs.Inside.Stopping.{points_of};
 ghost use Rattle.sg_explore.specs.Inside.Sums.{outcome_of};
 
-use crate::same::are_same;
 use crate::stops::StopsAt;
 use sg_facts::BootLog;
 use sg_report::{End, Ended, count_replays};
@@ -31,7 +30,7 @@ impl Outcome {
             stopped: stops_in(ended.trace.boots.as_slice()) == stops.count(),
             replays: count_replays(&ended.trace),
             waits: is_waiting(ended.ends.as_slice()),
-            differs: !are_same(ended.history.as_slice(), plain.history.as_slice()),
+            differs: !ended.history.is_same(&plain.history),
         }
     }
 }

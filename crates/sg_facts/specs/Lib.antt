@@ -12,6 +12,7 @@ pub mod Invoke
 pub mod Kinds
 pub mod Laws
 pub mod Legal
+pub mod Lent
 pub mod Limits
 pub mod Needs
 pub mod Object
@@ -23,4 +24,5 @@ pub mod Track
 pub mod WalkArray
 pub mod Walks
 pub mod Words
-pub use Rattle.sg_base.specs as sg_base
+pub use Rattle.sg_records.specs.sg_base as sg_base
+pub use Rattle.sg_records.specs as sg_records

@@ -7,6 +7,7 @@
 //! - `outcome`: what asking a service gives (`Outcome`, `Patch`)
 //! - `path`: the path of a file as a key (`FilePath`)
 //! - `trace`: what was done to a service, boot by boot (`Trace`, `BootLog`, `Item`, `Tag`)
+//! - `items`: the items of one boot, in few bytes (`ItemList`), and an asking by its parts (`Asking`); `lent`: items, lent (`LentItem`, `LentTag`, `LentOutcome`)
 //! - `tables`: an interface with its walks (`Tables`, `WalkLine`)
 //! - `walk`: the functions whose calls rebuild a descriptor (`Walk`)
 //! - `service`: the trait `Service`
@@ -22,7 +23,9 @@
 
 mod entry;
 mod interface;
+mod items;
 mod laws;
+mod lent;
 mod limits;
 mod outcome;
 mod path;
@@ -36,7 +39,9 @@ mod words;
 
 pub use entry::Entry;
 pub use interface::Interface;
+pub use items::{Asking, ItemList};
 pub use laws::legal_from_the_front;
+pub use lent::{LentItem, LentOutcome, LentTag};
 pub use limits::{
     END_OF_FUNS, LAST_CLIENT, MOST_FIELDS, MOST_FILE, MOST_FUNS, MOST_LIVE, MOST_PATH, MOST_WRITTEN,
 };
@@ -44,13 +49,14 @@ pub use outcome::{Outcome, Patch, PatchRoom};
 pub use path::FilePath;
 pub use row::{Fields, FieldsRoom, Row};
 pub use service::Service;
-pub use sg_base::{
-    Args, Bytes, Call, Code, Good, IdList, ListOf, NoMemory, PairList, Path, Point, PointList,
-    Reply, ReplyRoom, RoomyList, SpareList, SpareReply, Stops, Text, TextFault, TextRoom, TryCopy,
-    Value, Words, is_text_byte,
+pub use sg_records::{
+    Args, Brief, Bytes, Call, Code, Gave, Good, IdList, Lent, LentArgs, LentBrief, LentCall,
+    LentGood, LentReply, ListOf, NoMemory, PairList, Path, Point, PointList, Records, Reply,
+    ReplyRoom, RoomyList, SpareList, SpareReply, Stops, Text, TextFault, TextRoom, TryCopy, Value,
+    Why, Words, gave_of, is_brief_call, is_text_byte, reply_words,
 };
 pub use shape::{Effect, FieldShape, FunShape, Kind, Leaves, Parents, Shape};
 pub use tables::{Tables, WalkLine, WalkList};
-pub use trace::{BootList, BootLog, Item, ItemList, Tag, Trace};
+pub use trace::{BootList, BootLog, Item, Tag, Trace};
 pub use walk::Walk;
 pub use words::{close_word, field_name, flag_word, parents_word};

@@ -3,8 +3,8 @@ ghost use Rattle.std.specs.Prelude.{◌≡◌, ◌++◌, ◌∷◌, [], IfOk, On
 ghost use Rattle.sg_facts.specs.Trace.{run_of};
 ghost use Rattle.sg_facts.specs.Inside.Rows.{boot_of};
 
-use crate::Outcome;
-use sg_base::{Call, NoMemory, Path, RoomyList, TryCopy};
+use crate::{ItemList, Outcome};
+use sg_records::{Call, NoMemory, Path, RoomyList, TryCopy};
 use std::alloc::Global;
 
 /// Why the service was asked.
@@ -31,9 +31,6 @@ pub struct Item {
     /// What it gave, under the service's ids. A load gives an Ok without words, and a patch of the whole file.
     pub outcome: Outcome,
 }
-
-/// The askings of one boot, with room for more.
-pub type ItemList = RoomyList<Item>;
 
 /// What was done between two boots.
 #[derive(Debug, Drop)]

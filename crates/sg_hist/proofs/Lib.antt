@@ -1,1 +1,4 @@
+pub mod BriefEntries
 pub mod Growing
+pub mod OwnEntries
+pub mod SameEntries

@@ -1,26 +1,32 @@
 // The calls that were done.
-ghost use Rattle.std.specs.Prelude.{◌≡◌, ◌↔◌, ◌+◌, ◌<◌, ◌≤◌, [], ◌∷◌, ◌++◌, None, length, IsTrue, IsOk, IfOk, IfSome, OnOk, OnErr, OnSome, slice_get};
-ghost use Rattle.std.specs.Option.{option_copied};
+ghost use Rattle.std.specs.Prelude.{◌≡◌, ◌↔◌, ◌+◌, ◌<◌, ◌≤◌, [], ◌∷◌, ◌++◌, Some, length, IsTrue, IsOk, IfOk, IfSome, OnOk, OnErr, slice_get};
+ghost use Rattle.std.specs.Option.{option_map};
 ghost use Rattle.sg_hist.specs.Clients.{calls_of};
+ghost use Rattle.sg_hist.specs.Inside.Entries.{IsBriefEntry};
+ghost use Rattle.sg_hist.specs.Lent.{entry_in};
 
-use sg_facts::{Entry, NoMemory, RoomyList, TryCopy};
+use crate::lent::LentEntry;
+use sg_facts::{Brief, Entry, NoMemory, Records, Why, gave_of, is_brief_call, reply_words};
 use std::alloc::Global;
 use std::marker::Model;
 
-/// The calls that were done, with their replies, in the order in which they were committed. Contracts see its entries
-/// as `items`, and as `room` the number of entries that it can take without memory.
+/// The calls that were done, with their replies, in the order in which they were committed. An entry whose call and reply have words alone
+/// takes 40 bytes, and 8 for each word; any other is kept as it was added. Contracts see the entries as `items`, and as `room` the number
+/// of entries that the history can take without memory.
 #[derive(Debug, Drop)]
 pub struct History {
-    entries: RoomyList<Entry>,
+    records: Records<Entry>,
 }
 
 impl Model for History {
+    ghost use Rattle.std.specs.Prelude.{map};
     ghost use Rattle.sg_facts.specs.sg_base.Room.{Roomy};
     ghost use Rattle.sg_facts.specs.declared.entry.Entry.{Entry};
+    ghost use Rattle.sg_hist.specs.Inside.Entries.{entry_of};
 
     ghost Value = { Roomy Entry };
 
-    ghost view = { λ h. h.entries };
+    ghost view = { λ h. record { items = map entry_of h.records.items; room = h.records.room } };
 }
 
 impl History {
@@ -29,18 +35,19 @@ impl History {
         ensures { result.items ≡ [] }
     {
         History {
-            entries: RoomyList::new(alloc),
+            records: Records::new(alloc),
         }
     }
 
-    /// Takes the memory for `more` entries. The entries stay and room is never lost, whatever the answer.
+    /// Takes the memory for `more` entries. The entries stay and room is never lost, whatever the answer. `NoMemory` also where the
+    /// history would be too long: at about 4 billion words.
     pub fn reserve(&mut self, more: usize) -> Result<(), NoMemory>
         ensures ok { OnOk result (more ≤ self.new.room) }
         ensures items { self.new.items ≡ self.old.items }
         ensures room { self.old.room ≤ self.new.room }
         ensures succeeds { more ≤ self.old.room → IsOk result }
     {
-        self.entries.reserve(more)
+        self.records.reserve(more)
     }
 
     /// Adds an entry at the end, into the room that there is.
@@ -49,7 +56,10 @@ impl History {
         ensures items { self.new.items ≡ self.old.items ++ entry ∷ [] }
         ensures room { self.old.room ≤ self.new.room + 1 }
     {
-        self.entries.add(entry);
+        match in_brief(&entry) {
+            Some(brief) => self.add_brief(&brief, &entry),
+            None => self.add_whole(entry),
+        }
     }
 
     /// Adds an entry at the end. After `NoMemory` the entries are as before.
@@ -57,47 +67,90 @@ impl History {
         ensures ok { OnOk result (self.new.items ≡ self.old.items ++ entry ∷ []) }
         ensures err { OnErr result (self.new.items ≡ self.old.items) }
     {
-        self.entries.reserve(1)?;
-        self.entries.add(entry);
+        self.reserve(1)?;
+        self.add(entry);
         Ok(())
     }
 
-    /// Takes the last entry away and leaves its room; None exactly where there is none.
-    pub fn pop(&mut self) -> Option<Entry>
-        ensures some { IfSome result (λ last. self.old.items ≡ self.new.items ++ last ∷ []) }
-        ensures none { (result ≡ None) ↔ (self.old.items ≡ []) }
-        ensures room { self.old.room ≤ self.new.room }
-        ensures freed { OnSome result (self.old.room + 1 ≤ self.new.room) }
+    // Adds an entry at the end in brief.
+    fn add_brief(&mut self, brief: &Brief, entry: &Entry)
+        requires room { 0 < self.old.room }
+        requires brief { IsBriefEntry brief.now entry.now }
+        ensures items { self.new.items ≡ self.old.items ++ entry.now ∷ [] }
+        ensures room { self.old.room ≤ self.new.room + 1 }
     {
-        self.entries.pop()
+        let args = entry.call.args.as_slice();
+        self.records
+            .add_brief(brief, args, reply_words(&entry.reply));
+    }
+
+    // Adds an entry at the end as it is.
+    fn add_whole(&mut self, entry: Entry)
+        requires { 0 < self.old.room }
+        ensures items { self.new.items ≡ self.old.items ++ entry ∷ [] }
+        ensures room { self.old.room ≤ self.new.room + 1 }
+    {
+        self.records.add_whole(entry);
     }
 
     /// The number of entries.
     pub fn len(&self) -> usize
         ensures { result ≡ length self.now.items }
     {
-        self.entries.len()
+        self.records.len()
     }
 
     /// Whether there is no entry.
     pub fn is_empty(&self) -> bool
         ensures { IsTrue result ↔ (self.now.items ≡ []) }
     {
-        self.entries.is_empty()
+        self.len() == 0
     }
 
-    /// The entry at a place, counted from 0; None exactly where `at` isn't below the length.
-    pub fn get(&self, at: usize) -> Option<&Entry>
-        ensures { option_copied result ≡ slice_get self.now.items at }
+    /// The entry at a place, counted from 0, lent; None exactly where `at` isn't below the length.
+    pub fn get(&self, at: usize) -> Option<LentEntry<'_>>
+        ensures { option_map entry_in result ≡ slice_get self.now.items at }
     {
-        self.entries.get(at)
+        match self.records.get(at) {
+            Some(record) => Some(LentEntry::of_record(record)),
+            None => None,
+        }
     }
 
-    /// The entries, lent.
-    pub fn as_slice(&self) -> &[Entry]
-        ensures { result.now ≡ self.now.items }
+    /// The entry at a place that there is, counted from 0, lent.
+    #[tactic(auto, using(std::proofs::lemmas::Option::gets, sg_facts::proofs::Places::none_past))]
+    pub fn at(&self, at: usize) -> LentEntry<'_>
+        requires { at < length self.now.items }
+        ensures { slice_get self.now.items at ≡ Some (entry_in result) }
     {
-        self.entries.as_slice()
+        match self.get(at) {
+            Some(entry) => entry,
+            None => unreachable!(),
+        }
+    }
+
+    /// A copy of the entry at a place that there is, counted from 0.
+    pub fn entry(&self, alloc: Global, at: usize) -> Result<Entry, NoMemory>
+        requires { at < length self.now.items }
+        ensures { IfOk result (λ entry. slice_get self.now.items at ≡ Some entry) }
+    {
+        self.at(at).copied(alloc)
+    }
+
+    /// Whether it has the same entries as another, in the same order.
+    #[tactic(auto, using(std::proofs::lemmas::Grind::common_steps))]
+    pub fn is_same(&self, other: &History) -> bool
+        ensures { IsTrue result ↔ (self.now.items ≡ other.now.items) }
+    {
+        if self.len() != other.len() {
+            return false;
+        }
+        'entries: for at in 0..self.len() {
+            if !self.at(at).is_same(&other.at(at)) {
+                return false;
+            }
+        }
+        true
     }
 
     /// A history of equal entries; its room is its own.
@@ -105,20 +158,42 @@ impl History {
         ensures { IfOk result (λ copy. copy.items ≡ self.now.items) }
     {
         Ok(History {
-            entries: self.entries.copied(alloc)?,
+            records: self.records.copied(alloc)?,
         })
     }
 
     /// The entries of one client, in their order.
+    #[tactic(auto, using(std::proofs::lemmas::Grind::common_steps, sg_facts::proofs::Places::take_next))]
     pub fn of_client(&self, alloc: Global, client: u8) -> Result<History, NoMemory>
         ensures { IfOk result (λ own. own.items ≡ calls_of self.now.items client) }
     {
         let mut own = History::new(alloc);
-        for entry in self.entries.as_slice() {
+        for at in 0..self.len() {
+            let entry = self.at(at);
             if entry.call.client == client {
-                own.push(entry.copy(alloc)?)?;
+                own.push(entry.copied(alloc)?)?;
             }
         }
         Ok(own)
     }
+}
+
+// An entry in brief, where it can be kept so.
+fn in_brief(entry: &Entry) -> Option<Brief>
+    ensures { IfSome result (λ brief. IsBriefEntry brief entry.now) }
+{
+    let gave = gave_of(&entry.reply)?;
+    if !is_brief_call(&entry.call) {
+        return None;
+    }
+    Some(Brief {
+        points: 0,
+        real: 0,
+        desc: entry.call.desc,
+        client: entry.call.client,
+        seq: entry.call.seq,
+        fun: entry.call.fun,
+        why: Why::Own,
+        gave,
+    })
 }

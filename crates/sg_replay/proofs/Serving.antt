@@ -56,38 +56,38 @@ kept_failed {e = e} cell kept failed = record {
   walks = kept.walks;
 }
 
--- ---- outcomes: the service is asked a call, which is copied, and copied under the service's ids
+-- ---- outcomes: the service is asked a call, which is copied under the service's ids
 
-module _ {e now : Engined} (is : e ≡ now) {call shown real : Call} (copied : shown ≡ call) (named : real ≡ real_call e call) where
+module _ {e now : Engined} (is : e ≡ now) (call : Call) {real : Call} (named : real ≡ real_call e call) where
   -- the service is up
   up_in : (held : Object) → now.cell.running ≡ Some held → e.cell.running ≡ Some held
   up_in held up = ap (λ x. x.cell.running) is ∙ up
 
-  -- what holds of the copies holds of the call
-  of_call : (P : Call → Call → Type 0) → P shown real → P call (real_call e call)
-  of_call P holds = subst (λ x. P call x) named (subst (λ x. P x real) copied holds)
+  -- what holds of the copy holds of the call under the service's ids
+  of_call : (P : Call → Type 0) → P real → P (real_call e call)
+  of_call P holds = subst P named holds
 
   module _ {cell : Celled} {points later : Points} where
     -- the caller has to wait
-    pub told_wait : {ask : Table} → IfUp e (λ held. NotesWait ask held e.cell (tag_of call) shown real points cell later)
+    pub told_wait : {ask : Table} → IfUp e (λ held. NotesWait ask held e.cell (tag_of call) call real points cell later)
         → IfUp now (λ held. NotesWait ask held now.cell (tag_of call) call (real_call now call) points cell later × KeepsNames now (changed e cell e.names))
     told_wait {ask = ask} invoked held up =
         subst (λ x. NotesWait ask held x.cell (tag_of call) call (real_call x call) points cell later × KeepsNames x (changed e cell e.names)) is
-        (of_call (λ a b. NotesWait ask held e.cell (tag_of call) a b points cell later) (invoked held (up_in held up)), λ id. refl)
+        (of_call (λ b. NotesWait ask held e.cell (tag_of call) call b points cell later) (invoked held (up_in held up)), λ id. refl)
 
     pub kept_wait : {facts : Facts} {ask : Table} → IsEngine facts e → MayServe facts ask now call
-        → IfUp e (λ held. NotesWait ask held e.cell (tag_of call) shown real points cell later) → IsEngine facts (changed e cell e.names)
+        → IfUp e (λ held. NotesWait ask held e.cell (tag_of call) call real points cell later) → IsEngine facts (changed e cell e.names)
     kept_wait kept may invoked = let up = up_in may.held may.up in kept_going cell kept ((invoked may.held up).running ∙ sym up)
 
     -- the service stopped
-    pub told_stop : {ask : Table} {parts : ℕ → ℕ} → IfUp e (λ held. NotesStop ask parts held e.cell (tag_of call) shown real points cell later)
+    pub told_stop : {ask : Table} {parts : ℕ → ℕ} → IfUp e (λ held. NotesStop ask parts held e.cell (tag_of call) call real points cell later)
         → IfUp now (λ held. NotesStop ask parts held now.cell (tag_of call) call (real_call now call) points cell later × KeepsNames now (changed e cell e.names))
     told_stop {ask = ask} {parts = parts} invoked held up =
         subst (λ x. NotesStop ask parts held x.cell (tag_of call) call (real_call x call) points cell later × KeepsNames x (changed e cell e.names)) is
-        (of_call (λ a b. NotesStop ask parts held e.cell (tag_of call) a b points cell later) (invoked held (up_in held up)), λ id. refl)
+        (of_call (λ b. NotesStop ask parts held e.cell (tag_of call) call b points cell later) (invoked held (up_in held up)), λ id. refl)
 
     pub kept_stop : {facts : Facts} {ask : Table} {parts : ℕ → ℕ} → IsEngine facts e → MayServe facts ask now call
-        → IfUp e (λ held. NotesStop ask parts held e.cell (tag_of call) shown real points cell later) → IsEngine facts (changed e cell e.names)
+        → IfUp e (λ held. NotesStop ask parts held e.cell (tag_of call) call real points cell later) → IsEngine facts (changed e cell e.names)
     kept_stop kept may invoked = kept_failed cell kept (invoked may.held (up_in may.held may.up)).running
 
     -- the service had no memory
@@ -101,12 +101,12 @@ module _ {e now : Engined} (is : e ≡ now) {call shown real : Call} (copied : s
 
     -- the service replied
     module _ {facts : Facts} {ask : Table} {parts : ℕ → ℕ} {reply : Reply} {patch : Option Patch} {is_new : Bool} (kept : IsEngine facts e) (may : MayServe facts ask now call)
-        (invoked : IfUp e (λ held. NotesReply facts ask parts held e.cell (tag_of call) shown real points reply patch cell later)) (made : is_new ≡ makes e.tables.iface.facts call) where
+        (invoked : IfUp e (λ held. NotesReply facts ask parts held e.cell (tag_of call) call real points reply patch cell later)) (made : is_new ≡ makes e.tables.iface.facts call) where
       before : MayServe facts ask e call
       before = subst (λ x. MayServe facts ask x call) (sym is) may
 
       notes : IfUp e (λ held. NotesReply facts ask parts held e.cell (tag_of call) call (real_call e call) points reply patch cell later)
-      notes held up = of_call (λ a b. NotesReply facts ask parts held e.cell (tag_of call) a b points reply patch cell later) (invoked held up)
+      notes held up = of_call (λ b. NotesReply facts ask parts held e.cell (tag_of call) call b points reply patch cell later) (invoked held up)
 
       -- whether it made a descriptor
       new_is : is_new ≡ makes facts call

@@ -127,7 +127,7 @@ impl<S: Service> Engine<S> {
         let (shown, last) = walk_call(alloc, &self.tables, self.rows.row(id), k)?;
         let real = real_call(alloc, &self.names, &shown)?;
         let tag = Tag::Walk { id, k, client };
-        match self.cell.invoke(alloc, stops, tag, shown, &real) {
+        match self.cell.invoke(alloc, stops, tag, &shown, real) {
             Outcome::Replied { reply, patch } => {
                 drop(patch);
                 match reply {

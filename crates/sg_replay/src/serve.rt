@@ -6,7 +6,7 @@ ghost use Rattle.sg_replay.specs.Serving.{MayServe, ServesOne, makes};
 
 use crate::engine::Engine;
 use crate::names::{real_call, tell};
-use sg_facts::{Call, Outcome, Service, Stops, Tables, Tag, TryCopy};
+use sg_facts::{Call, Outcome, Service, Stops, Tables, Tag};
 use std::alloc::Global;
 
 impl<S: Service> Engine<S> {
@@ -30,9 +30,6 @@ impl<S: Service> Engine<S> {
         ensures test { T.test (T.asked stops.old) (T.struck stops.old) (T.plan stops.old)
             → T.test (T.asked stops.new) (T.struck stops.new) (T.plan stops.new) }
     {
-        let Ok(shown) = call.copy(alloc) else {
-            return Outcome::NoMemory;
-        };
         let Ok(real) = real_call(alloc, &self.names, call) else {
             return Outcome::NoMemory;
         };
@@ -40,7 +37,7 @@ impl<S: Service> Engine<S> {
             client: call.client,
             seq: call.seq,
         };
-        match self.cell.invoke(alloc, stops, tag, shown, &real) {
+        match self.cell.invoke(alloc, stops, tag, call, real) {
             Outcome::Replied { reply, patch } => {
                 let is_new = makes(&self.tables, call);
                 let next = self.storage.next_id();

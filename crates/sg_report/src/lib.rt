@@ -13,6 +13,6 @@ mod traced;
 mod words;
 
 pub use printed::{load_line, text};
-pub use sg_hist::{End, EndList, Ended, History};
-pub use traced::{count_replays, push_item};
+pub use sg_hist::{End, EndList, Ended, History, LentEntry};
+pub use traced::{count_replays, is_replay, push_item};
 pub use words::{push_answer, push_call, push_number};

@@ -6,12 +6,13 @@ ghost use Rattle.sg_facts.specs.Trace.{run_of};
 ghost use Rattle.sg_facts.specs.Words.{line_end};
 ghost use Rattle.sg_facts.specs.Facts.{facts_of};
 ghost use Rattle.sg_report.specs.Report.{counts_text, entry_line, load_line_of, report_of, end_text};
+ghost use Rattle.sg_hist.specs.Lent.{entry_in};
 ghost use Rattle.sg_report.specs.Inside.Pieces.{blocked_among};
 
 use crate::traced::{push_trace, replays_in};
 use crate::words::{push_answer, push_call, push_number};
-use sg_facts::{Bytes, Entry, Interface, NoMemory, Shape, Trace};
-use sg_hist::{End, Ended};
+use sg_facts::{Bytes, Interface, LentCall, NoMemory, Shape, Trace};
+use sg_hist::{End, Ended, History, LentEntry};
 use std::alloc::Global;
 
 /// The printed run: a line for each entry of its history, a line for each client that has a call, the counts of entries, boots
@@ -26,9 +27,9 @@ pub fn text(
     ensures { IfOk result (λ bytes. bytes ≡ report_of iface.now.facts ended.now with_trace) }
 {
     let mut out = Bytes::new(alloc);
-    push_entries(&mut out, iface, ended.history.as_slice())?;
+    push_entries(&mut out, iface, &ended.history)?;
     push_ends(&mut out, iface, ended.ends.as_slice())?;
-    push_counts(&mut out, ended.history.as_slice(), &ended.trace)?;
+    push_counts(&mut out, &ended.history, &ended.trace)?;
     out.extend_from_slice(b"\n")?;
     if with_trace {
         push_trace(&mut out, iface, &ended.trace)?;
@@ -52,7 +53,7 @@ pub fn load_line(
     out.extend_from_slice(b" ")?;
     push_number(&mut out, number)?;
     out.extend_from_slice(b": ")?;
-    push_counts(&mut out, ended.history.as_slice(), &ended.trace)?;
+    push_counts(&mut out, &ended.history, &ended.trace)?;
     out.extend_from_slice(b" blocked ")?;
     push_number(&mut out, blocked_among(ended.ends.as_slice()) as u64)?;
     out.extend_from_slice(b"\n")?;
@@ -72,18 +73,19 @@ fn blocked_among(ends: &[(u8, End)]) -> usize
 }
 
 // A line for each entry.
-fn push_entries(out: &mut Bytes, iface: &Interface, history: &[Entry]) -> Result<(), NoMemory>
-    ensures { OnOk result (out.new ≡ out.old ++ flat_map (entry_line iface.now.facts) history.now) }
+#[tactic(auto, using(std::proofs::lemmas::Grind::common_steps, sg_facts::proofs::Places::take_next))]
+fn push_entries(out: &mut Bytes, iface: &Interface, history: &History) -> Result<(), NoMemory>
+    ensures { OnOk result (out.new ≡ out.old ++ flat_map (entry_line iface.now.facts) history.now.items) }
 {
-    for entry in history {
-        push_entry(out, iface, entry)?;
+    'entries: for at in 0..history.len() {
+        push_entry(out, iface, &history.at(at))?;
     }
     Ok(())
 }
 
 // The line of an entry.
-fn push_entry(out: &mut Bytes, iface: &Interface, entry: &Entry) -> Result<(), NoMemory>
-    ensures { OnOk result (out.new ≡ out.old ++ entry_line iface.now.facts entry.now) }
+fn push_entry(out: &mut Bytes, iface: &Interface, entry: &LentEntry) -> Result<(), NoMemory>
+    ensures { OnOk result (out.new ≡ out.old ++ entry_line iface.now.facts (entry_in entry.now)) }
 {
     out.extend_from_slice(b"c")?;
     push_number(out, u64::from(entry.call.client))?;
@@ -117,14 +119,14 @@ fn push_end(out: &mut Bytes, iface: &Interface, end: &End) -> Result<(), NoMemor
         End::Done => out.extend_from_slice(b" done"),
         End::Blocked(call) => {
             out.extend_from_slice(b" blocked ")?;
-            push_call(out, iface, call)
+            push_call(out, iface, &LentCall::of(call))
         }
     }
 }
 
 // The counts of entries, boots and replayed calls.
-fn push_counts(out: &mut Bytes, history: &[Entry], trace: &Trace) -> Result<(), NoMemory>
-    ensures { OnOk result (out.new ≡ out.old ++ counts_text history.now (run_of trace.now)) }
+fn push_counts(out: &mut Bytes, history: &History, trace: &Trace) -> Result<(), NoMemory>
+    ensures { OnOk result (out.new ≡ out.old ++ counts_text history.now.items (run_of trace.now)) }
 {
     let boots = trace.boots.as_slice();
     out.extend_from_slice(b"calls ")?;

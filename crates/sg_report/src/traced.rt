@@ -8,11 +8,15 @@ ghost use Rattle.sg_hist.specs.Reading.{items_of};
 ghost use Rattle.sg_report.specs.Inside.Pieces.{is_replay_for};
 ghost use Rattle.sg_report.specs.Report.{boots_lines, call_text, item_text, outcome_text, replays_for};
 ghost use Rattle.sg_report.specs.Inside.Pieces.{boot_lines, replays_of, stop_line, trace_lines};
+ghost use Rattle.sg_facts.specs.Lent.{outcome_in, tag_in};
 ghost use Rattle.sg_facts.specs.sg_base.Counts.{last_count};
+ghost use Rattle.sg_facts.specs.sg_records.Lent.{call_in};
 ghost use Rattle.sg_facts.specs.Words.{line_end};
 
 use crate::words::{push_call, push_number};
-use sg_facts::{BootLog, Bytes, Call, Interface, Item, NoMemory, Outcome, Tag, Trace};
+use sg_facts::{
+    BootLog, Bytes, Interface, ItemList, LentCall, LentItem, LentOutcome, LentTag, NoMemory, Trace,
+};
 
 /// What was done to the service, boot by boot, and the number of points asked.
 pub fn push_trace(out: &mut Bytes, iface: &Interface, trace: &Trace) -> Result<(), NoMemory>
@@ -46,41 +50,42 @@ fn push_boot(
     out.extend_from_slice(b"boot ")?;
     push_number(out, number)?;
     out.extend_from_slice(b"\n")?;
-    push_items(out, iface, boot.items.as_slice())?;
+    push_items(out, iface, &boot.items)?;
     push_stop(out, boot.stop)
 }
 
 // A line for each item.
-fn push_items(out: &mut Bytes, iface: &Interface, items: &[Item]) -> Result<(), NoMemory>
-    ensures { OnOk result (out.new ≡ out.old ++ flat_map (λ item. item_text iface.now.facts item.tag item.shown item.outcome ++ line_end) items.now) }
+#[tactic(auto, using(std::proofs::lemmas::Grind::common_steps, sg_facts::proofs::Places::take_next))]
+fn push_items(out: &mut Bytes, iface: &Interface, items: &ItemList) -> Result<(), NoMemory>
+    ensures { OnOk result (out.new ≡ out.old ++ flat_map (λ item. item_text iface.now.facts item.tag item.shown item.outcome ++ line_end) items.now.items) }
 {
-    for item in items {
-        push_item(out, iface, item)?;
+    'items: for at in 0..items.len() {
+        push_item(out, iface, &items.at(at))?;
         out.extend_from_slice(b"\n")?;
     }
     Ok(())
 }
 
 /// An item: why the service was asked, for whom, and how it ended, without the end of a line.
-pub fn push_item(out: &mut Bytes, iface: &Interface, item: &Item) -> Result<(), NoMemory>
-    ensures { OnOk result (out.new ≡ out.old ++ item_text iface.now.facts item.now.tag item.now.shown item.now.outcome) }
+pub fn push_item(out: &mut Bytes, iface: &Interface, item: &LentItem) -> Result<(), NoMemory>
+    ensures { OnOk result (out.new ≡ out.old ++ item_text iface.now.facts (tag_in item.now.tag) (call_in item.now.shown) (outcome_in item.now.outcome)) }
 {
-    match &item.tag {
-        Tag::Walk { id, k, client } => {
-            push_walk(out, *id, *k, *client, item.shown.client)?;
+    match item.tag {
+        LentTag::Walk { id, k, client } => {
+            push_walk(out, id, k, client, item.shown.client)?;
             push_asked(out, iface, &item.shown, &item.outcome)
         }
-        Tag::Load { key, client } => {
+        LentTag::Load { key, client } => {
             out.extend_from_slice(b"load ")?;
-            out.extend_from_slice(key.as_slice())?;
+            out.extend_from_slice(key)?;
             out.extend_from_slice(b" for c")?;
-            push_number(out, u64::from(*client))
+            push_number(out, u64::from(client))
         }
-        Tag::Client { client, seq } => {
+        LentTag::Client { client, seq } => {
             out.extend_from_slice(b"call c")?;
-            push_number(out, u64::from(*client))?;
+            push_number(out, u64::from(client))?;
             out.extend_from_slice(b".")?;
-            push_number(out, u64::from(*seq))?;
+            push_number(out, u64::from(seq))?;
             push_asked(out, iface, &item.shown, &item.outcome)
         }
     }
@@ -105,10 +110,10 @@ fn push_walk(out: &mut Bytes, id: u64, k: u8, client: u8, caller: u8) -> Result<
 fn push_asked(
     out: &mut Bytes,
     iface: &Interface,
-    shown: &Call,
-    outcome: &Outcome,
+    shown: &LentCall,
+    outcome: &LentOutcome,
 ) -> Result<(), NoMemory>
-    ensures { OnOk result (out.new ≡ out.old ++ codes " " ++ call_text iface.now.facts shown.now ++ outcome_text outcome.now) }
+    ensures { OnOk result (out.new ≡ out.old ++ codes " " ++ call_text iface.now.facts (call_in shown.now) ++ outcome_text (outcome_in outcome.now)) }
 {
     out.extend_from_slice(b" ")?;
     push_call(out, iface, shown)?;
@@ -116,14 +121,14 @@ fn push_asked(
 }
 
 // How an item ended.
-fn outcome_word(outcome: &Outcome) -> &'static [u8]
-    ensures { result.now ≡ outcome_text outcome.now }
+fn outcome_word(outcome: &LentOutcome) -> &'static [u8]
+    ensures { result.now ≡ outcome_text (outcome_in outcome.now) }
 {
     match outcome {
-        Outcome::Replied { .. } => b" replied",
-        Outcome::Blocks => b" blocked",
-        Outcome::Stopped => b" stopped",
-        Outcome::NoMemory => b" without memory",
+        LentOutcome::Replied { .. } => b" replied",
+        LentOutcome::Blocks => b" blocked",
+        LentOutcome::Stopped => b" stopped",
+        LentOutcome::NoMemory => b" without memory",
     }
 }
 
@@ -154,27 +159,28 @@ pub fn replays_in(boots: &[BootLog]) -> u64
 {
     let mut count = 0;
     'boots: for boot in boots {
-        count = replays_after(count, boot.items.as_slice());
+        count = replays_after(count, &boot.items);
     }
     count
 }
 
 // How many calls of walks replied, where so many did before these items.
-fn replays_after(before: u64, items: &[Item]) -> u64
-    ensures { result ≡ min (before + length (filter (λ item. is_replay_for (λ id. true) item.tag item.outcome) items.now)) last_count }
+#[tactic(auto, using(std::proofs::lemmas::Grind::common_steps, sg_facts::proofs::Places::take_next))]
+fn replays_after(before: u64, items: &ItemList) -> u64
+    ensures { result ≡ min (before + length (filter (λ item. is_replay_for (λ id. true) item.tag item.outcome) items.now.items)) last_count }
 {
     let mut count = before;
-    'items: for item in items {
-        if is_replay(item) {
+    'items: for at in 0..items.len() {
+        if is_replay(&items.at(at)) {
             count = count.saturating_add(1);
         }
     }
     count
 }
 
-// Whether an item is a call of a walk that replied.
-fn is_replay(item: &Item) -> bool
-    ensures { result ≡ is_replay_for (λ id. true) item.now.tag item.now.outcome }
+/// Whether an item is a call of a walk that replied.
+pub fn is_replay(item: &LentItem) -> bool
+    ensures { result ≡ is_replay_for (λ id. true) (tag_in item.now.tag) (outcome_in item.now.outcome) }
 {
-    matches!(item.tag, Tag::Walk { .. }) && matches!(item.outcome, Outcome::Replied { .. })
+    matches!(item.tag, LentTag::Walk { .. }) && matches!(item.outcome, LentOutcome::Replied { .. })
 }

@@ -7,7 +7,7 @@ ghost use Rattle.sg_verify.specs.Lines.{verdict_line_of};
 ghost use Rattle.sg_verify.specs.Inside.Answered.{answered_text, fun_of_entry};
 
 use crate::Verdict;
-use sg_facts::{Bytes, Entry, FunShape, Interface, NoMemory, Reply};
+use sg_facts::{Bytes, FunShape, Interface, LentReply, NoMemory, Reply};
 use sg_report::{History, push_answer, push_number};
 use std::alloc::Global;
 
@@ -26,7 +26,7 @@ pub fn verdict_line(
     match verdict {
         Verdict::Legal => {
             out.extend_from_slice(b"legal ")?;
-            push_number(&mut out, history.as_slice().len() as u64)?;
+            push_number(&mut out, history.len() as u64)?;
         }
         Verdict::BadSeq { at, next } => {
             push_place(&mut out, *at)?;
@@ -35,7 +35,7 @@ pub fn verdict_line(
         }
         Verdict::BadReply { at, answer } => {
             push_place(&mut out, *at)?;
-            let fun = iface.fun(fun_of(history.as_slice(), *at));
+            let fun = iface.fun(fun_of(history, *at));
             push_answered(&mut out, &fun, answer)?;
         }
     }
@@ -53,8 +53,8 @@ fn push_place(out: &mut Bytes, at: u64) -> Result<(), NoMemory>
 }
 
 // The number of the function of the entry at a place, counted from 1; 0 where there is none.
-fn fun_of(history: &[Entry], at: u64) -> u8
-    ensures { result ≡ fun_of_entry (slice_get history.now (at - 1)) }
+fn fun_of(history: &History, at: u64) -> u8
+    ensures { result ≡ fun_of_entry (slice_get history.now.items (at - 1)) }
 {
     match history.get(at.saturating_sub(1) as usize) {
         Some(entry) => entry.call.fun,
@@ -67,7 +67,7 @@ fn push_answered(out: &mut Bytes, fun: &FunShape, answer: &Option<Reply>) -> Res
     ensures { OnOk result (out.new ≡ out.old ++ answered_text (fun_of_shape fun.now) answer.now) }
 {
     match answer {
-        Some(reply) => push_answer(out, fun, reply),
+        Some(reply) => push_answer(out, fun, &LentReply::of(reply)),
         None => out.extend_from_slice(b"blocked"),
     }
 }

@@ -3,15 +3,15 @@ use Rattle.std.proofs.Common.{◌≡◌, ℕ, ◌+◌, ◌^◌, ◌<◌, ◌≤�
 use Rattle.std.specs.Prelude.{◌==◌, ◌||◌}
 use Rattle.std.specs.declared.option.Option.{Option}
 use Rattle.std.specs.Option.{option_map, option_copied, is_some}
-use Rattle.sg_facts.specs.sg_base.declared.value.Value.TheVariants.{Text}
-use Rattle.sg_facts.specs.sg_base.declared.call.Call.{Call}
-use Rattle.sg_facts.specs.sg_base.declared.reply.Reply.{Reply}
-use Rattle.sg_facts.specs.sg_base.declared.reply.Reply.TheVariants.{Ok, Refused}
-use Rattle.sg_facts.specs.declared.row.Row.{Row}
-use Rattle.sg_facts.specs.Kinds.{MayAsk}
-use Rattle.sg_facts.specs.Object.{Object, after}
-use Rattle.sg_facts.specs.Track.{row_at, is_live}
-use Rattle.sg_facts.proofs.RowLists.{live_of_row}
+use Rattle.test_asking.specs.sg_facts.sg_base.declared.value.Value.TheVariants.{Text}
+use Rattle.test_asking.specs.sg_facts.sg_base.declared.call.Call.{Call}
+use Rattle.test_asking.specs.sg_facts.sg_base.declared.reply.Reply.{Reply}
+use Rattle.test_asking.specs.sg_facts.sg_base.declared.reply.Reply.TheVariants.{Ok, Refused}
+use Rattle.test_asking.specs.sg_facts.declared.row.Row.{Row}
+use Rattle.test_asking.specs.sg_facts.Kinds.{MayAsk}
+use Rattle.test_asking.specs.sg_facts.Object.{Object, after}
+use Rattle.test_asking.specs.sg_facts.Track.{row_at, is_live}
+use Rattle.test_asking.proofs.sg_facts.RowLists.{live_of_row}
 use Rattle.sg_ramfs.specs.RamfsFacts.{ramfs_facts}
 use Rattle.sg_ramfs.specs.Laws.RamfsShapeLaw.{ramfs_counts_slowly}
 use Rattle.sg_ramfs.specs.RamfsTable.{ramfs_table}

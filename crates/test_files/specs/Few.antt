@@ -1,11 +1,11 @@
 -- Descriptors that were asked little.
 use Rattle.std.specs.Prelude.{ℕ, ◌+◌, ◌≤◌, ◌==◌, ◌||◌, Bool, List, [], ◌∷◌, ◌≡◌}
-use Rattle.sg_facts.specs.sg_base.declared.value.Value.TheVariants.{Text}
-use Rattle.sg_facts.specs.sg_base.declared.call.Call.{Call}
-use Rattle.sg_facts.specs.Counted.{most_counted}
-use Rattle.sg_facts.specs.Laws.{slow}
-use Rattle.sg_facts.specs.Object.{Object}
-use Rattle.sg_facts.specs.Track.{is_live}
+use Rattle.test_asking.specs.sg_facts.sg_base.declared.value.Value.TheVariants.{Text}
+use Rattle.test_asking.specs.sg_facts.sg_base.declared.call.Call.{Call}
+use Rattle.test_asking.specs.sg_facts.Counted.{most_counted}
+use Rattle.test_asking.specs.sg_facts.Laws.{slow}
+use Rattle.test_asking.specs.sg_facts.Object.{Object}
+use Rattle.test_asking.specs.sg_facts.Track.{is_live}
 use Rattle.sg_ramfs.specs.RamfsFacts.{ramfs_facts}
 
 -- after so few calls the places and the ids are far from their ends

@@ -1,10 +1,10 @@
 -- An object of the file service with one descriptor.
 use Rattle.std.specs.Prelude.{ℕ, ◌≡◌, List, [], ◌∷◌}
-use Rattle.sg_facts.specs.sg_base.declared.value.Value.TheVariants.{Word, Text}
-use Rattle.sg_facts.specs.sg_base.declared.reply.Reply.TheVariants.{Ok}
-use Rattle.sg_facts.specs.declared.outcome.Outcome.{Outcome}
-use Rattle.sg_facts.specs.declared.outcome.Outcome.TheVariants.{Replied}
-use Rattle.sg_facts.specs.Object.{Object}
+use Rattle.test_asking.specs.sg_facts.sg_base.declared.value.Value.TheVariants.{Word, Text}
+use Rattle.test_asking.specs.sg_facts.sg_base.declared.reply.Reply.TheVariants.{Ok}
+use Rattle.test_asking.specs.sg_facts.declared.outcome.Outcome.{Outcome}
+use Rattle.test_asking.specs.sg_facts.declared.outcome.Outcome.TheVariants.{Replied}
+use Rattle.test_asking.specs.sg_facts.Object.{Object}
 
 -- one root of the first client, of a name, at a place
 pub record IsOneFile (name : List ℕ) (place : ℕ) (o : Object) : Type 0 where

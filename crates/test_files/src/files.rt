@@ -1,15 +1,15 @@
 // What no clause says: that calls on a file are answered where there is memory.
 ghost use Rattle.std.specs.Prelude.{◌≡◌, ◌<◌, ◌≤◌, ◌^◌, [], ◌∷◌, IfOk, OnOk};
-ghost use Rattle.sg_facts.specs.sg_base.declared.value.Value.TheVariants.{Text as IsText, Word};
-ghost use Rattle.sg_facts.specs.Object.{empty_object};
+ghost use Rattle.test_asking.specs.sg_facts.sg_base.declared.value.Value.TheVariants.{Text as IsText, Word};
+ghost use Rattle.test_asking.specs.sg_facts.Object.{empty_object};
 ghost use Rattle.sg_ramfs.specs.RamfsObject.{ramfs_object};
 ghost use Rattle.test_files.specs.OneFile.{IsMade, IsOneFile};
 
-use sg_facts::{Args, Call, Code, NoMemory, Outcome, Path, Reply, Service, Text, Value};
 use sg_ramfs::RamfsService;
 use std::alloc::Global;
 use std::process::Abort;
 use std::test::Fail;
+use test_asking::facts::{Args, Call, Code, NoMemory, Outcome, Path, Reply, Service, Text, Value};
 use test_asking::{Once, ask};
 
 // The functions that are called on a descriptor.

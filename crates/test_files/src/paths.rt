@@ -4,11 +4,11 @@ ghost use Rattle.sg_ramfs.specs.RamfsObject.{ramfs_object};
 ghost use Rattle.test_files.specs.Few.{AreFew, IsMaking, may_be_below};
 
 use crate::files::{Answer, answer_in, text, with_text};
-use sg_facts::{Call, Code, NoMemory, Outcome, Service};
 use sg_ramfs::RamfsService;
 use std::alloc::Global;
 use std::process::Abort;
 use std::test::Fail;
+use test_asking::facts::{Call, Code, NoMemory, Outcome, Service};
 use test_asking::{Once, ask};
 
 // The function that makes a descriptor.

@@ -20,7 +20,7 @@ fn make(cell: &mut Cell<LockService>, alloc: Global, stops: &mut Once) -> Result
     }
     let tag = Tag::Client { client: 1, seq: 1 };
     let shown = call(alloc, 1, 1, 0);
-    match cell.invoke(alloc, stops, tag, shown, &call(alloc, 1, 1, 0)) {
+    match cell.invoke(alloc, stops, tag, &shown, call(alloc, 1, 1, 0)) {
         Outcome::Replied { reply, patch } => match reply {
             Reply::Ok(good) => Ok(good.desc),
             refused => Err(Outcome::Replied {

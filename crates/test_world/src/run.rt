@@ -9,8 +9,8 @@ use crate::fits::{number_of, takes};
 use sg_discard::{Did, Phase, World, discard};
 use sg_edge::AtPoints;
 use sg_facts::{
-    Args, Bytes, Call, Interface, LAST_CLIENT, NoMemory, PointList, Reply, Service, Stops, Tables,
-    Tag, Trace, TryCopy,
+    Args, Bytes, Call, Interface, LAST_CLIENT, LentCall, LentTag, NoMemory, PointList, Reply,
+    Service, Stops, Tables, Trace, TryCopy,
 };
 use sg_report::{End, EndList, Ended, text};
 use std::alloc::Global;
@@ -270,7 +270,7 @@ impl<S: Service, T: Stops> Run<S, T> {
     // How a client ended.
     fn end(&self, alloc: Global, client: u8) -> Result<End, NoMemory> {
         match (self.phase(client), last_asked(self.world.trace(), client)) {
-            (Some(Phase::Blocked), Some(call)) => Ok(End::Blocked(call.copy(alloc)?)),
+            (Some(Phase::Blocked), Some(call)) => Ok(End::Blocked(call.copied(alloc)?)),
             _ => Ok(End::Done),
         }
     }
@@ -326,12 +326,13 @@ fn waits(phase: Phase) -> bool
 }
 
 // The last call of a client that reached the service.
-fn last_asked(trace: &Trace, client: u8) -> Option<&Call> {
+fn last_asked(trace: &Trace, client: u8) -> Option<LentCall<'_>> {
     let mut last = None;
     for boot in trace.boots.as_slice() {
-        for item in boot.items.as_slice() {
+        for at in 0..boot.items.len() {
+            let item = boot.items.at(at);
             if is_of(&item.tag, client) {
-                last = Some(&item.shown);
+                last = Some(item.shown);
             }
         }
     }
@@ -339,10 +340,10 @@ fn last_asked(trace: &Trace, client: u8) -> Option<&Call> {
 }
 
 // Whether an item is for a call of a client.
-fn is_of(tag: &Tag, client: u8) -> bool {
+fn is_of(tag: &LentTag, client: u8) -> bool {
     match tag {
-        Tag::Client { client: asked, .. } => *asked == client,
-        Tag::Walk { .. } | Tag::Load { .. } => false,
+        LentTag::Client { client: asked, .. } => *asked == client,
+        LentTag::Walk { .. } | LentTag::Load { .. } => false,
     }
 }
 

@@ -2,7 +2,7 @@
 // the same replies.
 ghost use Rattle.std.specs.Prelude.{◌≡◌};
 
-use sg_top::Played;
+use sg_top::{History, Played};
 use std::alloc::Global;
 use std::test::Fail;
 use test_world::{
@@ -12,15 +12,15 @@ use test_world::{
 // The entries of a history, of which each is to come again.
 #[derive(Clone, Copy, Debug)]
 struct Again<'a> {
-    entries: &'a [Entry],
+    entries: &'a History,
 }
 
 impl<S: Service, T: Stops> Judge<S, T> for Again<'_> {
     type Said = Result<bool, Fail>;
 
     fn judge(&self, alloc: Global, run: &mut Run<S, T>) -> Result<bool, Fail> {
-        for entry in self.entries {
-            if !comes_again(alloc, run, entry)? {
+        for at in 0..self.entries.len() {
+            if !comes_again(alloc, run, &self.entries.entry(alloc, at)?)? {
                 return Ok(false);
             }
         }
@@ -72,7 +72,7 @@ fn come_again<S: Service>(
 ) -> Result<bool, Fail>
     requires { tables.iface.facts ≡ S.facts }
 {
-    let entries = played.ended().history.as_slice();
+    let entries = &played.ended().history;
     judged::<S, _, _>(alloc, tables, clients, Never::new(), &Again { entries })?
 }
 
@@ -91,5 +91,5 @@ pub fn plays_again<S: Service>(
 
 /// Whether a play has the entries of another.
 pub fn is_like(played: Played, other: &Played) -> bool {
-    played.ended().history.as_slice() == other.ended().history.as_slice()
+    played.ended().history.is_same(&other.ended().history)
 }

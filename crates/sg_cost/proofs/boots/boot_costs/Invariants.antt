@@ -9,8 +9,8 @@ use Rattle.sg_cost.proofs.boots.boot_costs.Given as goal
 
 abbrev pub invariant-boots : goal.invariant-boots
 invariant-boots l = record {
-  costs : l.costs ++ boot_costs l.tables.iface.facts l.tables.walks l.history (take l.at (run_of l.trace).boots) (drop l.at (run_of l.trace).boots)
-      ≡ boot_costs l.tables.iface.facts l.tables.walks l.history [] (run_of l.trace).boots;
-  front : IsFront l.tables.iface.facts l.history l.front.place l.front.rows;
-  over : list_all (is_over l.last.entries l.at) (take l.front.place l.history) ≡ true;
+  costs : l.costs ++ boot_costs l.tables.iface.facts l.tables.walks l.history.items (take l.at (run_of l.trace).boots) (drop l.at (run_of l.trace).boots)
+      ≡ boot_costs l.tables.iface.facts l.tables.walks l.history.items [] (run_of l.trace).boots;
+  front : IsFront l.tables.iface.facts l.history.items l.front.place l.front.rows;
+  over : list_all (is_over l.last.entries l.at) (take l.front.place l.history.items) ≡ true;
 }

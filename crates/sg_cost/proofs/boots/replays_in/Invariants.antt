@@ -5,6 +5,6 @@ use Rattle.sg_cost.proofs.boots.replays_in.Given as goal
 
 abbrev pub invariant-items : goal.invariant-items
 invariant-items l = record {
-  is : l.count ≡ replays_for (λ id. true) (take l.item-index l.items);
-  few : l.count ≤ l.item-index;
+  is : l.count ≡ replays_for (λ id. true) (take l.at l.items.items);
+  few : l.count ≤ l.at;
 }

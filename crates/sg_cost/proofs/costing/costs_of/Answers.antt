@@ -1,13 +1,9 @@
 -- Each entry may be tracked, and no boot needs more than its bound.
-use Rattle.std.proofs.Common.{◌≡◌, IfOk, subst, sym, true}
+use Rattle.std.proofs.Common.{◌≡◌, subst, sym, true}
 use Rattle.sg_cost.proofs.Settled.{may_be_tracked}
 use Rattle.sg_cost.proofs.Within.{costs_within, few_in_each}
-use Rattle.sg_cost.specs.Costs.{costs_at}
-use Rattle.sg_cost.specs.Inside.Fronts.{MayBeTracked}
 use Rattle.sg_facts.specs.Allowed.{is_allowed}
-use Rattle.sg_facts.specs.Kinds.{AreWords}
 use Rattle.sg_facts.specs.Trace.{run_of}
-use Rattle.sg_facts.specs.sg_base.Lists.{Each}
 use Rattle.sg_report.specs.sg_hist.Recovered.{Stubs}
 use Rattle.sg_world_laws.specs.Setting.{IsSetting, Setting}
 use Rattle.sg_world_laws.specs.sg_recovery_laws.Objects.Serving.{IsService}
@@ -22,8 +18,7 @@ costs_in-requires-clause-may g c =
     let are = c.lines.ensures.are in
     let z : Setting = record { iface = tables.iface; walks = tables.walks; ask = g.S.Service.ask; sound = g.S.Service.sound; parts = g.S.Service.parts } in
     let set : IsSetting z = record { law = subst (λ f. IsService f g.S.Service.ask g.S.Service.sound) (sym c.requires.service) law; fits = are.fits; tables = are } in
-    subst (MayBeTracked tables.iface.facts) (sym c.as_slice-history.ensures) (may_be_tracked z set c.args.ended.now.history.items c.requires.legal c.requires.few c.requires.calls
-    (subst (Each (λ e. AreWords e.call.args)) c.as_slice-history.ensures c.read_words.ensures))
+    may_be_tracked z set c.args.ended.now.history.items c.requires.legal c.requires.few c.requires.calls c.read_words.ensures
 
 pub returns-clause-few : goal.returns-clause-few
 returns-clause-few g c =
@@ -37,5 +32,4 @@ pub returns-clause-within : goal.returns-clause-within
 returns-clause-within g c =
     let tables = c.args.tables.now in
     let ended = c.args.ended.now in
-    costs_within tables.iface tables.walks ended.history.items (run_of ended.trace) (returns-clause-few g c) c.costs_in.result
-    (subst (λ h. IfOk c.costs_in.result (λ costs. costs ≡ costs_at tables.iface tables.walks h (run_of ended.trace))) c.as_slice-history.ensures c.costs_in.ensures)
+    costs_within tables.iface tables.walks ended.history.items (run_of ended.trace) (returns-clause-few g c) c.costs_in.result c.costs_in.ensures

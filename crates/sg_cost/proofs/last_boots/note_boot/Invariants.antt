@@ -5,4 +5,4 @@ use Rattle.sg_cost.specs.Inside.LastBoots.{has_call, kept_boot}
 use Rattle.sg_cost.proofs.last_boots.note_boot.Given as goal
 
 abbrev pub invariant-items : goal.invariant-items
-invariant-items l = (client seq : ℕ) → kept_boot l.last.entries client seq ≡ (if has_call client seq (take l.item-index l.items) then l.number else kept_boot l.initial.last.entries client seq)
+invariant-items l = (client seq : ℕ) → kept_boot l.last.entries client seq ≡ (if has_call client seq (take l.at l.items.items) then l.number else kept_boot l.initial.last.entries client seq)

@@ -5,4 +5,4 @@ use Rattle.sg_facts.specs.sg_base.Lists.{Each}
 use Rattle.sg_cost.proofs.words.read_words.Given as goal
 
 abbrev pub invariant-entries : goal.invariant-entries
-invariant-entries l = Each (λ e. AreWords e.call.args) (take l.entry-index l.history)
+invariant-entries l = Each (λ e. AreWords e.call.args) (take l.at l.history.items)

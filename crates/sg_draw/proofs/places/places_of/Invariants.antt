@@ -5,8 +5,8 @@ use Rattle.sg_draw.proofs.places.places_of.Given as goal
 
 abbrev pub invariant-entries : goal.invariant-entries
 invariant-entries l = record {
-  low : l.at ≤ length l.history;
-  kept : ArePlacesIn l.places.entries l.history (drop l.at l.history);
+  low : l.at ≤ length l.history.items;
+  kept : ArePlacesIn l.places.entries l.history.items (drop l.at l.history.items);
 }
 
 abbrev pub decreases-entries : goal.decreases-entries

@@ -5,7 +5,6 @@ use Rattle.std.specs.Fmt.{decimal}
 use Rattle.std.proofs.lemmas.List.{length-map, length-take-le}
 use Rattle.sg_facts.specs.Trace.{Boot}
 use Rattle.sg_facts.specs.Inside.Rows.{boot_of}
-use Rattle.sg_facts.specs.declared.trace.Item.{Item}
 use Rattle.sg_draw.specs.Labels.{label_of, labels_from}
 use Rattle.sg_draw.specs.Inside.Rows.{labels_in, stop_labels}
 use Rattle.sg_draw.proofs.More.{boot_added, boot_labels, labels_more, map_more}
@@ -14,7 +13,7 @@ use Rattle.sg_draw.proofs.rows.add_boots.Goals as goal
 pub boots-preserved : goal.boots-preserved
 boots-preserved c =
     let facts = c.args.iface.now.facts in
-    let history = c.args.history.now in
+    let history = c.args.history.now.items in
     let boots = c.args.boots.now in
     let n = c.boots.at in
     let one = c.index-boots-at.result in
@@ -28,5 +27,5 @@ boots-preserved c =
     boot_added (labels_in c.args.rows.now) (labels_from facts history 1 before) ((codes "boot " ++ decimal (n + 1)) ∷ []) (map (label_of facts history) (boot_of one).items) (stop_labels one.stop)
     (labels_in c.add_boot.new.rows) (labels_in c.add_items.new.rows) (labels_in c.add_stop.new.rows)
     (c.in_ok-add_boot.ensures ∙ ap (λ v. v ++ (codes "boot " ++ decimal (n + 1)) ∷ []) c.boots.invariant)
-    (c.in_ok-add_items.ensures ∙ ap (λ (items : List Item). labels_in c.add_boot.new.rows ++ map (label_of facts history) items) c.as_slice.ensures) c.in_ok-add_stop.ensures
+    c.in_ok-add_items.ensures c.in_ok-add_stop.ensures
     ∙ ap (λ v. labels_in c.args.rows.now ++ v) (sym next)

@@ -6,4 +6,4 @@ use Rattle.sg_draw.specs.Inside.Rows.{labels_in}
 use Rattle.sg_draw.proofs.rows.add_boots.Given as goal
 
 abbrev pub invariant-boots : goal.invariant-boots
-invariant-boots l = labels_in l.rows ≡ labels_in l.initial.rows ++ labels_from l.iface.facts l.history 1 (map boot_of (take l.at l.boots))
+invariant-boots l = labels_in l.rows ≡ labels_in l.initial.rows ++ labels_from l.iface.facts l.history.items 1 (map boot_of (take l.at l.boots))

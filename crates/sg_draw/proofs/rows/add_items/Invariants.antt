@@ -5,4 +5,4 @@ use Rattle.sg_draw.specs.Inside.Rows.{labels_in}
 use Rattle.sg_draw.proofs.rows.add_items.Given as goal
 
 abbrev pub invariant-items : goal.invariant-items
-invariant-items l = labels_in l.rows ≡ labels_in l.initial.rows ++ map (label_of l.iface.facts l.history) (take l.item-index l.items)
+invariant-items l = labels_in l.rows ≡ labels_in l.initial.rows ++ map (label_of l.iface.facts l.history.items) (take l.at l.items.items)

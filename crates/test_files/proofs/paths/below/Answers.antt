@@ -1,7 +1,7 @@
 -- The parent is there, so a descriptor may be made below it.
 use Rattle.std.proofs.Common.{◌≡◌, true, rules, is_some}
 use Rattle.std.specs.Prelude.{◌==◌}
-use Rattle.sg_facts.specs.Track.{is_live}
+use Rattle.test_asking.specs.sg_facts.Track.{is_live}
 use Rattle.sg_ramfs.specs.sg_slots.Slots.{row_with}
 use Rattle.sg_ramfs.specs.RamfsObject.{ramfs_object}
 use Rattle.sg_ramfs.specs.RamfsRow.{file_body}

@@ -1,7 +1,7 @@
 -- A descriptor may be made, and one call more was asked then.
 use Rattle.std.proofs.Common.{◌≡◌, ◌+◌, Some, sym, subst}
-use Rattle.sg_facts.specs.Kinds.{MayAsk}
-use Rattle.sg_facts.specs.Object.{after}
+use Rattle.test_asking.specs.sg_facts.Kinds.{MayAsk}
+use Rattle.test_asking.specs.sg_facts.Object.{after}
 use Rattle.sg_ramfs.specs.RamfsFacts.{ramfs_facts}
 use Rattle.sg_ramfs.specs.RamfsObject.{ramfs_object}
 use Rattle.sg_ramfs.specs.RamfsTable.{ramfs_table}

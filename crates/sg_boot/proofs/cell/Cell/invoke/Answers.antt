@@ -21,5 +21,5 @@ invariant_of-self-in_default g c =
     subst (λ s. IsCell facts (option_map g.S.Service.object s) boots) c.in-Some.is c.self.invariant in
     rw c.note_call-in_default.ensures
     (kept_asked facts g.S.Service.ask g.S.Service.parts boots (g.S.Service.object c.in-Some.service) (g.S.Service.object c.ask-outcome.new.service) c.args.tag
-    c.args.shown c.args.call.now points later c.asked.result c.ask-outcome.result cell c.requires.tagged c.requires.same
+    c.args.shown.now c.args.call points later c.asked.result c.ask-outcome.result cell c.requires.tagged c.requires.same
     c.in_default.not-Stopped c.in_default.not-NoMemory c.ask-outcome.ensures.outcome)

@@ -8,6 +8,6 @@ use Rattle.sg_cost.proofs.front.Front.advance.Given as goal
 abbrev pub invariant-entries : goal.invariant-entries
 invariant-entries l = record {
   place : l.self.place ≡ l.at;
-  front : IsFront l.tables.iface.facts l.history l.at l.self.rows;
-  over : list_all (is_over l.last.entries l.first) (take l.at l.history) ≡ true;
+  front : IsFront l.tables.iface.facts l.history.items l.at l.self.rows;
+  over : list_all (is_over l.last.entries l.first) (take l.at l.history.items) ≡ true;
 }

@@ -6,5 +6,5 @@ use Rattle.sg_cost.proofs.front.Front.finish.Given as goal
 abbrev pub invariant-entries : goal.invariant-entries
 invariant-entries l = record {
   place : l.self.place ≡ l.at;
-  front : IsFront l.tables.iface.facts l.history l.at l.self.rows;
+  front : IsFront l.tables.iface.facts l.history.items l.at l.self.rows;
 }

@@ -3,5 +3,5 @@ use Rattle.std.proofs.Common.{◌≡◌, take}
 use Rattle.sg_hist.specs.Clients.{calls_of}
 use Rattle.sg_hist.proofs.history.History.of_client.Given as goal
 
-abbrev pub invariant-loop-entry : goal.invariant-loop-entry
-invariant-loop-entry l = l.own.items ≡ calls_of (take l.entry-index l.entry-items) l.client
+abbrev pub invariant-loop-at : goal.invariant-loop-at
+invariant-loop-at l = l.own.items ≡ calls_of (take l.at l.self.items) l.client

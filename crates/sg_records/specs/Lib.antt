@@ -1,0 +1,4 @@
+pub mod Inside
+pub mod Lent
+pub mod Records
+pub use Rattle.sg_base.specs as sg_base

@@ -1,0 +1,52 @@
+// Which calls and replies can be kept in brief.
+ghost use Rattle.std.specs.Prelude.{◌≡◌, ◌≤◌, IfSome, IsTrue, length, map};
+ghost use Rattle.sg_base.specs.declared.value.Value.TheVariants.{Word};
+ghost use Rattle.sg_records.specs.Records.{IsBriefCall, IsBriefReply, word_of, words_of};
+
+use crate::Gave;
+use crate::records::{MOST_ARGS, MOST_REPLY_WORDS};
+use sg_base::{Call, Reply, Value};
+
+/// Whether a call can be kept in brief: it has at most 4 arguments, all of them words.
+pub fn is_brief_call(call: &Call) -> bool
+    ensures { IsTrue result → IsBriefCall call.now }
+{
+    call.args.len() <= MOST_ARGS && are_words(call.args.as_slice())
+}
+
+/// What a reply gives, in brief; None for one with bytes or with more than 4 words.
+pub fn gave_of(reply: &Reply) -> Option<Gave>
+    ensures { IfSome result (λ gave. IsBriefReply gave reply.now) }
+{
+    match reply {
+        Reply::Ok(good) => {
+            if good.bytes.is_empty() && good.words.len() <= MOST_REPLY_WORDS {
+                Some(Gave::Good { desc: good.desc })
+            } else {
+                None
+            }
+        }
+        Reply::Refused(code) => Some(Gave::Refused(*code)),
+    }
+}
+
+/// The words of a reply, lent; a refusal has none.
+pub fn reply_words(reply: &Reply) -> &[u64]
+    ensures { result.now ≡ words_of reply.now }
+{
+    match reply {
+        Reply::Ok(good) => good.words.as_slice(),
+        Reply::Refused(_) => &[],
+    }
+}
+
+// Whether all values are words.
+fn are_words(values: &[Value]) -> bool
+    ensures { IsTrue result → map Word (map word_of values.now) ≡ values.now }
+{
+    match values {
+        [] => true,
+        [Value::Word(_), rest @ ..] => are_words(rest),
+        [Value::Text(_), ..] => false,
+    }
+}
