@@ -6,7 +6,7 @@ use Rattle.sg_input.specs.sg_check_statements.declared.fault.CheckKind.TheVarian
 use Rattle.sg_input.specs.declared.refusal.RefusalKind.{RefusalKind}
 use Rattle.sg_input.specs.declared.refusal.RefusalKind.TheVariants.{Lex, Syntax, Check}
 use Rattle.sg_script.specs.declared.fault.ScriptKind.{ScriptKind}
-use Rattle.sg_script.specs.declared.fault.ScriptKind.TheVariants.{Syntax as ScriptSyntax, UnknownFunction as ScriptFunction, BadArgs, BadClient, Twice, NotAscending, Blocking, Limit}
+use Rattle.sg_script.specs.declared.fault.ScriptKind.TheVariants.{Syntax as ScriptSyntax, UnknownFunction as ScriptFunction, UnknownService as ScriptService, BadArgs, BadClient, Twice, NotAscending, Blocking, Limit}
 
 -- a sentence that says what is wrong, in two parts, between which stands what the input has at the place; and one that says what is
 -- usually meant
@@ -40,6 +40,7 @@ refusal_words (Check kind) = check_words kind
 abbrev pub script_words : ScriptKind → Sentences
 script_words ScriptSyntax = record { before = codes "Something else has to stand here than "; after = codes "."; meant = codes "Usually a bracket, a comma or a semicolon is missing just before; a script has the parts setup, client, schedule and stop." }
 script_words ScriptFunction = record { before = codes "The interface declares no function "; after = codes "."; meant = codes "Usually the name is misspelt, or the interface has no prototype of it." }
+script_words ScriptService = record { before = codes "No interface of the input is of the service "; after = codes "."; meant = codes "Usually the name is misspelt, or the interface is missing." }
 script_words BadArgs = record { before = codes "The arguments of "; after = codes " don't fit its parameters."; meant = codes "There is one for each parameter after the caller: a text for a text, and else a number, or $k for what the client's k-th call was given, a call before this one." }
 script_words BadClient = record { before = codes "There is no client "; after = codes "."; meant = codes "Clients have the numbers 1 to 64." }
 script_words Twice = record { before = codes "The part "; after = codes " is there already."; meant = codes "A script has one setup, one schedule, one stop and one part for each client: usually two parts are to be one, or another client is meant." }

@@ -129,6 +129,11 @@ pub(crate) fn script_words(kind: ScriptKind) -> Sentences
             after: b".",
             meant: b"Usually the name is misspelt, or the interface has no prototype of it.",
         },
+        ScriptKind::UnknownService => Sentences {
+            before: b"No interface of the input is of the service ",
+            after: b".",
+            meant: b"Usually the name is misspelt, or the interface is missing.",
+        },
         ScriptKind::BadArgs => Sentences {
             before: b"The arguments of ",
             after: b" don't fit its parameters.",

@@ -1,8 +1,12 @@
+pub mod Apart
 pub mod Cuts
 pub mod Dividers
+pub mod Divided
 pub mod LastLine
+pub mod Gathering
 pub mod OneCut
 pub mod OneInput
+pub mod OneMulti
 pub mod OneRun
 pub mod OneVerdict
 pub mod PlacedLine

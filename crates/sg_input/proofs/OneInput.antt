@@ -33,7 +33,7 @@ use Rattle.sg_input.proofs.OneCut.{one_cut}
 abbrev Parsed : Type 0
 Parsed = Result Tree ParseError
 
-one_tree : (text : List ℕ) (one other : Tree) → Parses text (Ok one) → Parses text (Ok other) → one ≡ other
+pub one_tree : (text : List ℕ) (one other : Tree) → Parses text (Ok one) → Parses text (Ok other) → one ≡ other
 one_tree text one other p q =
     let same : ◌≡◌ {A = Parsed} (Ok one) (Ok other) =
     sym (only_answer (length text) (answers_of text) (Ok one) p (λ e. cc)) ∙ only_answer (length text) (answers_of text) (Ok other) q (λ e. cc) in cc same
@@ -44,7 +44,7 @@ one_declared services tree i j a b =
     let same : a.facts ≡ b.facts = cc in
     a.declared ∙ ap (λ f. interface_of f tree) same ∙ sym b.declared
 
-one_interface : (services : List Facts) (text : List ℕ) (i j : Declared) → IsInterface services text i → IsInterface services text j → i ≡ j
+pub one_interface : (services : List Facts) (text : List ℕ) (i j : Declared) → IsInterface services text i → IsInterface services text j → i ≡ j
 one_interface services text i j (tree, p, is) (tree', q, is') =
     one_declared services tree i j is (subst (λ t. IsAccepted services t j) (one_tree text tree' tree q p) is')
 

@@ -16,3 +16,17 @@ pub same_line : (front : List ℕ) (line line' column column' : ℕ) (name name'
 same_line front line line' column column' name name' l c n =
     ap (λ x. placed front (decimal x) (decimal column) name) l ∙ ap (λ x. placed front (decimal line') (decimal x) name) c
     ∙ ap (λ x. placed front (decimal line') (decimal column') x) n
+
+-- the line of a text that is refused by its number
+pub numbered : (number : ℕ) (line column name : List ℕ)
+    → codes "interface " ++ (decimal number ++ (codes " refused at " ++ (line ++ (codes ":" ++ (column ++ (codes ": " ++ (name ++ 10 ∷ [])))))))
+    ≡ (codes "interface " ++ decimal number ++ codes " refused at ") ++ line ++ codes ":" ++ column ++ codes ": " ++ name ++ 10 ∷ []
+numbered number line column name = simp append_assoc
+
+-- of equal pieces it is one
+pub same_numbered : (number line line' column column' : ℕ) (name : List ℕ) → line ≡ line' → column ≡ column'
+    → codes "interface " ++ (decimal number ++ (codes " refused at " ++ (decimal line ++ (codes ":" ++ (decimal column ++ (codes ": " ++ (name ++ 10 ∷ [])))))))
+    ≡ codes "interface " ++ (decimal number ++ (codes " refused at " ++ (decimal line' ++ (codes ":" ++ (decimal column' ++ (codes ": " ++ (name ++ 10 ∷ [])))))))
+same_numbered number line line' column column' name l c =
+    ap (λ x. codes "interface " ++ (decimal number ++ (codes " refused at " ++ (decimal x ++ (codes ":" ++ (decimal column ++ (codes ": " ++ (name ++ 10 ∷ [])))))))) l
+    ∙ ap (λ x. codes "interface " ++ (decimal number ++ (codes " refused at " ++ (decimal line' ++ (codes ":" ++ (decimal x ++ (codes ": " ++ (name ++ 10 ∷ [])))))))) c

@@ -4,6 +4,7 @@ pub mod Inside
 pub mod Judged
 pub mod Inputs
 pub mod Lines
+pub mod MultiInputs
 pub mod Verdicts
 pub use Rattle.sg_entries.specs as sg_entries
 pub use Rattle.sg_print.specs as sg_print

@@ -11,6 +11,9 @@
 //! - `reading`: what an input is, or the line that refuses it (`read_input`)
 //! - `input`: an input that is refused or ready (`Input`)
 //! - `run_input`: what an input with a printed run is, or the line that refuses it (`read_run`, `RunInput`)
+//! - `multi_input`: what an input for several services is, or the line that refuses it (`read_multi_input`, `MultiInput`)
+//! - `dividing`: the texts of an input that is divided more than once
+//! - `members`: the interfaces of such an input, each of another service
 //! - `divider`: the two texts before and after the first line of `%%` alone (`cut`)
 //! - `limits`: the greatest numbers of bytes
 //! - `lines`: the lines that are said of a text, and those that refuse an input
@@ -18,10 +21,11 @@
 //!
 //! `specs/Verdicts.antt` says when which line is the right one for a text, and `specs/Lines.antt` how the lines read that refuse a text
 //! or an input, with the line and the column of a place; `specs/Divider.antt` says where an input is divided, and `specs/Inputs.antt` when
-//! which line is the right one for it.
+//! which line is the right one for it, and `specs/MultiInputs.antt` for one for several services.
 #![tactic(auto)]
 
 mod divider;
+mod dividing;
 mod examined;
 mod front;
 mod input;
@@ -29,6 +33,8 @@ mod judging;
 mod laws;
 mod limits;
 mod lines;
+mod members;
+mod multi_input;
 mod outcome;
 mod places;
 mod reading;
@@ -40,8 +46,13 @@ pub use examined::Examined;
 pub use input::Input;
 pub use judging::{compiled, examine, upgraded, verdict};
 pub use laws::{one_cut, one_input, one_verdict, upgrades_are_accepted};
-pub use limits::{MOST_DIVIDER, MOST_INPUT, MOST_INTERFACE, MOST_RUN, MOST_RUN_INPUT, MOST_SCRIPT};
+pub use limits::{
+    MOST_DIVIDER, MOST_INPUT, MOST_INTERFACE, MOST_MULTI_INPUT, MOST_RUN, MOST_RUN_INPUT,
+    MOST_SCRIPT,
+};
 pub use lines::TOO_LONG;
+pub use members::InterfaceList;
+pub use multi_input::{MultiInput, read_multi_input};
 pub use outcome::Verdict;
 pub use places::{column_of, line_of};
 pub use reading::read_input;
@@ -50,7 +61,7 @@ pub use run_input::{RunInput, read_run};
 pub use sg_check_statements::{CheckFault, Protos, Statement, Tree, fun_number, says_of};
 pub use sg_entries::History;
 pub use sg_print::{ParseError, parse};
-pub use sg_script::Script;
+pub use sg_script::{MultiScript, Script};
 pub use sg_stub::{
     Accepted, CheckError, CheckKind, Triple, check, compile, reachable, restores, shortest,
 };

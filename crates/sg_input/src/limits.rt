@@ -12,6 +12,9 @@ pub const MOST_SCRIPT: usize = 4_194_304;
 /// The greatest number of bytes of an input.
 pub const MOST_INPUT: usize = MOST_INTERFACE + MOST_DIVIDER + MOST_SCRIPT;
 
+/// The greatest number of bytes of an input for several services: seven interfaces and a script.
+pub const MOST_MULTI_INPUT: usize = 7 * MOST_INTERFACE + MOST_SCRIPT;
+
 /// The greatest number of bytes of a printed run.
 pub const MOST_RUN: usize = 67_108_864;
 

@@ -1,12 +1,13 @@
 // The lines that are said of a text, and those that refuse an input.
 ghost use Rattle.std.specs.Prelude.{◌≡◌, IfOk};
 ghost use Rattle.sg_input.specs.Lines.{entries_kind_name, script_kind_name};
+ghost use Rattle.sg_input.specs.MultiInputs.{member_line};
 ghost use Rattle.sg_input.specs.Inside.Said.{accepted_line, refusal_line, run_line, script_line};
 
 use crate::places::{column_of, line_of};
 use crate::refusal::{RefusalKind, name_of};
 use sg_entries::EntriesKind;
-use sg_facts::{Bytes, NoMemory};
+use sg_facts::{Bytes, Interface, NoMemory};
 use sg_script::{ScriptFault, ScriptKind};
 use std::alloc::Global;
 
@@ -36,6 +37,23 @@ pub fn refusal_line(
     Ok(Bytes::from_vec(said.into_bytes()))
 }
 
+/// The line of a text that is refused after these members, at a place and by the name of what is wrong there.
+pub fn member_line(
+    alloc: Global,
+    members: &[Interface],
+    text: &[u8],
+    at: usize,
+    name: &str,
+) -> Result<Bytes, NoMemory>
+    ensures { IfOk result (λ line. line ≡ member_line members.now text.now at name.now) }
+{
+    let line = line_of(text, at);
+    let column = column_of(text, at);
+    let number = members.len() + 1;
+    let said = format!(in alloc; "interface {number} refused at {line}:{column}: {name}\n")?;
+    Ok(Bytes::from_vec(said.into_bytes()))
+}
+
 /// The line of an input without a line of `%%` alone.
 pub const NO_DIVIDER: &[u8] = b"input refused: NoDivider\n";
 
@@ -60,6 +78,7 @@ fn script_kind_name(kind: ScriptKind) -> &'static str
     match kind {
         ScriptKind::Syntax => "Syntax",
         ScriptKind::UnknownFunction => "UnknownFunction",
+        ScriptKind::UnknownService => "UnknownService",
         ScriptKind::BadArgs => "BadArgs",
         ScriptKind::BadClient => "BadClient",
         ScriptKind::Twice => "Twice",

@@ -1,6 +1,7 @@
 pub mod Calls
 pub mod Ending
 pub mod Inside
+pub mod OneService
 pub mod Plain
 pub mod Playing
 pub mod Promises

@@ -6,7 +6,7 @@ use Rattle.std.proofs.lemmas.Bool.{cases_order}
 use Rattle.std.proofs.lemmas.Bool.Decides.{leb_tells, nat_tests}
 use Rattle.sg_script.specs.declared.fault.ScriptFault.{ScriptFault}
 use Rattle.sg_script.specs.declared.fault.ScriptKind.{ScriptKind}
-use Rattle.sg_script.specs.declared.fault.ScriptKind.TheVariants.{Syntax, UnknownFunction, BadArgs, BadClient, Twice, NotAscending, Blocking, Limit}
+use Rattle.sg_script.specs.declared.fault.ScriptKind.TheVariants.{Syntax, UnknownFunction, UnknownService, BadArgs, BadClient, Twice, NotAscending, Blocking, Limit}
 use Rattle.sg_script.specs.Inside.Firsts.{first_behind, is_not_after}
 use Rattle.sg_script.specs.Flaws.{IsFirstFlaw, script_kind_rank}
 
@@ -39,13 +39,14 @@ transitive f g h (inr a) (inr b) = inr (a.0 ∙ b.0, omega (arith, a.1, b.1))
 
 kind_at : ℕ → ScriptKind
 kind_at n =
-    if n == 0 then Syntax else (if n == 1 then UnknownFunction else (if n == 2 then BadArgs else (if n == 3 then BadClient
-    else (if n == 4 then Twice else (if n == 5 then NotAscending else (if n == 6 then Blocking else Limit))))))
+    if n == 0 then Syntax else (if n == 1 then UnknownFunction else (if n == 2 then UnknownService else (if n == 3 then BadArgs else (if n == 4 then BadClient
+    else (if n == 5 then Twice else (if n == 6 then NotAscending else (if n == 7 then Blocking else Limit)))))))
 
 at_rank : (kind : ScriptKind) → kind_at (script_kind_rank kind) ≡ kind
 unfolding kind_at
 at_rank Syntax = refl
 at_rank UnknownFunction = refl
+at_rank UnknownService = refl
 at_rank BadArgs = refl
 at_rank BadClient = refl
 at_rank Twice = refl

@@ -7,7 +7,7 @@ use Rattle.std.proofs.lemmas.Grind.{flat_map-append}
 use Rattle.sg_facts.specs.sg_base.Text.{is_bad_byte, is_text_byte}
 use Rattle.sg_facts.specs.declared.shape.Kind.{Kind}
 use Rattle.sg_facts.specs.declared.shape.Kind.TheVariants.{Desc, Parent, Word, Text as IsText}
-use Rattle.sg_facts.specs.Facts.{fun_at}
+use Rattle.sg_facts.specs.Facts.{Fun}
 use Rattle.sg_facts.specs.Interface.{Declared}
 use Rattle.sg_script_parse.specs.sg_lex.Lexeme.{Spelling}
 use Rattle.sg_script_parse.specs.declared.tree.WrittenArg.{WrittenArg}
@@ -18,7 +18,7 @@ use Rattle.sg_script_parse.specs.declared.tree.Part.TheVariants.{Setup, Client, 
 use Rattle.sg_script.specs.declared.fault.ScriptKind.{ScriptKind}
 use Rattle.sg_script.specs.declared.fault.ScriptKind.TheVariants.{BadClient, Limit}
 use Rattle.sg_script.specs.Numbers.{counts_as, is_text}
-use Rattle.sg_script.specs.Scripts.{calls_of_setup, declared_fun}
+use Rattle.sg_script.specs.Scripts.{calls_of_setup, function_named}
 use Rattle.sg_script.specs.Flaws.{written_arg_fits, written_args_fit, call_flaws, calls_before, calls_flaws, calls_in, client_flaws, script_flaw_if, flaws_behind, flaws_of, part_flaws}
 use Rattle.sg_script.specs.Inside.Parts.{arg_flaws, fun_flaws, inner_flaws}
 use Rattle.sg_script.proofs.Parts.{by_part}
@@ -86,29 +86,29 @@ both a b x y = ap (λ v. v && b) x ∙ y
 not_last : (nth : ℕ) → nth == 65537 ≡ false → nth ≤ 65537 → nth + 1 ≤ 65537
 not_last nth e le = grind (arith, nat_tests, e, le)
 
-pub calls_few : (i : Declared) (in_setup : Bool) (nth own : ℕ) (calls : List WrittenCall) → nth ≤ 65537 → calls_flaws i in_setup nth own calls ≡ []
+pub calls_few : (members : List Declared) (in_setup : Bool) (nth own : ℕ) (calls : List WrittenCall) → nth ≤ 65537 → calls_flaws members in_setup nth own calls ≡ []
     → nth + length calls ≤ 65537
-calls_few i in_setup nth own [] le e = omega (arith, le)
-calls_few i in_setup nth own (c ∷ calls) le e =
-    let one : call_flaws i in_setup nth own c ≡ [] = front_none (call_flaws i in_setup nth own c) (calls_flaws i in_setup (nth + 1) (own + 1) calls) e in
-    let rest : calls_flaws i in_setup (nth + 1) (own + 1) calls ≡ [] = back_none (call_flaws i in_setup nth own c) (calls_flaws i in_setup (nth + 1) (own + 1) calls) e in
-    let last : nth == 65537 ≡ false = not_flawed (nth == 65537) Limit c.name.at (back_none (fun_flaws i in_setup own c (declared_fun i c.name.bytes)) _ (front_none _ _ one)) in
+calls_few members in_setup nth own [] le e = omega (arith, le)
+calls_few members in_setup nth own (c ∷ calls) le e =
+    let one : call_flaws members in_setup nth own c ≡ [] = front_none (call_flaws members in_setup nth own c) (calls_flaws members in_setup (nth + 1) (own + 1) calls) e in
+    let rest : calls_flaws members in_setup (nth + 1) (own + 1) calls ≡ [] = back_none (call_flaws members in_setup nth own c) (calls_flaws members in_setup (nth + 1) (own + 1) calls) e in
+    let last : nth == 65537 ≡ false = not_flawed (nth == 65537) Limit c.name.at (back_none (fun_flaws in_setup own c (function_named members c.name.bytes)) _ (front_none _ _ one)) in
     let more : nth + 1 ≤ 65537 = not_last nth last le in
-    let few : nth + 1 + length calls ≤ 65537 = calls_few i in_setup (nth + 1) (own + 1) calls more rest in
+    let few : nth + 1 + length calls ≤ 65537 = calls_few members in_setup (nth + 1) (own + 1) calls more rest in
     omega (arith, few)
 
 -- no part brings the calls above the most
-pub part_few : (i : Declared) (setup before : ℕ) (p : Part) → before ≤ 65536 → inner_flaws i setup before p ≡ [] → before + length (calls_in p) ≤ 65536
-part_few i setup before (Setup at calls) le e =
+pub part_few : (members : List Declared) (setup before : ℕ) (p : Part) → before ≤ 65536 → inner_flaws members setup before p ≡ [] → before + length (calls_in p) ≤ 65536
+part_few members setup before (Setup at calls) le e =
     let more : before + 1 ≤ 65537 = omega (arith, le) in
-    let few : before + 1 + length calls ≤ 65537 = calls_few i true (before + 1) 1 calls more e in
+    let few : before + 1 + length calls ≤ 65537 = calls_few members true (before + 1) 1 calls more e in
     omega (arith, few)
-part_few i setup before (Client at n calls) le e =
+part_few members setup before (Client at n calls) le e =
     let more : before + 1 ≤ 65537 = omega (arith, le) in
-    let few : before + 1 + length calls ≤ 65537 = calls_few i false (before + 1) (calls_before setup (counts_as n.bytes) + 1) calls more (back_none _ _ e) in
+    let few : before + 1 + length calls ≤ 65537 = calls_few members false (before + 1) (calls_before setup (counts_as n.bytes) + 1) calls more (back_none _ _ e) in
     omega (arith, few)
-part_few i setup before (Schedule at numbers) le e = omega (arith, le)
-part_few i setup before (Stop at numbers) le e = omega (arith, le)
+part_few members setup before (Schedule at numbers) le e = omega (arith, le)
+part_few members setup before (Stop at service numbers) le e = omega (arith, le)
 
 pub counted : (front : List Part) (p : Part) → length (flat_map calls_in (front ++ p ∷ [])) ≡ length (flat_map calls_in front) + length (calls_in p)
 counted front p =
@@ -116,31 +116,31 @@ counted front p =
     ∙ length-append (flat_map calls_in front) (calls_in p)
 
 -- what is wrong within the next part, and after it
-pub inner_none : (i : Declared) (setup : ℕ) (front : List Part) (p : Part) (parts : List Part) → flaws_behind i setup front (p ∷ parts) ≡ []
-    → inner_flaws i setup (length (flat_map calls_in front)) p ≡ []
-inner_none i setup front p parts e =
-    back_none _ (inner_flaws i setup (length (flat_map calls_in front)) p)
-    (sym (by_part i setup front p) ∙ front_none (part_flaws i setup front p) (flaws_behind i setup (front ++ p ∷ []) parts) e)
+pub inner_none : (members : List Declared) (setup : ℕ) (front : List Part) (p : Part) (parts : List Part) → flaws_behind members setup front (p ∷ parts) ≡ []
+    → inner_flaws members setup (length (flat_map calls_in front)) p ≡ []
+inner_none members setup front p parts e =
+    back_none _ (inner_flaws members setup (length (flat_map calls_in front)) p)
+    (sym (by_part members setup front p) ∙ front_none (part_flaws members setup front p) (flaws_behind members setup (front ++ p ∷ []) parts) e)
 
-pub behind_none : (i : Declared) (setup : ℕ) (front : List Part) (p : Part) (parts : List Part) → flaws_behind i setup front (p ∷ parts) ≡ []
-    → flaws_behind i setup (front ++ p ∷ []) parts ≡ []
-behind_none i setup front p parts e = back_none (part_flaws i setup front p) (flaws_behind i setup (front ++ p ∷ []) parts) e
+pub behind_none : (members : List Declared) (setup : ℕ) (front : List Part) (p : Part) (parts : List Part) → flaws_behind members setup front (p ∷ parts) ≡ []
+    → flaws_behind members setup (front ++ p ∷ []) parts ≡ []
+behind_none members setup front p parts e = back_none (part_flaws members setup front p) (flaws_behind members setup (front ++ p ∷ []) parts) e
 
 setups_few : (p : Part) → length (calls_of_setup p) ≤ length (calls_in p)
 setups_few (Setup at calls) = omega arith
 setups_few (Client at n calls) = omega arith
 setups_few (Schedule at numbers) = omega arith
-setups_few (Stop at numbers) = omega arith
+setups_few (Stop at service numbers) = omega arith
 
-all_few : (i : Declared) (setup : ℕ) (front parts : List Part) → length (flat_map calls_in front) ≤ 65536 → flaws_behind i setup front parts ≡ []
+all_few : (members : List Declared) (setup : ℕ) (front parts : List Part) → length (flat_map calls_in front) ≤ 65536 → flaws_behind members setup front parts ≡ []
     → length (flat_map calls_in front) + length (flat_map calls_of_setup parts) ≤ 65536
-all_few i setup front [] le e = omega (arith, le)
-all_few i setup front (p ∷ parts) le e =
-    let inner = inner_none i setup front p parts e in
-    let few : length (flat_map calls_in front) + length (calls_in p) ≤ 65536 = part_few i setup (length (flat_map calls_in front)) p le inner in
+all_few members setup front [] le e = omega (arith, le)
+all_few members setup front (p ∷ parts) le e =
+    let inner = inner_none members setup front p parts e in
+    let few : length (flat_map calls_in front) + length (calls_in p) ≤ 65536 = part_few members setup (length (flat_map calls_in front)) p le inner in
     let more : length (flat_map calls_in (front ++ p ∷ [])) ≤ 65536 = subst (λ v. v ≤ 65536) (sym (counted front p)) few in
     let rest : length (flat_map calls_in (front ++ p ∷ [])) + length (flat_map calls_of_setup parts) ≤ 65536 =
-    all_few i setup (front ++ p ∷ []) parts more (behind_none i setup front p parts e) in
+    all_few members setup (front ++ p ∷ []) parts more (behind_none members setup front p parts e) in
     let own : length (calls_of_setup p) ≤ length (calls_in p) = setups_few p in
     let sum : length (flat_map calls_of_setup (p ∷ parts)) ≡ length (calls_of_setup p) + length (flat_map calls_of_setup parts) =
     length-append (calls_of_setup p) (flat_map calls_of_setup parts) in
@@ -171,24 +171,24 @@ args_held own (k ∷ kinds) (a ∷ args) le fits e =
     both (is_held_arg a) _ (arg_held own k a le (both_left (written_arg_fits own k a) _ fits) (front_none (arg_flaws a) (flat_map arg_flaws args) e))
     (args_held own kinds args le (both_right (written_arg_fits own k a) _ fits) (back_none (arg_flaws a) (flat_map arg_flaws args) e))
 
-fun_held : (i : Declared) (in_setup : Bool) (own : ℕ) (c : WrittenCall) (found : Option ℕ) → own ≤ 4294967296 → fun_flaws i in_setup own c found ≡ []
+fun_held : (in_setup : Bool) (own : ℕ) (c : WrittenCall) (found : Option Fun) → own ≤ 4294967296 → fun_flaws in_setup own c found ≡ []
     → flat_map arg_flaws c.args ≡ [] → is_held_call c ≡ true
-fun_held i in_setup own c None le e args = absurd cc
-fun_held i in_setup own c (Some f) le e args =
-    args_held own (fun_at i.facts.funs f).kinds c.args le (is_true _ (not_flawed _ _ _ (front_none _ _ e))) args
+fun_held in_setup own c None le e args = absurd cc
+fun_held in_setup own c (Some f) le e args =
+    args_held own f.kinds c.args le (is_true _ (not_flawed _ _ _ (front_none _ _ e))) args
 
-call_held : (i : Declared) (in_setup : Bool) (nth own : ℕ) (c : WrittenCall) → own ≤ 4294967296 → call_flaws i in_setup nth own c ≡ [] → is_held_call c ≡ true
-call_held i in_setup nth own c le e =
-    fun_held i in_setup own c (declared_fun i c.name.bytes) le (front_none _ _ (front_none _ _ e)) (back_none _ (flat_map arg_flaws c.args) e)
+call_held : (members : List Declared) (in_setup : Bool) (nth own : ℕ) (c : WrittenCall) → own ≤ 4294967296 → call_flaws members in_setup nth own c ≡ [] → is_held_call c ≡ true
+call_held members in_setup nth own c le e =
+    fun_held in_setup own c (function_named members c.name.bytes) le (front_none _ _ (front_none _ _ e)) (back_none _ (flat_map arg_flaws c.args) e)
 
-calls_held : (i : Declared) (in_setup : Bool) (nth own : ℕ) (calls : List WrittenCall) → own + length calls ≤ 4294967296 → calls_flaws i in_setup nth own calls ≡ []
+calls_held : (members : List Declared) (in_setup : Bool) (nth own : ℕ) (calls : List WrittenCall) → own + length calls ≤ 4294967296 → calls_flaws members in_setup nth own calls ≡ []
     → list_all is_held_call calls ≡ true
-calls_held i in_setup nth own [] le e = refl
-calls_held i in_setup nth own (c ∷ calls) le e =
+calls_held members in_setup nth own [] le e = refl
+calls_held members in_setup nth own (c ∷ calls) le e =
     let here : own ≤ 4294967296 = omega (arith, le) in
     let rest : own + 1 + length calls ≤ 4294967296 = omega (arith, le) in
-    both (is_held_call c) _ (call_held i in_setup nth own c here (front_none (call_flaws i in_setup nth own c) _ e))
-    (calls_held i in_setup (nth + 1) (own + 1) calls rest (back_none (call_flaws i in_setup nth own c) _ e))
+    both (is_held_call c) _ (call_held members in_setup nth own c here (front_none (call_flaws members in_setup nth own c) _ e))
+    (calls_held members in_setup (nth + 1) (own + 1) calls rest (back_none (call_flaws members in_setup nth own c) _ e))
 
 numbers_held : (numbers : List Spelling) → flat_map client_flaws numbers ≡ [] → list_all is_client_number numbers ≡ true
 numbers_held [] e = refl
@@ -203,33 +203,33 @@ before_few setup client le = by (client == 1)
     by true = le
     by false = omega arith
 
-part_held : (i : Declared) (setup before : ℕ) (p : Part) → setup ≤ 65536 → before ≤ 65536 → inner_flaws i setup before p ≡ [] → is_held p ≡ true
-part_held i setup before (Setup at calls) s le e =
-    let few = part_few i setup before (Setup at calls) le e in
+part_held : (members : List Declared) (setup before : ℕ) (p : Part) → setup ≤ 65536 → before ≤ 65536 → inner_flaws members setup before p ≡ [] → is_held p ≡ true
+part_held members setup before (Setup at calls) s le e =
+    let few = part_few members setup before (Setup at calls) le e in
     let most : 1 + length calls ≤ 4294967296 = omega (arith, few) in
-    calls_held i true (before + 1) 1 calls most e
-part_held i setup before (Client at n calls) s le e =
-    let few = part_few i setup before (Client at n calls) le e in
+    calls_held members true (before + 1) 1 calls most e
+part_held members setup before (Client at n calls) s le e =
+    let few = part_few members setup before (Client at n calls) le e in
     let own = before_few setup (counts_as n.bytes) s in
     let most : calls_before setup (counts_as n.bytes) + 1 + length calls ≤ 4294967296 = omega (arith, few, own) in
     both (is_client_number n) _ (is_true _ (not_flawed _ BadClient n.at (front_none _ _ (front_none (client_flaws n) _ e))))
-    (calls_held i false (before + 1) (calls_before setup (counts_as n.bytes) + 1) calls most (back_none (client_flaws n) _ e))
-part_held i setup before (Schedule at numbers) s le e = numbers_held numbers e
-part_held i setup before (Stop at numbers) s le e = refl
+    (calls_held members false (before + 1) (calls_before setup (counts_as n.bytes) + 1) calls most (back_none (client_flaws n) _ e))
+part_held members setup before (Schedule at numbers) s le e = numbers_held numbers e
+part_held members setup before (Stop at service numbers) s le e = refl
 
-parts_held : (i : Declared) (setup : ℕ) (front parts : List Part) → setup ≤ 65536 → length (flat_map calls_in front) ≤ 65536 → flaws_behind i setup front parts ≡ []
+parts_held : (members : List Declared) (setup : ℕ) (front parts : List Part) → setup ≤ 65536 → length (flat_map calls_in front) ≤ 65536 → flaws_behind members setup front parts ≡ []
     → list_all is_held parts ≡ true
-parts_held i setup front [] s le e = refl
-parts_held i setup front (p ∷ parts) s le e =
-    let inner = inner_none i setup front p parts e in
-    let few = part_few i setup (length (flat_map calls_in front)) p le inner in
-    both (is_held p) _ (part_held i setup (length (flat_map calls_in front)) p s le inner)
-    (parts_held i setup (front ++ p ∷ []) parts s (subst (λ v. v ≤ 65536) (sym (counted front p)) few) (behind_none i setup front p parts e))
+parts_held members setup front [] s le e = refl
+parts_held members setup front (p ∷ parts) s le e =
+    let inner = inner_none members setup front p parts e in
+    let few = part_few members setup (length (flat_map calls_in front)) p le inner in
+    both (is_held p) _ (part_held members setup (length (flat_map calls_in front)) p s le inner)
+    (parts_held members setup (front ++ p ∷ []) parts s (subst (λ v. v ≤ 65536) (sym (counted front p)) few) (behind_none members setup front p parts e))
 
 -- flawless parts have room
-pub flawless_held : (i : Declared) (parts : List Part) → flaws_of i parts ≡ [] → list_all is_held parts ≡ true
-flawless_held i parts e =
+pub flawless_held : (members : List Declared) (parts : List Part) → flaws_of members parts ≡ [] → list_all is_held parts ≡ true
+flawless_held members parts e =
     let none : length (flat_map calls_in []) ≤ 65536 = omega arith in
-    let all : 0 + length (flat_map calls_of_setup parts) ≤ 65536 = all_few i (length (flat_map calls_of_setup parts)) [] parts none e in
+    let all : 0 + length (flat_map calls_of_setup parts) ≤ 65536 = all_few members (length (flat_map calls_of_setup parts)) [] parts none e in
     let setup : length (flat_map calls_of_setup parts) ≤ 65536 = omega (arith, all) in
-    parts_held i (length (flat_map calls_of_setup parts)) [] parts setup none e
+    parts_held members (length (flat_map calls_of_setup parts)) [] parts setup none e

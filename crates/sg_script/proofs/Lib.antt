@@ -3,4 +3,5 @@ pub mod Earliest
 pub mod Held
 pub mod Naming
 pub mod Parts
+pub mod Stops
 pub mod Unique

@@ -1,10 +1,10 @@
--- What can be wrong with a script for an interface, and at which place.
-use Rattle.std.specs.Prelude.{ℕ, ◌≡◌, ◌<◌, ◌≤◌, ◌+◌, ◌==◌, ◌&&◌, ◌⊎◌, Bool, true, false, not, nat_le, nat_lt, if◌then◌else◌, List, [], ◌∷◌, ◌++◌, length, None, Some, codes}
+-- What can be wrong with a script for one interface or for several, its members, and at which place.
+use Rattle.std.specs.Prelude.{ℕ, ◌≡◌, ◌<◌, ◌≤◌, ◌+◌, ◌==◌, ◌&&◌, ◌⊎◌, Bool, true, false, not, is_none, nat_le, nat_lt, if◌then◌else◌, List, [], ◌∷◌, ◌++◌, length, None, Some, codes}
 use Rattle.std.specs.List.{Contains, flat_map, list_any, position_or_len}
+use Rattle.std.specs.Option.{option_map_or}
 use Rattle.std.specs.Cmp.Lexicographic.{pointwise}
 use Rattle.sg_facts.specs.declared.shape.Kind.{Kind}
 use Rattle.sg_facts.specs.declared.shape.Kind.TheVariants.{Text as IsText}
-use Rattle.sg_facts.specs.Facts.{fun_at}
 use Rattle.sg_facts.specs.Interface.{Declared}
 use Rattle.sg_facts.specs.Limits.{most_script_calls}
 use Rattle.sg_facts.specs.sg_base.Counts.{last_count}
@@ -15,10 +15,10 @@ use Rattle.sg_script_parse.specs.declared.tree.WrittenCall.{WrittenCall}
 use Rattle.sg_script_parse.specs.declared.tree.Part.{Part}
 use Rattle.sg_script_parse.specs.declared.tree.Part.TheVariants.{Setup, Client, Schedule, Stop}
 use Rattle.sg_script.specs.declared.fault.ScriptKind.{ScriptKind}
-use Rattle.sg_script.specs.declared.fault.ScriptKind.TheVariants.{Syntax, UnknownFunction, BadArgs, BadClient, Twice, NotAscending, Blocking, Limit}
+use Rattle.sg_script.specs.declared.fault.ScriptKind.TheVariants.{Syntax, UnknownFunction, UnknownService, BadArgs, BadClient, Twice, NotAscending, Blocking, Limit}
 use Rattle.sg_script.specs.declared.fault.ScriptFault.{ScriptFault}
 use Rattle.sg_script.specs.Numbers.{counts_as, is_known_client, is_text, unquoted, value_of_digits}
-use Rattle.sg_script.specs.Scripts.{calls_of_setup, declared_fun}
+use Rattle.sg_script.specs.Scripts.{calls_of_setup, function_named, is_stop_of, stop_member}
 use Rattle.sg_script.specs.contracts.fault.ScriptKindPartialEq.TheImpl.{eq-value as same_kind}
 
 -- a flaw of a kind at a place, where there is one
@@ -51,22 +51,20 @@ abbrev pub written_args_fit : ℕ → List Kind → List WrittenArg → Bool
 written_args_fit own kinds args = pointwise (written_arg_fits own) kinds args
 
 -- a call: whether it stands in a setup, its number among all calls of the text, and its number among its client's. It is judged by its
--- function, where the interface declares one of its name; as one call too many; and by each argument by itself
-abbrev pub call_flaws : Declared → Bool → ℕ → ℕ → WrittenCall → List ScriptFault
-call_flaws i in_setup nth own c =
-    (elim (declared_fun i c.name.bytes) [
+-- function, where a member declares one of its name; as one call too many; and by each argument by itself
+abbrev pub call_flaws : List Declared → Bool → ℕ → ℕ → WrittenCall → List ScriptFault
+call_flaws members in_setup nth own c =
+    (elim (function_named members c.name.bytes) [
       | None ↦ script_flaw_if true UnknownFunction c.name.at
-      | Some f ↦
-          script_flaw_if (not (written_args_fit own (fun_at i.facts.funs f).kinds c.args)) BadArgs c.name.at
-          ++ script_flaw_if (in_setup && (fun_at i.facts.funs f).block) Blocking c.name.at
+      | Some f ↦ script_flaw_if (not (written_args_fit own f.kinds c.args)) BadArgs c.name.at ++ script_flaw_if (in_setup && f.block) Blocking c.name.at
     ])
     ++ script_flaw_if (nth == most_script_calls + 1) Limit c.name.at
     ++ flat_map (λ (a : WrittenArg). elim a [ Text t ↦ script_flaw_if (not (is_text (unquoted t.bytes))) Limit t.at | Number n ↦ number_flaws n | Back n ↦ number_flaws n ]) c.args
 
 -- calls that follow one another, the first of which has these numbers
-abbrev pub calls_flaws : Declared → Bool → ℕ → ℕ → List WrittenCall → List ScriptFault
-calls_flaws i in_setup nth own [] = []
-calls_flaws i in_setup nth own (c ∷ calls) = call_flaws i in_setup nth own c ++ calls_flaws i in_setup (nth + 1) (own + 1) calls
+abbrev pub calls_flaws : List Declared → Bool → ℕ → ℕ → List WrittenCall → List ScriptFault
+calls_flaws members in_setup nth own [] = []
+calls_flaws members in_setup nth own (c ∷ calls) = call_flaws members in_setup nth own c ++ calls_flaws members in_setup (nth + 1) (own + 1) calls
 
 -- ---- stops
 
@@ -88,38 +86,40 @@ calls_in part = elim part [ Setup at calls ↦ calls | Client at n calls ↦ cal
 abbrev pub calls_before : ℕ → ℕ → ℕ
 calls_before setup client = if client == 1 then setup else 0
 
--- a part after others, in a script whose setup has so many calls: `Twice` at its first word, where it is a second `setup`, `schedule` or
--- `stop`, or a second part of one client; and what is wrong within it
-abbrev pub part_flaws : Declared → ℕ → List Part → Part → List ScriptFault
-part_flaws i setup front (Setup at calls) =
+-- a part after others, in a script whose setup has so many calls: `Twice` at its first word, where it is a second `setup` or `schedule`,
+-- a second `stop` for one member, or a second part of one client; and what is wrong within it
+abbrev pub part_flaws : List Declared → ℕ → List Part → Part → List ScriptFault
+part_flaws members setup front (Setup at calls) =
     script_flaw_if (list_any (λ (p : Part). elim p [ Setup _ _ ↦ true | _ ↦ false ]) front) Twice at
-    ++ calls_flaws i true (length (flat_map calls_in front) + 1) 1 calls
-part_flaws i setup front (Client at n calls) =
+    ++ calls_flaws members true (length (flat_map calls_in front) + 1) 1 calls
+part_flaws members setup front (Client at n calls) =
     let client = counts_as n.bytes in
     let again = list_any (λ (p : Part). elim p [ Client _ m _ ↦ counts_as m.bytes == client | _ ↦ false ]) front in
     script_flaw_if (is_known_client client && again) Twice at
-    ++ (client_flaws n ++ calls_flaws i false (length (flat_map calls_in front) + 1) (calls_before setup client + 1) calls)
-part_flaws i setup front (Schedule at numbers) =
+    ++ (client_flaws n ++ calls_flaws members false (length (flat_map calls_in front) + 1) (calls_before setup client + 1) calls)
+part_flaws members setup front (Schedule at numbers) =
     script_flaw_if (list_any (λ (p : Part). elim p [ Schedule _ _ ↦ true | _ ↦ false ]) front) Twice at ++ flat_map client_flaws numbers
-part_flaws i setup front (Stop at numbers) =
-    script_flaw_if (list_any (λ (p : Part). elim p [ Stop _ _ ↦ true | _ ↦ false ]) front) Twice at ++ stops_flaws 1 0 numbers
+part_flaws members setup front (Stop at service numbers) =
+    let again = option_map_or (λ m. list_any (is_stop_of members m) front) (stop_member members service) false in
+    script_flaw_if again Twice at
+    ++ (option_map_or (λ (s : Spelling). script_flaw_if (is_none (stop_member members service)) UnknownService s.at) service [] ++ stops_flaws 1 0 numbers)
 
 -- parts after others
-abbrev pub flaws_behind : Declared → ℕ → List Part → List Part → List ScriptFault
-flaws_behind i setup front [] = []
-flaws_behind i setup front (p ∷ parts) = part_flaws i setup front p ++ flaws_behind i setup (front ++ p ∷ []) parts
+abbrev pub flaws_behind : List Declared → ℕ → List Part → List Part → List ScriptFault
+flaws_behind members setup front [] = []
+flaws_behind members setup front (p ∷ parts) = part_flaws members setup front p ++ flaws_behind members setup (front ++ p ∷ []) parts
 
 -- all that is wrong with a script; all calls of its setups count, wherever these stand
-abbrev pub flaws_of : Declared → List Part → List ScriptFault
-flaws_of i parts = flaws_behind i (length (flat_map calls_of_setup parts)) [] parts
+abbrev pub flaws_of : List Declared → List Part → List ScriptFault
+flaws_of members parts = flaws_behind members (length (flat_map calls_of_setup parts)) [] parts
 
 -- ---- the first of them
 
 -- the kinds in their order at one place, each with its name
 abbrev pub script_kinds : List (ScriptKind × List ℕ)
 script_kinds =
-    (Syntax, codes "Syntax") ∷ (UnknownFunction, codes "UnknownFunction") ∷ (BadArgs, codes "BadArgs") ∷ (BadClient, codes "BadClient")
-    ∷ (Twice, codes "Twice") ∷ (NotAscending, codes "NotAscending") ∷ (Blocking, codes "Blocking") ∷ (Limit, codes "Limit") ∷ []
+    (Syntax, codes "Syntax") ∷ (UnknownFunction, codes "UnknownFunction") ∷ (UnknownService, codes "UnknownService") ∷ (BadArgs, codes "BadArgs")
+    ∷ (BadClient, codes "BadClient") ∷ (Twice, codes "Twice") ∷ (NotAscending, codes "NotAscending") ∷ (Blocking, codes "Blocking") ∷ (Limit, codes "Limit") ∷ []
 
 -- the place of a kind in that order
 abbrev pub script_kind_rank : ScriptKind → ℕ

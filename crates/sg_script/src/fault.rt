@@ -8,21 +8,24 @@ pub enum ScriptKind {
     /// The text is no script of the grammar. The place is the first byte or token with which no script goes on so, or the
     /// text's length.
     Syntax,
-    /// The interface doesn't declare the function. The place is the call's name.
+    /// No interface that the script is for declares the function. The place is the call's name.
     UnknownFunction,
+    /// No interface that the script is for is of the service. The place is the service's name.
+    UnknownService,
     /// There are more or fewer arguments than parameters, or a text stands for something else, or something else for a text,
     /// or a `$` number is 0 or not less than the call's own number. The place is the call's name.
     BadArgs,
     /// A client's number is 0 or above 64. The place is the number.
     BadClient,
-    /// A second `setup`, `schedule` or `stop`, or a second part of one client. The place is its first word.
+    /// A second `setup` or `schedule`, a second `stop` for one service, or a second part of one client. The place is its first
+    /// word.
     Twice,
     /// A stop number is 0 or not above the one before it. The place is the number.
     NotAscending,
     /// A function that may block, in `setup`. The place is the call's name.
     Blocking,
-    /// A number above the greatest of 64 bits, a text of more than 256 bytes, the 65,537th call or the 65th stop. The place is
-    /// the number, the text, the call's name, or the stop's number.
+    /// A number above the greatest of 64 bits, a text of more than 256 bytes, the 65,537th call or the 65th stop of a service.
+    /// The place is the number, the text, the call's name, or the stop's number.
     Limit,
 }
 

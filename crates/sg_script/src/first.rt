@@ -71,11 +71,12 @@ fn script_kind_rank(kind: ScriptKind) -> u8
     match kind {
         ScriptKind::Syntax => 0,
         ScriptKind::UnknownFunction => 1,
-        ScriptKind::BadArgs => 2,
-        ScriptKind::BadClient => 3,
-        ScriptKind::Twice => 4,
-        ScriptKind::NotAscending => 5,
-        ScriptKind::Blocking => 6,
-        ScriptKind::Limit => 7,
+        ScriptKind::UnknownService => 2,
+        ScriptKind::BadArgs => 3,
+        ScriptKind::BadClient => 4,
+        ScriptKind::Twice => 5,
+        ScriptKind::NotAscending => 6,
+        ScriptKind::Blocking => 7,
+        ScriptKind::Limit => 8,
     }
 }

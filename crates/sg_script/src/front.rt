@@ -1,16 +1,23 @@
 // The parts of a script that were judged, as far as later ones depend on them.
-ghost use Rattle.std.specs.Prelude.{◌≡◌, ◌≤◌, ◌<◌, ◌+◌, ◌++◌, ◌∷◌, ◌^◌, ◌&&◌, [], List, false, true, slice_index_or, slice_set};
+ghost use Rattle.std.specs.Option.{option_map_or};
+ghost use Rattle.std.specs.Prelude.{◌≡◌, ◌≤◌, ◌<◌, ◌+◌, ◌++◌, ◌∷◌, ◌^◌, ◌&&◌, [], List, false, length, true, slice_index_or, slice_set};
 ghost use Rattle.sg_script_parse.specs.declared.tree.Part.{Part as OnePart};
+ghost use Rattle.sg_script.specs.Scripts.{most_members, stop_member};
+ghost use Rattle.sg_facts.specs.Interface.{Declared};
 ghost use Rattle.sg_script.specs.Inside.Parts.{comes_again};
 ghost use Rattle.sg_script.specs.Numbers.{is_known_client};
 ghost use Rattle.sg_script.specs.Inside.Fronts.{IsFront};
 
+use crate::names::stop_member;
 use crate::numbers::{counts_as, is_known_client};
-use sg_facts::LAST_CLIENT;
-use sg_script_parse::Part;
+use sg_facts::{Interface, LAST_CLIENT};
+use sg_script_parse::{Part, Spelled};
 
 // A place for each number up to that of the last client.
 const CLIENT_PLACES: usize = LAST_CLIENT as usize + 1;
+
+/// The greatest number of members.
+pub const MOST_MEMBERS: usize = 64;
 
 /// What is kept of the parts of a script that were judged.
 #[derive(Drop)]
@@ -21,8 +28,8 @@ pub struct SeenParts {
     pub clients: [bool; CLIENT_PLACES],
     /// Whether there was a `schedule`.
     pub schedule: bool,
-    /// Whether there was a `stop`.
-    pub stop: bool,
+    /// Which members had a `stop`, from 0.
+    pub stops: [bool; MOST_MEMBERS],
     /// The number of the calls of all parts. No sum of lengths is too great for the type.
     pub calls: u128,
 }
@@ -30,27 +37,28 @@ pub struct SeenParts {
 impl SeenParts {
     /// No part.
     pub fn new() -> Self
-        ensures front { IsFront result [] }
+        ensures front { (members : List Declared) → IsFront members result [] }
         ensures calls { result.calls ≡ 0 }
     {
         SeenParts {
             setup: false,
             clients: [false; CLIENT_PLACES],
             schedule: false,
-            stop: false,
+            stops: [false; MOST_MEMBERS],
             calls: 0,
         }
     }
 
-    /// Whether a part comes a second time after these parts.
-    pub fn comes_again(&self, part: &Part) -> bool
-        ensures { (parts : List OnePart) → IsFront self.now parts → result ≡ comes_again parts part.now }
+    /// Whether a part comes a second time after these parts, in a script for these members.
+    pub fn comes_again(&self, members: &[Interface], part: &Part) -> bool
+        requires { length members.now ≤ most_members }
+        ensures { (parts : List OnePart) → IsFront members.now self.now parts → result ≡ comes_again members.now parts part.now }
     {
         match part {
             Part::Setup { .. } => self.setup,
             Part::Client { number, .. } => self.had(counts_as(number.slice)),
             Part::Schedule { .. } => self.schedule,
-            Part::Stop { .. } => self.stop,
+            Part::Stop { service, .. } => self.had_stop(members, service),
         }
     }
 
@@ -61,10 +69,22 @@ impl SeenParts {
         is_known_client(number) && self.clients[number as usize]
     }
 
-    /// Puts a part after these parts.
-    pub fn add(&mut self, part: &Part)
-        requires { self.old.calls + 2 ^ 64 < 2 ^ 128 }
-        ensures front { (parts : List OnePart) → IsFront self.old parts → IsFront self.new (parts ++ part.now ∷ []) }
+    // Whether there was a `stop` for the member of a service.
+    fn had_stop(&self, members: &[Interface], service: &Option<Spelled>) -> bool
+        requires { length members.now ≤ most_members }
+        ensures { result ≡ option_map_or (λ m. slice_index_or self.now.stops m false) (stop_member members.now service.now) false }
+    {
+        match stop_member(members, service) {
+            Some(member) => self.stops[member],
+            None => false,
+        }
+    }
+
+    /// Puts a part after these parts, in a script for these members.
+    pub fn add(&mut self, members: &[Interface], part: &Part)
+        requires few { length members.now ≤ most_members }
+        requires room { self.old.calls + 2 ^ 64 < 2 ^ 128 }
+        ensures front { (parts : List OnePart) → IsFront members.now self.old parts → IsFront members.now self.new (parts ++ part.now ∷ []) }
         ensures calls { self.new.calls < self.old.calls + 2 ^ 64 }
     {
         match part {
@@ -77,7 +97,7 @@ impl SeenParts {
                 self.calls += calls.len() as u128;
             }
             Part::Schedule { .. } => self.schedule = true,
-            Part::Stop { .. } => self.stop = true,
+            Part::Stop { service, .. } => self.add_stop(members, service),
         }
     }
 
@@ -87,6 +107,16 @@ impl SeenParts {
     {
         if number <= u64::from(LAST_CLIENT) {
             self.clients[number as usize] = true;
+        }
+    }
+
+    // Notes that there was a `stop` for the member of a service.
+    fn add_stop(&mut self, members: &[Interface], service: &Option<Spelled>)
+        requires { length members.now ≤ most_members }
+        ensures { self.new ≡ option_map_or (λ m. record self.old { stops = slice_set self.old.stops m true }) (stop_member members.now service.now) self.old }
+    {
+        if let Some(member) = stop_member(members, service) {
+            self.stops[member] = true;
         }
     }
 }

@@ -1,18 +1,18 @@
-// What is first wrong with the parts of a script.
-ghost use Rattle.std.specs.Prelude.{◌≡◌, ◌<◌, ◌+◌, ◌^◌, ◌&&◌, [], None, List, length, nat_le, nat_lt, MatchOption};
+// What is first wrong with the parts of a script for one interface or for several, its members.
+ghost use Rattle.std.specs.Prelude.{◌≡◌, ◌<◌, ◌+◌, ◌^◌, ◌&&◌, ◌≤◌, [], None, List, length, nat_le, nat_lt, MatchOption};
 ghost use Rattle.std.specs.List.{flat_map};
 ghost use Rattle.sg_script_parse.specs.declared.tree.Part.{Part as OnePart};
 ghost use Rattle.sg_script.specs.Inside.Firsts.{first_behind};
 ghost use Rattle.sg_script.specs.Inside.Fronts.{IsFront};
 ghost use Rattle.sg_script.specs.Flaws.{IsFirstFlaw, written_arg_fits, written_args_fit, call_flaws, calls_before, calls_flaws, client_flaws, flaws_behind, flaws_of, number_flaws, part_flaws, stops_flaws};
-ghost use Rattle.sg_script.specs.Inside.Parts.{arg_flaws, fun_flaws, inner_flaws, part_place};
-ghost use Rattle.sg_script.specs.Scripts.{calls_of_setup, declared_fun};
+ghost use Rattle.sg_script.specs.Inside.Parts.{arg_flaws, fun_flaws, inner_flaws, part_place, service_flaws};
+ghost use Rattle.sg_script.specs.Scripts.{calls_of_setup, function_named, most_members};
 ghost use Rattle.sg_script.specs.Numbers.{counts_as};
 
 use crate::fault::{ScriptFault, ScriptKind};
 use crate::first::First;
 use crate::front::SeenParts;
-use crate::names::declared_fun;
+use crate::names::{function_named, stop_member};
 use crate::numbers::{counts_as, is_above, is_known_client, is_text, unquoted};
 use sg_facts::{Interface, Kind};
 use sg_script_parse::{Part, Spelled, WrittenArg, WrittenCall};
@@ -111,14 +111,19 @@ fn written_args_fit(own: u128, kinds: &[Kind], args: &[WrittenArg]) -> bool
 }
 
 // Notes what is wrong with a call by its function.
-fn judge_fun(first: &mut First, iface: &Interface, in_setup: bool, own: u128, call: &WrittenCall)
-    ensures { first.new ≡ first_behind first.old (fun_flaws iface.now in_setup own call.now (declared_fun iface.now call.now.name.bytes)) }
+fn judge_fun(
+    first: &mut First,
+    members: &[Interface],
+    in_setup: bool,
+    own: u128,
+    call: &WrittenCall,
+)
+    ensures { first.new ≡ first_behind first.old (fun_flaws in_setup own call.now (function_named members.now call.now.name.bytes)) }
 {
     let at = call.name.at;
-    match declared_fun(iface, call.name.slice) {
+    match function_named(members, call.name.slice) {
         None => first.note_if(true, ScriptKind::UnknownFunction, at),
-        Some(number) => {
-            let fun = iface.fun(number);
+        Some(fun) => {
             let fits = written_args_fit(own, fun.kinds, call.args.as_slice());
             first.note_if(!fits, ScriptKind::BadArgs, at);
             first.note_if(in_setup && fun.may_block(), ScriptKind::Blocking, at);
@@ -129,15 +134,15 @@ fn judge_fun(first: &mut First, iface: &Interface, in_setup: bool, own: u128, ca
 // Notes what is wrong with a call, which has a number among all calls and one among its client's.
 fn judge_call(
     first: &mut First,
-    iface: &Interface,
+    members: &[Interface],
     in_setup: bool,
     nth: u128,
     own: u128,
     call: &WrittenCall,
 )
-    ensures { first.new ≡ first_behind first.old (call_flaws iface.now in_setup nth own call.now) }
+    ensures { first.new ≡ first_behind first.old (call_flaws members.now in_setup nth own call.now) }
 {
-    judge_fun(first, iface, in_setup, own, call);
+    judge_fun(first, members, in_setup, own, call);
     first.note_if(nth == TOO_MANY_CALLS, ScriptKind::Limit, call.name.at);
     judge_args(first, call.args.as_slice());
 }
@@ -145,7 +150,7 @@ fn judge_call(
 // Notes what is wrong with calls that follow one another, the first of which has these numbers.
 fn judge_calls(
     first: &mut First,
-    iface: &Interface,
+    members: &[Interface],
     in_setup: bool,
     mut nth: u128,
     mut own: u128,
@@ -153,16 +158,27 @@ fn judge_calls(
 )
     requires nth { nth + 2 ^ 64 < 2 ^ 128 }
     requires own { own + 2 ^ 64 < 2 ^ 128 }
-    ensures { first.new ≡ first_behind first.old (calls_flaws iface.now in_setup nth own calls.now) }
+    ensures { first.new ≡ first_behind first.old (calls_flaws members.now in_setup nth own calls.now) }
 {
     'each: for call in calls {
-        judge_call(first, iface, in_setup, nth, own, call);
+        judge_call(first, members, in_setup, nth, own, call);
         nth += 1;
         own += 1;
     }
 }
 
 // ---- stops
+
+// Notes the name of a service of which no member is.
+fn judge_service(first: &mut First, members: &[Interface], service: &Option<Spelled>)
+    requires few { length members.now ≤ most_members }
+    ensures { first.new ≡ first_behind first.old (service_flaws members.now service.now) }
+{
+    if let Some(name) = service {
+        let unknown = stop_member(members, service).is_none();
+        first.note_if(unknown, ScriptKind::UnknownService, name.at);
+    }
+}
 
 // Notes what is wrong with stops.
 fn judge_stops(first: &mut First, stops: &[Spelled])
@@ -200,33 +216,46 @@ fn calls_before(setup: u128, client: u64) -> u128
 }
 
 // Notes what is wrong within a part, after so many calls, in a script whose setup has so many.
-fn judge_inside(first: &mut First, iface: &Interface, setup: u128, before: u128, part: &Part)
+fn judge_inside(first: &mut First, members: &[Interface], setup: u128, before: u128, part: &Part)
+    requires few { length members.now ≤ most_members }
     requires setup { setup + 2 ^ 65 < 2 ^ 128 }
     requires before { before + 2 ^ 65 < 2 ^ 128 }
-    ensures { first.new ≡ first_behind first.old (inner_flaws iface.now setup before part.now) }
+    ensures { first.new ≡ first_behind first.old (inner_flaws members.now setup before part.now) }
 {
     match part {
         Part::Setup { calls, .. } => {
-            judge_calls(first, iface, true, before + 1, 1, calls.as_slice());
+            judge_calls(first, members, true, before + 1, 1, calls.as_slice());
         }
         Part::Client { number, calls, .. } => {
             judge_client(first, number);
             let own = calls_before(setup, counts_as(number.slice)) + 1;
-            judge_calls(first, iface, false, before + 1, own, calls.as_slice());
+            judge_calls(first, members, false, before + 1, own, calls.as_slice());
         }
         Part::Schedule { numbers, .. } => judge_clients(first, numbers.as_slice()),
-        Part::Stop { numbers, .. } => judge_stops(first, numbers.as_slice()),
+        Part::Stop {
+            service,
+            numbers,
+            ..
+        } => {
+            judge_service(first, members, service);
+            judge_stops(first, numbers.as_slice());
+        }
     }
 }
 
 // Notes what is wrong with a part after others.
-fn judge_part(first: &mut First, iface: &Interface, setup: u128, front: &SeenParts, part: &Part)
+fn judge_part(first: &mut First, members: &[Interface], setup: u128, front: &SeenParts, part: &Part)
+    requires few { length members.now ≤ most_members }
     requires setup { setup + 2 ^ 65 < 2 ^ 128 }
     requires before { front.now.calls + 2 ^ 65 < 2 ^ 128 }
-    ensures { (parts : List OnePart) → IsFront front.now parts → first.new ≡ first_behind first.old (part_flaws iface.now setup parts part.now) }
+    ensures { (parts : List OnePart) → IsFront members.now front.now parts → first.new ≡ first_behind first.old (part_flaws members.now setup parts part.now) }
 {
-    first.note_if(front.comes_again(part), ScriptKind::Twice, part_place(part));
-    judge_inside(first, iface, setup, front.calls, part);
+    first.note_if(
+        front.comes_again(members, part),
+        ScriptKind::Twice,
+        part_place(part),
+    );
+    judge_inside(first, members, setup, front.calls, part);
 }
 
 // How many calls the setups of parts have.
@@ -244,22 +273,24 @@ fn setup_calls(parts: &[Part]) -> u128
 }
 
 // The first flaw of parts.
-fn first_in(parts: &[Part], iface: &Interface) -> First
-    ensures { result ≡ first_behind None (flaws_of iface.now parts.now) }
+fn first_in(parts: &[Part], members: &[Interface]) -> First
+    requires few { length members.now ≤ most_members }
+    ensures { result ≡ first_behind None (flaws_of members.now parts.now) }
 {
     let setup = setup_calls(parts);
     let mut first = First::new();
     let mut front = SeenParts::new();
     'each: for part in parts {
-        judge_part(&mut first, iface, setup, &front, part);
-        front.add(part);
+        judge_part(&mut first, members, setup, &front, part);
+        front.add(members, part);
     }
     first
 }
 
 /// What is first wrong with the parts of a script; None exactly where nothing is.
-pub fn judge(parts: &[Part], iface: &Interface) -> Option<ScriptFault>
-    ensures { MatchOption result (flaws_of iface.now parts.now ≡ []) (IsFirstFlaw (flaws_of iface.now parts.now)) }
+pub fn judge(parts: &[Part], members: &[Interface]) -> Option<ScriptFault>
+    requires few { length members.now ≤ most_members }
+    ensures { MatchOption result (flaws_of members.now parts.now ≡ []) (IsFirstFlaw (flaws_of members.now parts.now)) }
 {
-    first_in(parts, iface).fault()
+    first_in(parts, members).fault()
 }

@@ -1,5 +1,5 @@
 -- What is read from a state, by the token that comes next.
-use Rattle.std.proofs.Common.{◌≡◌, ℕ, if◌then◌else◌, true, false, List, [], ◌∷◌, ◌++◌, refl, sym, ap, ◌∙◌}
+use Rattle.std.proofs.Common.{◌≡◌, ℕ, Bool, if◌then◌else◌, true, false, List, [], ◌∷◌, ◌++◌, refl, sym, ap, ◌∙◌}
 use Rattle.std.specs.Prelude.{None, Some, Ok, Err, codes}
 use Rattle.sg_lex.specs.declared.token.LexFault.{LexFault}
 use Rattle.sg_lex.specs.declared.token.TokenKind.TheVariants.{Word, Number, Text}
@@ -10,7 +10,7 @@ use Rattle.sg_script_parse.specs.declared.tree.WrittenArg.{WrittenArg}
 use Rattle.sg_script_parse.specs.declared.tree.WrittenArg.TheVariants.{Number as number_arg, Text as text_arg, Back as back_arg}
 use Rattle.sg_script_parse.specs.declared.tree.WrittenCall.{WrittenCall}
 use Rattle.sg_script_parse.specs.declared.tree.Part.{Part}
-use Rattle.sg_script_parse.specs.Grammar.Inside.States.{ScriptState, dead, due, want, argument, bracketed, listed, body, counts, script, spelt_by, argument_behind, call_rest, setup_rest, client_rest, schedule_rest, stop_rest, part_behind, with_part, step, parts_at, scripts}
+use Rattle.sg_script_parse.specs.Grammar.Inside.States.{ScriptState, dead, due, want, want_word, argument, bracketed, listed, body, counts, script, spelt_by, argument_behind, call_rest, setup_rest, client_rest, schedule_rest, stop_rest, part_behind, with_part, step, parts_at, scripts}
 use Rattle.sg_lex.specs.Inside.Tests.{has_kind, is_this_mark, is_fixed}
 use Rattle.sg_lex.specs.Inside.Automata.{Reading, read, read_on}
 use Rattle.sg_script_parse.proofs.Grammar.Basics.{if_then, if_else}
@@ -52,6 +52,15 @@ number_came k n old new e g = goes_on scripts (want k) (k n) old new (spelt_toke
 pub number_missing : (k : Spelling → ScriptState) (old : Reading) → Off (has_kind Number) old.rest → read scripts (want k) old ≡ read scripts dead old
 unfolding step parts_at
 number_missing k old o = alike scripts (want k) dead (has_kind Number) old (λ token h. if_else (has_kind Number token) (Some (k (spelt_by token))) None h) refl o
+
+pub word_came : (k : Spelling → ScriptState) (w : Spelling) (old new : Reading) → old.rest ≡ Ok (spelt_token Word w) ∷ new.rest → new.end ≡ old.end
+    → read scripts (want_word k) old ≡ read scripts (k w) new
+unfolding step
+word_came k w old new e g = goes_on scripts (want_word k) (k w) old new (spelt_token Word w) e g refl
+
+pub word_missing : (k : Spelling → ScriptState) (old : Reading) → Off (has_kind Word) old.rest → read scripts (want_word k) old ≡ read scripts dead old
+unfolding step parts_at
+word_missing k old o = alike scripts (want_word k) dead (has_kind Word) old (λ token h. if_else (has_kind Word token) (Some (k (spelt_by token))) None h) refl o
 
 -- ---- arguments
 
@@ -143,42 +152,42 @@ count_missing numbers k old o =
 
 -- ---- parts
 
-pub part_came : (parts : List Part) (old new : Reading) (token : Lexeme) → old.rest ≡ Ok token ∷ new.rest → new.end ≡ old.end
-    → read scripts (script parts) old ≡ read_on scripts (part_behind (with_part parts) token) token new
+pub part_came : (several : Bool) (parts : List Part) (old new : Reading) (token : Lexeme) → old.rest ≡ Ok token ∷ new.rest → new.end ≡ old.end
+    → read scripts (script several parts) old ≡ read_on scripts (part_behind several (with_part several parts) token) token new
 unfolding step
-part_came parts old new token e g = read_next scripts (script parts) old new token e g
+part_came several parts old new token e g = read_next scripts (script several parts) old new token e g
 
-pub script_end : (parts : List Part) (old : Reading) → old.rest ≡ [] → read scripts (script parts) old ≡ Ok parts
+pub script_end : (several : Bool) (parts : List Part) (old : Reading) → old.rest ≡ [] → read scripts (script several parts) old ≡ Ok parts
 unfolding parts_at
-script_end parts old e = read_end scripts (script parts) old e
+script_end several parts old e = read_end scripts (script several parts) old e
 
 -- after the first token of a part, by the tests that fail and the one that holds
 
-pub is_setup : (go : Part → ScriptState) (token : Lexeme) (r : Reading) → is_fixed (codes "setup") token ≡ true
-    → read_on scripts (part_behind go token) token r ≡ read scripts (setup_rest go token.at) r
-is_setup go token r h = ap (λ v. read_on scripts v token r) (if_then (is_fixed (codes "setup") token) _ _ h)
+pub is_setup : (several : Bool) (go : Part → ScriptState) (token : Lexeme) (r : Reading) → is_fixed (codes "setup") token ≡ true
+    → read_on scripts (part_behind several go token) token r ≡ read scripts (setup_rest go token.at) r
+is_setup several go token r h = ap (λ v. read_on scripts v token r) (if_then (is_fixed (codes "setup") token) _ _ h)
 
-pub is_client : (go : Part → ScriptState) (token : Lexeme) (r : Reading) → is_fixed (codes "setup") token ≡ false → is_fixed (codes "client") token ≡ true
-    → read_on scripts (part_behind go token) token r ≡ read scripts (client_rest go token.at) r
-is_client go token r a h =
+pub is_client : (several : Bool) (go : Part → ScriptState) (token : Lexeme) (r : Reading) → is_fixed (codes "setup") token ≡ false → is_fixed (codes "client") token ≡ true
+    → read_on scripts (part_behind several go token) token r ≡ read scripts (client_rest go token.at) r
+is_client several go token r a h =
     ap (λ v. read_on scripts v token r) (if_else (is_fixed (codes "setup") token) _ _ a ∙ if_then (is_fixed (codes "client") token) _ _ h)
 
-pub is_schedule : (go : Part → ScriptState) (token : Lexeme) (r : Reading) → is_fixed (codes "setup") token ≡ false → is_fixed (codes "client") token ≡ false
-    → is_fixed (codes "schedule") token ≡ true → read_on scripts (part_behind go token) token r ≡ read scripts (schedule_rest go token.at) r
-is_schedule go token r a b h =
+pub is_schedule : (several : Bool) (go : Part → ScriptState) (token : Lexeme) (r : Reading) → is_fixed (codes "setup") token ≡ false → is_fixed (codes "client") token ≡ false
+    → is_fixed (codes "schedule") token ≡ true → read_on scripts (part_behind several go token) token r ≡ read scripts (schedule_rest go token.at) r
+is_schedule several go token r a b h =
     ap (λ v. read_on scripts v token r) (if_else (is_fixed (codes "setup") token) _ _ a ∙ if_else (is_fixed (codes "client") token) _ _ b
     ∙ if_then (is_fixed (codes "schedule") token) _ _ h)
 
-pub is_stop : (go : Part → ScriptState) (token : Lexeme) (r : Reading) → is_fixed (codes "setup") token ≡ false → is_fixed (codes "client") token ≡ false
+pub is_stop : (several : Bool) (go : Part → ScriptState) (token : Lexeme) (r : Reading) → is_fixed (codes "setup") token ≡ false → is_fixed (codes "client") token ≡ false
     → is_fixed (codes "schedule") token ≡ false → is_fixed (codes "stop") token ≡ true
-    → read_on scripts (part_behind go token) token r ≡ read scripts (stop_rest go token.at) r
-is_stop go token r a b c h =
+    → read_on scripts (part_behind several go token) token r ≡ read scripts (stop_rest several go token.at) r
+is_stop several go token r a b c h =
     ap (λ v. read_on scripts v token r) (if_else (is_fixed (codes "setup") token) _ _ a ∙ if_else (is_fixed (codes "client") token) _ _ b
     ∙ if_else (is_fixed (codes "schedule") token) _ _ c ∙ if_then (is_fixed (codes "stop") token) _ _ h)
 
-pub is_no_part : (go : Part → ScriptState) (token : Lexeme) (r : Reading) → is_fixed (codes "setup") token ≡ false → is_fixed (codes "client") token ≡ false
+pub is_no_part : (several : Bool) (go : Part → ScriptState) (token : Lexeme) (r : Reading) → is_fixed (codes "setup") token ≡ false → is_fixed (codes "client") token ≡ false
     → is_fixed (codes "schedule") token ≡ false → is_fixed (codes "stop") token ≡ false
-    → read_on scripts (part_behind go token) token r ≡ Err (Syntax token.at)
-is_no_part go token r a b c d =
+    → read_on scripts (part_behind several go token) token r ≡ Err (Syntax token.at)
+is_no_part several go token r a b c d =
     ap (λ v. read_on scripts v token r) (if_else (is_fixed (codes "setup") token) _ _ a ∙ if_else (is_fixed (codes "client") token) _ _ b
-    ∙ if_else (is_fixed (codes "schedule") token) _ _ c ∙ if_else (is_fixed (codes "stop") token) (Some (stop_rest go token.at)) None d)
+    ∙ if_else (is_fixed (codes "schedule") token) _ _ c ∙ if_else (is_fixed (codes "stop") token) (Some (stop_rest several go token.at)) None d)

@@ -6,7 +6,7 @@
 //! - `laws`: a script has one list of parts, and a text one answer
 //! - `reader`: tokens taken from a text, and the error where another comes than may
 //! - `calls`, `parts`: calls with their arguments, and the parts of a script, as they are read
-//! - `parser`: the whole (`parse`)
+//! - `parser`: the whole, of a script for one service (`parse`) or for several (`parse_multi`)
 #![tactic(auto)]
 
 mod calls;
@@ -19,7 +19,7 @@ mod tree;
 
 pub use error::ScriptSyntax;
 pub use laws::{one_answer, one_list_of_parts};
-pub use parser::parse;
+pub use parser::{parse, parse_multi};
 pub use tree::{
     Part, PartList, Spelled, SpelledList, WrittenArg, WrittenArgList, WrittenCall, WrittenCallList,
 };

@@ -1,25 +1,30 @@
 // The parts of a script.
 ghost use Rattle.std.specs.Prelude.{◌≡◌, ◌≤◌, List, [], length, OnOk};
+ghost use Rattle.std.specs.declared.option.Option.{Option as Maybe};
 ghost use Rattle.sg_script_parse.specs.declared.tree.Part.{Part as Written};
 ghost use Rattle.sg_lex.specs.Lexeme.{Spelling};
-ghost use Rattle.sg_script_parse.specs.Grammar.Inside.States.{ScriptState, script, counts, part_behind, setup_rest, client_rest, schedule_rest, stop_rest, scripts};
+ghost use Rattle.sg_script_parse.specs.Grammar.Inside.States.{ScriptState, script, counts, part_behind, setup_rest, client_rest, schedule_rest, stop_rest, named, scripts};
 ghost use Rattle.sg_lex.specs.Inside.Automata.{read, Leads, Answers, read_on};
 
 use crate::calls::braced;
 use crate::error::ScriptSyntax;
-use crate::reader::{mark, next_token, number, take_spelled};
-use crate::tree::{Part, PartList, SpelledList};
+use crate::reader::{mark, next_token, number, take_spelled, word};
+use crate::tree::{Part, PartList, Spelled, SpelledList};
 use sg_lex::{Reader, Token, TokenKind};
 use std::alloc::Global;
 
-/// The parts up to the end of the text.
+/// The parts up to the end of the text, of a script for several services or for one.
 #[tactic(auto, using(crate::proofs::ByToken::part_came, crate::proofs::ByToken::script_end))]
-pub fn parts<'a>(reader: &mut Reader<'a>, alloc: Global) -> Result<PartList<'a>, ScriptSyntax>
-    ensures { Answers scripts (read scripts (script []) reader.old) result }
+pub fn parts<'a>(
+    reader: &mut Reader<'a>,
+    alloc: Global,
+    several: bool,
+) -> Result<PartList<'a>, ScriptSyntax>
+    ensures { Answers scripts (read scripts (script several []) reader.old) result }
 {
     let mut parts = PartList::new(alloc);
     'parts: while let Some(token) = next_token(reader)? {
-        parts.push(part(reader, alloc, token)?)?;
+        parts.push(part(reader, alloc, several, token)?)?;
     }
     Ok(parts)
 }
@@ -29,10 +34,11 @@ pub fn parts<'a>(reader: &mut Reader<'a>, alloc: Global) -> Result<PartList<'a>,
 fn part<'a>(
     reader: &mut Reader<'a>,
     alloc: Global,
+    several: bool,
     token: Token<'a>,
 ) -> Result<Part<'a>, ScriptSyntax>
     ensures leads { (go : Written → ScriptState) →
-        Leads scripts (read_on scripts (part_behind go token.entry) token.entry reader.old) result go reader.new }
+        Leads scripts (read_on scripts (part_behind several go token.entry) token.entry reader.old) result go reader.new }
     ensures fewer { OnOk result (length reader.new.rest ≤ length reader.old.rest) }
 {
     if token.is_word(b"setup") {
@@ -45,7 +51,7 @@ fn part<'a>(
         return schedule(reader, alloc, token.at);
     }
     if token.is_word(b"stop") {
-        return stop(reader, alloc, token.at);
+        return stop(reader, alloc, several, token.at);
     }
     Err(ScriptSyntax::Syntax { at: token.at })
 }
@@ -78,13 +84,35 @@ fn schedule<'a>(reader: &mut Reader<'a>, alloc: Global, at: usize) -> Result<Par
     Ok(Part::Schedule { at, numbers })
 }
 
-/// The numbers of the stops, after the word at this place.
-fn stop<'a>(reader: &mut Reader<'a>, alloc: Global, at: usize) -> Result<Part<'a>, ScriptSyntax>
-    ensures leads { (go : Written → ScriptState) → Leads scripts (read scripts (stop_rest go at) reader.old) result go reader.new }
+/// The numbers of the stops, after the word at this place, and before them the name of their service in a script for several.
+fn stop<'a>(
+    reader: &mut Reader<'a>,
+    alloc: Global,
+    several: bool,
+    at: usize,
+) -> Result<Part<'a>, ScriptSyntax>
+    ensures leads { (go : Written → ScriptState) → Leads scripts (read scripts (stop_rest several go at) reader.old) result go reader.new }
     ensures fewer { OnOk result (length reader.new.rest ≤ length reader.old.rest) }
 {
+    let service = service(reader, several)?;
     let numbers = numbers(reader, alloc)?;
-    Ok(Part::Stop { at, numbers })
+    Ok(Part::Stop {
+        at,
+        service,
+        numbers,
+    })
+}
+
+/// The name of a service, in a script for several.
+fn service<'a>(reader: &mut Reader<'a>, several: bool) -> Result<Option<Spelled<'a>>, ScriptSyntax>
+    ensures leads { (k : Maybe Spelling → ScriptState) → Leads scripts (read scripts (named several k) reader.old) result k reader.new }
+    ensures fewer { OnOk result (length reader.new.rest ≤ length reader.old.rest) }
+{
+    if several {
+        Ok(Some(word(reader)?))
+    } else {
+        Ok(None)
+    }
 }
 
 /// Numbers up to a semicolon.

@@ -1,7 +1,7 @@
 // What a script's parts are read by: the tokens of a text, and the errors where they don't come.
 ghost use Rattle.std.specs.Prelude.{◌≡◌, ◌≤◌, [], ◌∷◌, length, IfOk, IfErr, OnOk, MatchOption, MatchBool, Ok as answered};
 ghost use Rattle.sg_lex.specs.Lexeme.{Spelling};
-ghost use Rattle.sg_script_parse.specs.Grammar.Inside.States.{ScriptState, dead, due, want, spelt_by, scripts};
+ghost use Rattle.sg_script_parse.specs.Grammar.Inside.States.{ScriptState, dead, due, want, want_word, spelt_by, scripts};
 ghost use Rattle.sg_lex.specs.Inside.Automata.{read, Leads};
 ghost use Rattle.sg_lex.specs.Inside.Ahead.{Off, Came};
 ghost use Rattle.sg_lex.specs.Inside.Tests.{has_kind, is_this_mark};
@@ -81,6 +81,18 @@ pub fn number<'a>(reader: &mut Reader<'a>) -> Result<Spelled<'a>, ScriptSyntax>
 {
     match take_spelled(reader, TokenKind::Number)? {
         Some(number) => Ok(number),
+        None => Err(unexpected(reader)),
+    }
+}
+
+/// Takes a word.
+#[tactic(auto, using(crate::proofs::ByToken::word_came, crate::proofs::ByToken::word_missing))]
+pub fn word<'a>(reader: &mut Reader<'a>) -> Result<Spelled<'a>, ScriptSyntax>
+    ensures leads { (k : Spelling → ScriptState) → Leads scripts (read scripts (want_word k) reader.old) result k reader.new }
+    ensures fewer { OnOk result (length reader.new.rest ≤ length reader.old.rest) }
+{
+    match take_spelled(reader, TokenKind::Word)? {
+        Some(word) => Ok(word),
         None => Err(unexpected(reader)),
     }
 }

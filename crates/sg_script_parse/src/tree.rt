@@ -66,9 +66,10 @@ pub enum Part<'a> {
         at: usize,
         numbers: SpelledList<'a>,
     },
-    /// `stop`: the numbers of the points at which the service stops.
+    /// `stop`: the numbers of the points at which a service stops, and its name where the script is for several.
     Stop {
         at: usize,
+        service: Option<Spelled<'a>>,
         numbers: SpelledList<'a>,
     },
 }

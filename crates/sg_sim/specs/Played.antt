@@ -10,7 +10,8 @@ use Rattle.sg_play.specs.sg_hist.declared.ended.Ended.{Ended}
 use Rattle.sg_play.specs.sg_hist.Recovered.{Stubs, struck_in}
 use Rattle.sg_play.specs.sg_hist.Ending.{HasRecovered}
 use Rattle.sg_play.specs.sg_plain.Calls.{AreEnds, callers}
-use Rattle.sg_play.specs.sg_plain.Plain.{IsPlainPlay}
+use Rattle.sg_play.specs.sg_plain.OneService.{one_service, workload_of}
+use Rattle.sg_play.specs.sg_plain.Plain.{IsPlay}
 use Rattle.sg_play.specs.sg_plain.Promises.{AreScriptsCalls, AreWoken, FollowsPlain, IsSetupFirst}
 use Rattle.sg_play.specs.sg_script.declared.script.Script.{Script}
 use Rattle.sg_play.specs.sg_seat.WorldView.{WorldView}
@@ -23,7 +24,7 @@ IsOfWorld w ended = (ended.history.items ≡ w.history) × (run_of ended.trace �
 -- nothing stopped, or where client 1 alone has calls
 pub record FollowsSchedule (i : Declared) (ask : Table) (script : Script) (run : Run) (history : List Entry) : Type 0 where
   pub plain : List Entry
-  pub is_plain : IsPlainPlay i ask script plain
+  pub is_plain : IsPlay (one_service i ask script) (workload_of script) plain
   pub follows : FollowsPlain i.facts run history plain
   pub alone : list_all (λ c. c == 1) (callers script) ≡ true → history ≡ plain
 

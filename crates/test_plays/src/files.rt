@@ -1,7 +1,7 @@
 // Plays of files.
 ghost use Rattle.sg_facts.specs.Laws.{whole};
 ghost use Rattle.test_plays.specs.FilePlays.{held_reply, held_reply_history};
-ghost use Rattle.sg_plain.specs.Plain.{IsPlainPlay};
+ghost use Rattle.sg_plain.specs.Inside.Turns.{IsPlainPlay};
 ghost use Rattle.test_histories.specs.sg_ramfs.RamfsFacts.{ramfs_facts};
 ghost use Rattle.test_histories.specs.sg_ramfs.RamfsTable.{ramfs_table};
 

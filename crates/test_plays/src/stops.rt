@@ -6,7 +6,7 @@ ghost use Rattle.sg_facts.specs.Laws.{whole};
 ghost use Rattle.test_histories.specs.sg_lock.LockFacts.{lock_facts};
 ghost use Rattle.test_histories.specs.sg_lock.LockTable.{lock_table};
 ghost use Rattle.sg_plain.specs.Calls.{AreEnds};
-ghost use Rattle.sg_plain.specs.Plain.{IsPlainPlay};
+ghost use Rattle.sg_plain.specs.Inside.Turns.{IsPlainPlay};
 ghost use Rattle.sg_plain.specs.Inside.Kept.{somebody_waits};
 ghost use Rattle.sg_plain.specs.Promises.{AreScriptsCalls, AreScriptsStops, AreWoken, FollowsPlain, IsSetupFirst};
 ghost use Rattle.sg_plain.specs.Inside.Kept.{GetsPlainAlone};

@@ -21,9 +21,10 @@ use Rattle.sg_seat.specs.sg_hist.Clients.{calls_of}
 use Rattle.sg_seat.specs.sg_hist.declared.ended.End.{End}
 use Rattle.sg_seat.specs.sg_hist.declared.ended.End.TheVariants.{Done, Blocked}
 use Rattle.sg_plain.specs.Calls.{AreEnds, IsEnd, ascending_from, call_after, callers, most_client, resolved_by, script_calls}
-use Rattle.sg_plain.specs.Inside.Turns.{resolved, after_call, after_guard, after_turn, handed_over, is_under_way, served, stage_after, waits_on}
+use Rattle.sg_plain.specs.Inside.Turns.{IsPlainPlay, after_call, after_guard, after_turn, handed_over, is_under_way, is_woken_by, resolved, served, stage_after, waits_on}
 use Rattle.sg_plain.specs.Inside.Kept.{EachEnd, GetsPlainAlone}
-use Rattle.sg_plain.specs.Plain.{IsPlainPlay, PlainPhase, Player, Stage, after_wakes, appended, at_phase, blocked, first_stage, holding, left_schedule, may_turn, next_stage, next_turn, player_at, player_of, ready, replied, stage_from, through, turned, woken_phase}
+use Rattle.sg_plain.specs.OneService.{one_service, workload_of}
+use Rattle.sg_plain.specs.Plain.{PlainPhase, Player, Stage, after_wakes, appended, at_phase, blocked, first_stage, holding, left_schedule, may_turn, next_stage, next_turn, player_at, player_of, ready, replied, stage_from, through, turned, woken_phase}
 use Rattle.sg_seat.specs.sg_hist.Wakes.{wakes}
 use Rattle.sg_plain.specs.Promises.{AreFirstCalls, AreScriptsCalls}
 use Rattle.sg_plain.specs.Script.{call_fits, calls_fit}
@@ -112,7 +113,7 @@ through_at (p ∷ players) zero all = ap is_under_way all.0
 through_at (p ∷ players) (suc k) all = through_at players k all.1
 
 through_woken : (facts : Facts) (script : Script) (history : List Entry) (rows : List Row) (call : Call) (reply : Reply) (n : ℕ) (players : List Player) → AreThrough players
-    → AreThrough (after_wakes facts script history rows call reply n players)
+    → AreThrough (after_wakes (is_woken_by facts script history rows call reply) n players)
 through_woken facts script history rows call reply n [] all = tt
 through_woken facts script history rows call reply n (p ∷ players) all =
     (by p.phase all.0 (wakes facts rows call reply (waits_on (call_after facts script history n p.done))), through_woken facts script history rows call reply (n + 1) players all.1)
@@ -134,7 +135,7 @@ StandsAt done entries rest blocked = (done ≡ entries) × (rest ≡ [])
 StandsAt done entries rest through = done ≡ entries
 
 -- a stage is a front of the history
-record IsFront (history : List Entry) (s : Stage) : Type 0 where
+record IsFront (history : List Entry) (s : Stage Entry) : Type 0 where
   rest : List Entry
   is : history ≡ s.history ++ rest
   p : Player
@@ -148,7 +149,7 @@ longer [] x = refl
 longer (y ∷ l) x = omega (arith, longer l x)
 
 -- client 1 at its next call
-stands_next : (script : Script) (done entries : ℕ) (rest : List Entry) → done ≡ entries → StandsAt done entries rest (player_at script 1 done).phase
+stands_next : (script : Script) (done entries : ℕ) (rest : List Entry) → done ≡ entries → StandsAt done entries rest (player_at (workload_of script) 1 done).phase
 stands_next script done entries rest same = by (nat_lt done (length (script_calls script 1)))
   where
     by : (b : Bool) → StandsAt done entries rest (cond b ready through)
@@ -202,17 +203,17 @@ module _ (i : Declared) (ask : Table) (script : Script) (history : List Entry) (
 
   -- a stage of this history's front
   module _ (front rest : List Entry) (is : history ≡ front ++ rest) (p : Player) (others : List Player) (thr : AreThrough others) (schedule : List ℕ) (last : ℕ) where
-    abbrev now : Stage
+    abbrev now : Stage Entry
     now = record { history = front; players = p ∷ others; schedule = schedule; last = last }
 
     -- the next entry is made, and the client is at something else
     entered : (e : Entry) (more : List Entry) → rest ≡ e ∷ more → (call : Call) (reply : Reply) → record { call = call; reply = reply } ≡ e → (q : Player) → StandsAt q.done (length front + 1) more q.phase
-        → IsFront history (record (appended i.facts script now call reply) { players = q ∷ after_wakes i.facts script front (object_of i.facts front).rows call reply 2 others })
+        → IsFront history (record (appended (one_service i ask script) now call reply) { players = q ∷ after_wakes (is_woken_by i.facts script front (object_of i.facts front).rows call reply) 2 others })
     entered e more has call reply entry q stands = record {
       rest = more;
       is = is ∙ ap (λ l. front ++ l) has ∙ ap (λ x. front ++ x ∷ more) (sym entry) ∙ sym (append_assoc front (record { call = call; reply = reply } ∷ []) more);
       p = q;
-      others = after_wakes i.facts script front (object_of i.facts front).rows call reply 2 others;
+      others = after_wakes (is_woken_by i.facts script front (object_of i.facts front).rows call reply) 2 others;
       players = refl;
       stands = subst (λ n. StandsAt q.done n more q.phase) (sym (longer front (record { call = call; reply = reply }))) stands;
       through = through_woken i.facts script front (object_of i.facts front).rows call reply 2 others thr;
@@ -227,19 +228,19 @@ module _ (i : Declared) (ask : Table) (script : Script) (history : List Entry) (
       call = resolved_by i.facts front 1 (length front + 1) c
 
       -- by what is still to come
-      after_answer : (r : List Entry) → rest ≡ r → (code : Option Code) → guard i (object_of i.facts front) call ≡ code → IsFront history (after_guard i ask script 1 now call code)
+      after_answer : (r : List Entry) → rest ≡ r → (code : Option Code) → guard i (object_of i.facts front) call ≡ code → IsFront history (after_guard (one_service i ask script) (workload_of script) 1 now call code)
       after_answer [] none (Some code) guarded =
           absurd (cc (sym (ap (λ g. refused_or g (ask (object_of i.facts front) call)) guarded) ∙ no_answer front rest is c there none))
       after_answer (e ∷ more) has (Some code) guarded =
           let said = answer_by_guard i ask (object_of i.facts front) call code e.reply guarded (its_answer front rest is c there e more has) in
           let entry : record { call = call; reply = Refused code } ≡ e = ap (λ r. record { call = call; reply = r }) said ∙ ap (λ x. record { call = x; reply = e.reply }) (sym (its_call front rest is c there e more has)) in
-          entered e more has call (Refused code) entry (player_at script 1 (p.done + 1)) (stands_next script (p.done + 1) (length front + 1) more (ap (λ n. n + 1) same))
+          entered e more has call (Refused code) entry (player_at (workload_of script) 1 (p.done + 1)) (stands_next script (p.done + 1) (length front + 1) more (ap (λ n. n + 1) same))
       after_answer r has None guarded = answered r has (ask (object_of i.facts front) call) refl
         where
           unguarded : answer i ask (object_of i.facts front) call ≡ ask (object_of i.facts front) call
           unguarded = ap (λ g. refused_or g (ask (object_of i.facts front) call)) guarded
 
-          answered : (r : List Entry) → rest ≡ r → (reply : Option Reply) → ask (object_of i.facts front) call ≡ reply → IsFront history (served i.facts script 1 now call reply)
+          answered : (r : List Entry) → rest ≡ r → (reply : Option Reply) → ask (object_of i.facts front) call ≡ reply → IsFront history (served (one_service i ask script) 1 now call reply)
           answered [] none (Some reply) asked = absurd (cc (sym (unguarded ∙ asked) ∙ no_answer front rest is c there none))
           answered [] none None asked = moved (record p { phase = blocked }) (same, none)
           answered (e ∷ more) has None asked = absurd (cc (sym (unguarded ∙ asked) ∙ its_answer front rest is c there e more has))
@@ -251,20 +252,20 @@ module _ (i : Declared) (ask : Table) (script : Script) (history : List Entry) (
               entry : record { call = call; reply = reply } ≡ e
               entry = ap (λ r. record { call = call; reply = r }) said ∙ ap (λ x. record { call = x; reply = e.reply }) (sym (its_call front rest is c there e more has))
 
-              by : (b : Bool) → IsFront history (cond b (at_phase 1 replied (appended i.facts script now call reply)) (at_phase 1 (holding reply) now))
+              by : (b : Bool) → IsFront history (cond b (at_phase 1 replied (appended (one_service i ask script) now call reply)) (at_phase 1 (holding reply) now))
               by true = entered e more has call reply entry (record p { phase = replied }) (ap (λ n. n + 1) same)
               by false = moved (record p { phase = holding reply }) (same, e, more, has, sym said)
 
     -- client 1 takes its turn
-    turn_alone : (f : PlainPhase) → p.phase ≡ f → StandsAt p.done (length front) rest f → FitsCalls i.facts (script_calls script 1) p.done f → IsFront history (turned i ask script 1 now f)
+    turn_alone : (f : PlainPhase) → p.phase ≡ f → StandsAt p.done (length front) rest f → FitsCalls i.facts (script_calls script 1) p.done f → IsFront history (turned (one_service i ask script) (workload_of script) 1 now f)
     turn_alone ready phase stands below =
         let next = has_next (script_calls script 1) p.done below in
         let there : slice_get (script_calls script 1) (length front) ≡ Some next.0 = ap (slice_get (script_calls script 1)) (sym stands) ∙ next.1 in
         let call_is : call_after i.facts script front 1 p.done ≡ Some (resolved_by i.facts front 1 (length front + 1) next.0)
         = ap (λ n. call_after i.facts script front 1 n) stands ∙ ap (λ o. resolved i.facts front 1 (length front + 1) o) there in
-        subst (λ o. IsFront history (after_call i ask script 1 now o)) (sym call_is)
+        subst (λ o. IsFront history (after_call (one_service i ask script) (workload_of script) 1 now o)) (sym call_is)
         (after_answer stands next.0 there rest refl (guard i (object_of i.facts front) (resolved_by i.facts front 1 (length front + 1) next.0)) refl)
-    turn_alone replied phase stands below = moved (player_at script 1 (p.done + 1)) (stands_next script (p.done + 1) (length front) rest stands)
+    turn_alone replied phase stands below = moved (player_at (workload_of script) 1 (p.done + 1)) (stands_next script (p.done + 1) (length front) rest stands)
     turn_alone (holding reply) phase stands below =
         let next = has_next (script_calls script 1) p.done below in
         let there : slice_get (script_calls script 1) (length front) ≡ Some next.0 = ap (slice_get (script_calls script 1)) (sym stands.0) ∙ next.1 in
@@ -274,15 +275,15 @@ module _ (i : Declared) (ask : Table) (script : Script) (history : List Entry) (
         let more = stands.2 in
         let entry : record { call = resolved_by i.facts front 1 (length front + 1) next.0; reply = reply } ≡ e
         = ap (λ r. record { call = resolved_by i.facts front 1 (length front + 1) next.0; reply = r }) (sym stands.4) ∙ ap (λ x. record { call = x; reply = e.reply }) (sym (its_call front rest is next.0 there e more stands.3)) in
-        subst (λ o. IsFront history (handed_over i.facts script 1 now reply o)) (sym call_is)
-        (entered e more stands.3 (resolved_by i.facts front 1 (length front + 1) next.0) reply entry (player_at script 1 (p.done + 1)) (stands_next script (p.done + 1) (length front + 1) more (ap (λ n. n + 1) stands.0)))
+        subst (λ o. IsFront history (handed_over (one_service i ask script) (workload_of script) 1 now reply o)) (sym call_is)
+        (entered e more stands.3 (resolved_by i.facts front 1 (length front + 1) next.0) reply entry (player_at (workload_of script) 1 (p.done + 1)) (stands_next script (p.done + 1) (length front + 1) more (ap (λ n. n + 1) stands.0)))
     turn_alone blocked phase stands below = moved p (subst (StandsAt p.done (length front) rest) (sym phase) stands)
     turn_alone through phase stands below = moved p (subst (StandsAt p.done (length front) rest) (sym phase) stands)
 
   -- a stage is a front, and so is the next
   next_front : (blocks : (o : Object) (call : Call) → ask o call ≡ None → (fun_at i.facts.funs call.fun).block ≡ true)
-      → list_all (λ (c : ScriptCall). not (fun_at i.facts.funs c.fun).block) script.setup ≡ true → (s : Stage) → IsPlayStage i.facts script s → IsFront history s → IsFront history (next_stage i ask script s)
-  next_front blocks setup s stage is_front = by (next_turn script s) refl
+      → list_all (λ (c : ScriptCall). not (fun_at i.facts.funs c.fun).block) script.setup ≡ true → (s : Stage Entry) → IsPlayStage i.facts script s → IsFront history s → IsFront history (next_stage (one_service i ask script) (workload_of script) s)
+  next_front blocks setup s stage is_front = by (next_turn (workload_of script) s) refl
     where
       may_one : (client : ℕ) → 1 ≤ client → may_turn s client ≡ true → client ≡ 1
       may_one client first may = elsewhere (client - 1) refl
@@ -296,36 +297,36 @@ module _ (i : Declared) (ask : Table) (script : Script) (history : List Entry) (
       fits_one : FitsCalls i.facts (script_calls script 1) is_front.p.done is_front.p.phase
       fits_one = (subst (FitScript i.facts script 1) is_front.players stage.fit).0
 
-      turn : IsFront history (turned i ask script 1 (record { history = s.history; players = is_front.p ∷ is_front.others; schedule = left_schedule script s; last = 1 }) is_front.p.phase)
-      turn = turn_alone s.history is_front.rest is_front.is is_front.p is_front.others is_front.through (left_schedule script s) 1 is_front.p.phase refl is_front.stands fits_one
+      turn : IsFront history (turned (one_service i ask script) (workload_of script) 1 (record { history = s.history; players = is_front.p ∷ is_front.others; schedule = left_schedule (workload_of script) s; last = 1 }) is_front.p.phase)
+      turn = turn_alone s.history is_front.rest is_front.is is_front.p is_front.others is_front.through (left_schedule (workload_of script) s) 1 is_front.p.phase refl is_front.stands fits_one
 
-      one_turn : IsFront history (turned i ask script 1 (record s { schedule = left_schedule script s; last = 1 }) (player_of s 1).phase)
-      one_turn = subst (λ (l : List Player). IsFront history (turned i ask script 1 (record { history = s.history; players = l; schedule = left_schedule script s; last = 1 })
+      one_turn : IsFront history (turned (one_service i ask script) (workload_of script) 1 (record s { schedule = left_schedule (workload_of script) s; last = 1 }) (player_of s 1).phase)
+      one_turn = subst (λ (l : List Player). IsFront history (turned (one_service i ask script) (workload_of script) 1 (record { history = s.history; players = l; schedule = left_schedule (workload_of script) s; last = 1 })
           (unwrap_or (slice_get l 0) (record { done = 0; phase = through })).phase)) (sym is_front.players) turn
 
-      by : (o : Option ℕ) → next_turn script s ≡ o → IsFront history (after_turn i ask script s o)
+      by : (o : Option ℕ) → next_turn (workload_of script) s ≡ o → IsFront history (after_turn (one_service i ask script) (workload_of script) s o)
       by None over = is_front
       by (Some client) next =
           let first = next_is i ask script blocks setup s stage client next in
-          subst (λ c. IsFront history (turned i ask script c (record s { schedule = left_schedule script s; last = c }) (player_of s c).phase)) (sym (may_one client first.from first.may)) one_turn
+          subst (λ c. IsFront history (turned (one_service i ask script) (workload_of script) c (record s { schedule = left_schedule (workload_of script) s; last = c }) (player_of s c).phase)) (sym (may_one client first.from first.may)) one_turn
 
   next_stage_is : (blocks : (o : Object) (call : Call) → ask o call ≡ None → (fun_at i.facts.funs call.fun).block ≡ true)
-      → list_all (λ (c : ScriptCall). not (fun_at i.facts.funs c.fun).block) script.setup ≡ true → (s : Stage) → IsPlayStage i.facts script s → IsPlayStage i.facts script (next_stage i ask script s)
-  next_stage_is blocks setup s stage = by (next_turn script s) refl
+      → list_all (λ (c : ScriptCall). not (fun_at i.facts.funs c.fun).block) script.setup ≡ true → (s : Stage Entry) → IsPlayStage i.facts script s → IsPlayStage i.facts script (next_stage (one_service i ask script) (workload_of script) s)
+  next_stage_is blocks setup s stage = by (next_turn (workload_of script) s) refl
     where
-      by : (o : Option ℕ) → next_turn script s ≡ o → IsPlayStage i.facts script (after_turn i ask script s o)
+      by : (o : Option ℕ) → next_turn (workload_of script) s ≡ o → IsPlayStage i.facts script (after_turn (one_service i ask script) (workload_of script) s o)
       by None over = stage
-      by (Some client) next = subst (λ o. IsPlayStage i.facts script (after_turn i ask script s o)) next (goes_on i ask script blocks setup s stage client next).stage
+      by (Some client) next = subst (λ o. IsPlayStage i.facts script (after_turn (one_service i ask script) (workload_of script) s o)) next (goes_on i ask script blocks setup s stage client next).stage
 
   fronts : (blocks : (o : Object) (call : Call) → ask o call ≡ None → (fun_at i.facts.funs call.fun).block ≡ true)
-      → list_all (λ (c : ScriptCall). not (fun_at i.facts.funs c.fun).block) script.setup ≡ true → (turns : ℕ) (s : Stage) → IsPlayStage i.facts script s → IsFront history s
-      → IsPlayStage i.facts script (stage_from i ask script s turns) × IsFront history (stage_from i ask script s turns)
+      → list_all (λ (c : ScriptCall). not (fun_at i.facts.funs c.fun).block) script.setup ≡ true → (turns : ℕ) (s : Stage Entry) → IsPlayStage i.facts script s → IsFront history s
+      → IsPlayStage i.facts script (stage_from (one_service i ask script) (workload_of script) s turns) × IsFront history (stage_from (one_service i ask script) (workload_of script) s turns)
   fronts blocks setup zero s stage is_front = (stage, is_front)
   fronts blocks setup (suc turns) s stage is_front =
-      fronts blocks setup turns (next_stage i ask script s) (next_stage_is blocks setup s stage) (next_front blocks setup s stage is_front)
+      fronts blocks setup turns (next_stage (one_service i ask script) (workload_of script) s) (next_stage_is blocks setup s stage) (next_front blocks setup s stage is_front)
 
   -- where nobody can go on, it is the whole
-  whole_front : (blocks : (o : Object) (call : Call) → ask o call ≡ None → (fun_at i.facts.funs call.fun).block ≡ true) (s : Stage) → IsPlayStage i.facts script s → IsFront history s → next_turn script s ≡ None → history ≡ s.history
+  whole_front : (blocks : (o : Object) (call : Call) → ask o call ≡ None → (fun_at i.facts.funs call.fun).block ≡ true) (s : Stage Entry) → IsPlayStage i.facts script s → IsFront history s → next_turn (workload_of script) s ≡ None → history ≡ s.history
   whole_front blocks s stage is_front over = is_front.is ∙ ap (λ l. s.history ++ l) (by is_front.p.phase refl is_front.stands fits_one) ∙ append-nil s.history
     where
       fits_one : FitsCalls i.facts (script_calls script 1) is_front.p.done is_front.p.phase
@@ -359,13 +360,13 @@ module _ (script : Script) (only : list_all (λ c. c == 1) (callers script) ≡ 
   abbrev has : ℕ → Bool
   has c = not (length (script_calls script c) == 0)
 
-  others_through : (n count : ℕ) → 2 ≤ n → list_all (λ c. c == 1) (filter has (ascending_from n count)) ≡ true → AreThrough (map (λ c. player_at script c 0) (ascending_from n count))
+  others_through : (n count : ℕ) → 2 ≤ n → list_all (λ c. c == 1) (filter has (ascending_from n count)) ≡ true → AreThrough (map (λ c. player_at (workload_of script) c 0) (ascending_from n count))
   others_through n zero from all = tt
   others_through n (suc count) from all = by (script_calls script n) refl all (λ rest. others_through (n + 1) count (omega (arith, from)) rest)
     where
       by : (calls : List ScriptCall) → script_calls script n ≡ calls → list_all (λ c. c == 1) (filter has (n ∷ ascending_from (n + 1) count)) ≡ true
-          → (list_all (λ c. c == 1) (filter has (ascending_from (n + 1) count)) ≡ true → AreThrough (map (λ c. player_at script c 0) (ascending_from (n + 1) count)))
-          → AreThrough (map (λ c. player_at script c 0) (n ∷ ascending_from (n + 1) count))
+          → (list_all (λ c. c == 1) (filter has (ascending_from (n + 1) count)) ≡ true → AreThrough (map (λ c. player_at (workload_of script) c 0) (ascending_from (n + 1) count)))
+          → AreThrough (map (λ c. player_at (workload_of script) c 0) (n ∷ ascending_from (n + 1) count))
       by [] none all more =
           let has_none : has n ≡ false = ap (λ (l : List ScriptCall). not (length l == 0)) none in (
             ap (λ (l : List ScriptCall). cond (nat_lt 0 (length l)) ready through) none,
@@ -440,13 +441,13 @@ module _ (script : Script) (only : list_all (λ c. c == 1) (callers script) ≡ 
       by true all = all
       by false all = all
 
-  first_front : (history : List Entry) (n : ℕ) → most_client script.clients ≡ suc n → IsFront history (first_stage script)
+  first_front : (history : List Entry) (n : ℕ) → most_client script.clients ≡ suc n → IsFront history (first_stage (workload_of script))
   first_front history n is = record {
     rest = history;
     is = refl;
-    p = player_at script 1 0;
-    others = map (λ c. player_at script c 0) (ascending_from 2 n);
-    players = ap (λ m. map (λ c. player_at script c 0) (ascending_from 1 m)) is;
+    p = player_at (workload_of script) 1 0;
+    others = map (λ c. player_at (workload_of script) c 0) (ascending_from 2 n);
+    players = ap (λ m. map (λ c. player_at (workload_of script) c 0) (ascending_from 1 m)) is;
     stands = stands_next script 0 0 history refl;
     through = others_through 2 n (omega arith) (others_none n (ap (λ m. list_all (λ c. c == 1) (filter has (ascending_from 1 m))) (sym is) ∙ only));
   }
@@ -467,6 +468,6 @@ plain_alone i ask script blocks setup turns some fit history plain ends legal ar
     by : (n : ℕ) → most_client script.clients ≡ n → history ≡ plain
     by zero is = absurd (omega (arith, some, is))
     by (suc n) is =
-        let both = fronts i ask script history ends legal made ones fit ends_are (among_callers script only (most_client script.clients) some) blocks setup is_plain.turns (first_stage script)
+        let both = fronts i ask script history ends legal made ones fit ends_are (among_callers script only (most_client script.clients) some) blocks setup is_plain.turns (first_stage (workload_of script))
         (first_is_stage i ask script blocks setup some turns) (first_front script only history n is) in
         whole_front i ask script history ends legal made ones fit ends_are (among_callers script only (most_client script.clients) some) blocks (stage_after i ask script is_plain.turns) both.0 both.1 is_plain.over ∙ sym is_plain.is

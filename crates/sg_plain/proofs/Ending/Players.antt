@@ -8,7 +8,7 @@ use Rattle.sg_facts.specs.declared.entry.Entry.{Entry}
 use Rattle.sg_facts.specs.declared.row.Row.{Row}
 use Rattle.sg_plain.specs.Calls.{call_after, script_calls}
 use Rattle.sg_plain.specs.Plain.{PlainPhase, Player, after_wakes, blocked, holding, ready, replied, through, woken_phase}
-use Rattle.sg_plain.specs.Inside.Turns.{waits_on}
+use Rattle.sg_plain.specs.Inside.Turns.{is_woken_by, waits_on}
 use Rattle.sg_seat.specs.sg_hist.Wakes.{wakes}
 use Rattle.sg_plain.specs.Ending.Left.{FitScript, FitsCalls, all_before, all_to_come, entries_to_come, turns_before}
 use Rattle.sg_script.specs.declared.script.Script.{Script}
@@ -76,7 +76,7 @@ woken_stays facts calls done woke through = record { fits = λ is. is; to_come =
 
 module _ (facts : Facts) (script : Script) (history : List Entry) (rows : List Row) (call : Call) (reply : Reply) where
   abbrev pub woken_from : ℕ → List Player → List Player
-  woken_from n players = after_wakes facts script history rows call reply n players
+  woken_from n players = after_wakes (is_woken_by facts script history rows call reply) n players
 
   abbrev woke : ℕ → Player → Bool
   woke n p = wakes facts rows call reply (waits_on (call_after facts script history n p.done))

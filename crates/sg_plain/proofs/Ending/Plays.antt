@@ -15,8 +15,9 @@ use Rattle.sg_facts.specs.Legal.{Table}
 use Rattle.sg_facts.specs.Object.{Object, object_of}
 use Rattle.sg_facts.specs.declared.entry.Entry.{Entry}
 use Rattle.sg_plain.specs.Calls.{ascending_from, call_after, most_client, part_of, resolved_by, script_calls}
-use Rattle.sg_plain.specs.Inside.Turns.{resolved, after_call, after_guard, after_turn, first_of, handed_over, in_a_circle, is_under_way, served, some_or, stage_after}
-use Rattle.sg_plain.specs.Plain.{IsPlainPlay, PlainPhase, Player, Stage, appended, at_phase, blocked, left_after_first, first_stage, gone_on, holding, left_schedule, may_turn, next_stage, next_turn, player_at, player_of, ready, replied, stage_from, through, turned, woken_phase}
+use Rattle.sg_plain.specs.Inside.Turns.{IsPlainPlay, after_call, after_guard, after_turn, first_of, handed_over, in_a_circle, is_under_way, resolved, served, some_or, stage_after}
+use Rattle.sg_plain.specs.OneService.{one_service, workload_of}
+use Rattle.sg_plain.specs.Plain.{PlainPhase, Player, Stage, appended, at_phase, blocked, left_after_first, first_stage, gone_on, holding, left_schedule, may_turn, next_stage, next_turn, player_at, player_of, ready, replied, stage_from, through, turned, woken_phase}
 use Rattle.sg_plain.specs.Ending.Left.{FitScript, FitsCalls, IsPlayStage, all_before, all_to_come, entries_to_come, turns_before, turns_left}
 use Rattle.sg_plain.proofs.Ending.Players.{before_set, fit_at, fit_set, fit_woken, length_set, length_woken, to_come_set, to_come_woken, woken_at, woken_from}
 use Rattle.sg_script.specs.declared.script.Script.{Script}
@@ -41,7 +42,7 @@ sooner a b a' b' n same less = omega (arith, ap (λ m. m * (3 * n + 1)) same, le
 -- ---- a client's turn
 
 -- a stage goes on to one with fewer turns left
-pub record GoesOn (facts : Facts) (script : Script) (s later : Stage) : Type 0 where
+pub record GoesOn (facts : Facts) (script : Script) (s later : Stage Entry) : Type 0 where
   pub stage : IsPlayStage facts script later
   pub less : turns_left script later < turns_left script s
 
@@ -52,21 +53,21 @@ ge_of : (n m : ℕ) → nat_lt n m ≡ false → m ≤ n
 ge_of n m is = grind (arith, nat_tests)
 
 -- a client at its next call fits
-next_fits : (facts : Facts) (script : Script) (client done : ℕ) → FitsCalls facts (script_calls script client) done (player_at script client done).phase
+next_fits : (facts : Facts) (script : Script) (client done : ℕ) → FitsCalls facts (script_calls script client) done (player_at (workload_of script) client done).phase
 next_fits facts script client done = by (nat_lt done (length (script_calls script client))) refl
   where
     by : (b : Bool) → nat_lt done (length (script_calls script client)) ≡ b → FitsCalls facts (script_calls script client) done (cond b ready through)
     by true is = lt_of done (length (script_calls script client)) is
     by false is = ge_of done (length (script_calls script client)) is
 
-next_to_come : (script : Script) (client done left : ℕ) → entries_to_come left (player_at script client done).phase ≡ left
+next_to_come : (script : Script) (client done left : ℕ) → entries_to_come left (player_at (workload_of script) client done).phase ≡ left
 next_to_come script client done left = by (nat_lt done (length (script_calls script client)))
   where
     by : (b : Bool) → entries_to_come left (cond b ready through) ≡ left
     by true = refl
     by false = refl
 
-next_before : (script : Script) (client done : ℕ) → turns_before (player_at script client done).phase ≤ 2
+next_before : (script : Script) (client done : ℕ) → turns_before (player_at (workload_of script) client done).phase ≤ 2
 next_before script client done = by (nat_lt done (length (script_calls script client)))
   where
     by : (b : Bool) → turns_before (cond b ready through) ≤ 2
@@ -80,7 +81,7 @@ has_next (c ∷ calls) zero below = (c, refl)
 has_next (c ∷ calls) (suc k) below = has_next calls k (omega (arith, below))
 
 module _ (i : Declared) (ask : Table) (script : Script) (blocks : (o : Object) (call : Call) → ask o call ≡ None → (fun_at i.facts.funs call.fun).block ≡ true) where
-  module _ (s : Stage) (is : IsPlayStage i.facts script s) (client : ℕ) (first : 1 ≤ client) (p : Player) (there : slice_get s.players (client - 1) ≡ Some p) where
+  module _ (s : Stage Entry) (is : IsPlayStage i.facts script s) (client : ℕ) (first : 1 ≤ client) (p : Player) (there : slice_get s.players (client - 1) ≡ Some p) where
     abbrev calls : List ScriptCall
     calls = script_calls script client
 
@@ -116,7 +117,7 @@ module _ (i : Declared) (ask : Table) (script : Script) (blocks : (o : Object) (
     -- the client makes an entry, which may wake others, and is at something else
     enter : (call : Call) (reply : Reply) (q : Player) → ((b : Bool) → woken_phase b p.phase ≡ p.phase) → FitsCalls i.facts calls q.done q.phase
         → entries_to_come (length calls - q.done) q.phase + 1 ≡ entries_to_come (length calls - p.done) p.phase
-        → turns_before q.phase ≤ 3 → GoesOn i.facts script s (record (appended i.facts script s call reply) { players = slice_set (appended i.facts script s call reply).players (client - 1) q })
+        → turns_before q.phase ≤ 3 → GoesOn i.facts script s (record (appended (one_service i ask script) s call reply) { players = slice_set (appended (one_service i ask script) s call reply).players (client - 1) q })
     enter call reply q stays fit one_less few =
         let rows = (object_of i.facts s.history).rows in
         let woken = woken_from i.facts script s.history rows call reply 1 s.players in
@@ -155,21 +156,21 @@ module _ (i : Declared) (ask : Table) (script : Script) (blocks : (o : Object) (
         all_few players n same = omega (arith, all_at_most players, same)
 
     -- and goes on to its next call
-    set_next : entries_to_come (length calls - (p.done + 1)) (player_at script client (p.done + 1)).phase ≡ length calls - (p.done + 1)
+    set_next : entries_to_come (length calls - (p.done + 1)) (player_at (workload_of script) client (p.done + 1)).phase ≡ length calls - (p.done + 1)
     set_next = next_to_come script client (p.done + 1) (length calls - (p.done + 1))
 
-    gone : (later : Stage) → slice_get later.players (client - 1) ≡ Some p → gone_on script client later ≡ record later { players = slice_set later.players (client - 1) (player_at script client (p.done + 1)) }
-    gone later at = ap (λ (o : Option Player). record later { players = slice_set later.players (client - 1) (player_at script client ((unwrap_or o (record { done = 0; phase = through })).done + 1)) }) at
+    gone : (later : Stage Entry) → slice_get later.players (client - 1) ≡ Some p → gone_on (workload_of script) client later ≡ record later { players = slice_set later.players (client - 1) (player_at (workload_of script) client (p.done + 1)) }
+    gone later at = ap (λ (o : Option Player). record later { players = slice_set later.players (client - 1) (player_at (workload_of script) client ((unwrap_or o (record { done = 0; phase = through })).done + 1)) }) at
 
-    put : (later : Stage) (f : PlainPhase) → slice_get later.players (client - 1) ≡ Some p → at_phase client f later ≡ record later { players = slice_set later.players (client - 1) (record p { phase = f }) }
+    put : (later : Stage Entry) (f : PlainPhase) → slice_get later.players (client - 1) ≡ Some p → at_phase client f later ≡ record later { players = slice_set later.players (client - 1) (record p { phase = f }) }
     put later f at = ap (λ (o : Option Player). record later { players = slice_set later.players (client - 1) (record (unwrap_or o (record { done = 0; phase = through })) { phase = f }) }) at
 
     enter_next : (call : Call) (reply : Reply) → ((b : Bool) → woken_phase b p.phase ≡ p.phase) → p.done < length calls → entries_to_come (length calls - p.done) p.phase ≡ length calls - p.done
-        → GoesOn i.facts script s (gone_on script client (appended i.facts script s call reply))
+        → GoesOn i.facts script s (gone_on (workload_of script) client (appended (one_service i ask script) s call reply))
     enter_next call reply stays below all =
         let at = woken_at i.facts script s.history (object_of i.facts s.history).rows call reply 1 s.players (client - 1) p there stays in
-        subst (GoesOn i.facts script s) (sym (gone (appended i.facts script s call reply) at))
-        (enter call reply (player_at script client (p.done + 1)) stays (next_fits i.facts script client (p.done + 1)) (omega (arith, set_next, below, all)) (omega (arith, next_before script client (p.done + 1))))
+        subst (GoesOn i.facts script s) (sym (gone (appended (one_service i ask script) s call reply) at))
+        (enter call reply (player_at (workload_of script) client (p.done + 1)) stays (next_fits i.facts script client (p.done + 1)) (omega (arith, set_next, below, all)) (omega (arith, next_before script client (p.done + 1))))
 
     -- a client that is ready, in a call
     module _ (is_ready : p.phase ≡ ready) (c : ScriptCall) (c_there : slice_get calls p.done ≡ Some c) where
@@ -192,21 +193,21 @@ module _ (i : Declared) (ask : Table) (script : Script) (blocks : (o : Object) (
       two : turns_before p.phase ≡ 2
       two = ap turns_before is_ready
 
-      shown : (visible : Bool) (reply : Reply) → GoesOn i.facts script s (cond visible (at_phase client replied (appended i.facts script s call reply)) (at_phase client (holding reply) s))
+      shown : (visible : Bool) (reply : Reply) → GoesOn i.facts script s (cond visible (at_phase client replied (appended (one_service i ask script) s call reply)) (at_phase client (holding reply) s))
       shown true reply =
           let at = woken_at i.facts script s.history (object_of i.facts s.history).rows call reply 1 s.players (client - 1) p there stays in
-          subst (GoesOn i.facts script s) (sym (put (appended i.facts script s call reply) replied at))
+          subst (GoesOn i.facts script s) (sym (put (appended (one_service i ask script) s call reply) replied at))
           (enter call reply (record p { phase = replied }) stays below (omega (arith, below, all_left)) (omega arith))
       shown false reply =
           subst (GoesOn i.facts script s) (sym (put s (holding reply) there)) (set_only (record p { phase = holding reply }) below (sym all_left) (omega (arith, two)))
 
-      answered : (reply : Option Reply) → ask (object_of i.facts s.history) call ≡ reply → GoesOn i.facts script s (served i.facts script client s call reply)
+      answered : (reply : Option Reply) → ask (object_of i.facts s.history) call ≡ reply → GoesOn i.facts script s (served (one_service i ask script) client s call reply)
       answered None none =
           subst (GoesOn i.facts script s) (sym (put s blocked there))
           (set_only (record p { phase = blocked }) (record { call = c; there = c_there; may_wait = blocks (object_of i.facts s.history) call none }) (sym all_left) (omega (arith, two)))
       answered (Some reply) some = shown (is_visible i.facts call.fun) reply
 
-      guarded : (code : Option Code) → GoesOn i.facts script s (after_guard i ask script client s call code)
+      guarded : (code : Option Code) → GoesOn i.facts script s (after_guard (one_service i ask script) (workload_of script) client s call code)
       guarded (Some code) = enter_next call (Refused code) stays below all_left
       guarded None = answered (ask (object_of i.facts s.history) call) refl
 
@@ -214,17 +215,17 @@ module _ (i : Declared) (ask : Table) (script : Script) (blocks : (o : Object) (
     next_call c at = ap (λ o. resolved i.facts s.history client (p.done + 1) o) at
 
     -- a turn of a client that can take one
-    turn_by : (f : PlainPhase) → p.phase ≡ f → is_under_way f ≡ true → GoesOn i.facts script s (turned i ask script client s f)
+    turn_by : (f : PlainPhase) → p.phase ≡ f → is_under_way f ≡ true → GoesOn i.facts script s (turned (one_service i ask script) (workload_of script) client s f)
     turn_by ready same may =
         let below : p.done < length calls = subst (FitsCalls i.facts calls p.done) same fits in
         let next = has_next calls p.done below in
-        subst (λ d. GoesOn i.facts script s (after_call i ask script client s (call_after i.facts script s.history client d.done))) (sym its)
-        (subst (λ o. GoesOn i.facts script s (after_call i ask script client s o)) (sym (next_call next.0 next.1))
+        subst (λ d. GoesOn i.facts script s (after_call (one_service i ask script) (workload_of script) client s (call_after i.facts script s.history client d.done))) (sym its)
+        (subst (λ o. GoesOn i.facts script s (after_call (one_service i ask script) (workload_of script) client s o)) (sym (next_call next.0 next.1))
         (guarded same next.0 next.1 (guard i (object_of i.facts s.history) (resolved_by i.facts s.history client (p.done + 1) next.0))))
     turn_by replied same may =
         let below : p.done < length calls = subst (FitsCalls i.facts calls p.done) same fits in
         subst (GoesOn i.facts script s) (sym (gone s there))
-        (set_only (player_at script client (p.done + 1)) (next_fits i.facts script client (p.done + 1)) (set_next ∙ one_less (length calls) p.done ∙ ap (entries_to_come (length calls - p.done)) (sym same))
+        (set_only (player_at (workload_of script) client (p.done + 1)) (next_fits i.facts script client (p.done + 1)) (set_next ∙ one_less (length calls) p.done ∙ ap (entries_to_come (length calls - p.done)) (sym same))
         (omega (arith, ap turns_before same, next_before script client (p.done + 1))))
       where
         one_less : (n k : ℕ) → n - (k + 1) ≡ n - k - 1
@@ -232,8 +233,8 @@ module _ (i : Declared) (ask : Table) (script : Script) (blocks : (o : Object) (
     turn_by (holding reply) same may =
         let below : p.done < length calls = subst (FitsCalls i.facts calls p.done) same fits in
         let next = has_next calls p.done below in
-        subst (λ d. GoesOn i.facts script s (handed_over i.facts script client s reply (call_after i.facts script s.history client d.done))) (sym its)
-        (subst (λ o. GoesOn i.facts script s (handed_over i.facts script client s reply o)) (sym (next_call next.0 next.1))
+        subst (λ d. GoesOn i.facts script s (handed_over (one_service i ask script) (workload_of script) client s reply (call_after i.facts script s.history client d.done))) (sym its)
+        (subst (λ o. GoesOn i.facts script s (handed_over (one_service i ask script) (workload_of script) client s reply o)) (sym (next_call next.0 next.1))
         (enter_next (resolved_by i.facts s.history client (p.done + 1) next.0) reply (λ b. subst (λ f. woken_phase b f ≡ f) (sym same) (held b)) below (ap (entries_to_come (length calls - p.done)) same)))
       where
         held : (b : Bool) → woken_phase b (holding reply) ≡ holding reply
@@ -251,21 +252,21 @@ module _ (i : Declared) (ask : Table) (script : Script) (blocks : (o : Object) (
   there_is (p ∷ players) (suc k) may = there_is players k may
 
   -- a stage at which a client is to take a turn
-  turn_of : (s : Stage) → IsPlayStage i.facts script s → (client : ℕ) → 1 ≤ client → may_turn s client ≡ true → GoesOn i.facts script s (turned i ask script client s (player_of s client).phase)
+  turn_of : (s : Stage Entry) → IsPlayStage i.facts script s → (client : ℕ) → 1 ≤ client → may_turn s client ≡ true → GoesOn i.facts script s (turned (one_service i ask script) (workload_of script) client s (player_of s client).phase)
   turn_of s is client first may =
       let found = there_is s.players (client - 1) may in
       let same : (player_of s client).phase ≡ found.0.phase = ap (λ (o : Option Player). (unwrap_or o (record { done = 0; phase = through })).phase) found.1 in
-      subst (λ f. GoesOn i.facts script s (turned i ask script client s f)) (sym same) (turn_by s is client first found.0 found.1 found.0.phase refl found.2)
+      subst (λ f. GoesOn i.facts script s (turned (one_service i ask script) (workload_of script) client s f)) (sym same) (turn_by s is client first found.0 found.1 found.0.phase refl found.2)
 
   -- the first of some that may
-  pub record IsFirstOf (s : Stage) (client : ℕ) : Type 0 where
+  pub record IsFirstOf (s : Stage Entry) (client : ℕ) : Type 0 where
     pub from : 1 ≤ client
     pub may : may_turn s client ≡ true
 
   le_of : (c : ℕ) → nat_le 1 c ≡ true → 1 ≤ c
   le_of c is = grind (arith, nat_tests)
 
-  first_is : (s : Stage) (clients : List ℕ) (client : ℕ) → list_all (λ c. nat_le 1 c) clients ≡ true → first_of s clients ≡ Some client → IsFirstOf s client
+  first_is : (s : Stage Entry) (clients : List ℕ) (client : ℕ) → list_all (λ c. nat_le 1 c) clients ≡ true → first_of s clients ≡ Some client → IsFirstOf s client
   first_is s [] client all is = absurd (cc is)
   first_is s (c ∷ clients) client all is = by (may_turn s c) refl (nat_le 1 c) refl is all (λ rest found. first_is s clients client rest found)
     where
@@ -276,7 +277,7 @@ module _ (i : Declared) (ask : Table) (script : Script) (blocks : (o : Object) (
       by false may true from is all more = more all is
       by false may false from is all more = absurd (cc all)
 
-  rest_of : (s : Stage) (clients : List ℕ) → list_all (λ c. nat_le 1 c) clients ≡ true → list_all (λ c. nat_le 1 c) (left_after_first s clients) ≡ true
+  rest_of : (s : Stage Entry) (clients : List ℕ) → list_all (λ c. nat_le 1 c) clients ≡ true → list_all (λ c. nat_le 1 c) (left_after_first s clients) ≡ true
   rest_of s [] all = refl
   rest_of s (c ∷ clients) all = by (may_turn s c) (nat_le 1 c) all (λ rest. rest_of s clients rest)
     where
@@ -302,7 +303,7 @@ module _ (i : Declared) (ask : Table) (script : Script) (blocks : (o : Object) (
       by true all more = more all
       by false all more = absurd (cc all)
 
-  none_first : (s : Stage) (clients : List ℕ) → first_of s clients ≡ None → (client : ℕ) → list_any (λ c. c == client) clients ≡ true → may_turn s client ≡ false
+  none_first : (s : Stage Entry) (clients : List ℕ) → first_of s clients ≡ None → (client : ℕ) → list_any (λ c. c == client) clients ≡ true → may_turn s client ≡ false
   none_first s [] none client among = absurd (cc among)
   none_first s (c ∷ clients) none client among = by (may_turn s c) refl none (c == client) refl among (λ rest more. none_first s clients rest client more)
     where
@@ -335,7 +336,7 @@ module _ (i : Declared) (ask : Table) (script : Script) (blocks : (o : Object) (
       by true among more = refl
       by false among more = more among
 
-  circle_has : (s : Stage) → 1 ≤ length s.players → list_any (λ c. c == 1) (in_a_circle s) ≡ true
+  circle_has : (s : Stage Entry) → 1 ≤ length s.players → list_any (λ c. c == 1) (in_a_circle s) ≡ true
   circle_has s some = by s.last refl
     where
       by : (last : ℕ) → s.last ≡ last → list_any (λ c. c == 1) (in_a_circle s) ≡ true
@@ -343,7 +344,7 @@ module _ (i : Declared) (ask : Table) (script : Script) (blocks : (o : Object) (
       by (suc last) is = among_two (ascending_from (s.last + 1) (length s.players - s.last)) (ascending_from 1 s.last) (one_among 1 s.last refl (omega (arith, is)))
 
   -- where nobody has the next turn, client 1 can't take one
-  pub nobody : (s : Stage) → next_turn script s ≡ None → 1 ≤ length s.players → may_turn s 1 ≡ false
+  pub nobody : (s : Stage Entry) → next_turn (workload_of script) s ≡ None → 1 ≤ length s.players → may_turn s 1 ≡ false
   nobody s over some = none_first s (in_a_circle s) (by (nat_lt (player_of s 1).done (length script.setup)) (first_of s s.schedule) over) 1 (circle_has s some)
     where
       by : (b : Bool) (one : Option ℕ) → cond b (Some 1) (some_or one (first_of s (in_a_circle s))) ≡ None → first_of s (in_a_circle s) ≡ None
@@ -370,7 +371,7 @@ module _ (i : Declared) (ask : Table) (script : Script) (blocks : (o : Object) (
         right false all = absurd (cc all)
 
     -- so it may take its turn
-    setting_up : (s : Stage) → IsPlayStage i.facts script s → nat_lt (player_of s 1).done (length script.setup) ≡ true → may_turn s 1 ≡ true
+    setting_up : (s : Stage Entry) → IsPlayStage i.facts script s → nat_lt (player_of s 1).done (length script.setup) ≡ true → may_turn s 1 ≡ true
     setting_up s is less =
         let found = first_there s.players is.some in
         let same : player_of s 1 ≡ found.0 = ap (λ (o : Option Player). unwrap_or o (record { done = 0; phase = through })) found.1 in
@@ -394,7 +395,7 @@ module _ (i : Declared) (ask : Table) (script : Script) (blocks : (o : Object) (
 
     -- ---- a play goes on until nobody can
 
-    pub next_is : (s : Stage) → IsPlayStage i.facts script s → (client : ℕ) → next_turn script s ≡ Some client → IsFirstOf s client
+    pub next_is : (s : Stage Entry) → IsPlayStage i.facts script s → (client : ℕ) → next_turn (workload_of script) s ≡ Some client → IsFirstOf s client
     next_is s is client next = by (nat_lt (player_of s 1).done (length script.setup)) refl next
       where
         circle : list_all (λ c. nat_le 1 c) (in_a_circle s) ≡ true
@@ -408,52 +409,52 @@ module _ (i : Declared) (ask : Table) (script : Script) (blocks : (o : Object) (
         by true less is_some = let same : 1 ≡ client = cc is_some in record { from = omega (arith, same); may = ap (may_turn s) (sym same) ∙ setting_up s is less }
         by false more is_some = found (first_of s s.schedule) refl is_some
 
-    rest_is : (s : Stage) → IsPlayStage i.facts script s → list_all (λ c. nat_le 1 c) (left_schedule script s) ≡ true
+    rest_is : (s : Stage Entry) → IsPlayStage i.facts script s → list_all (λ c. nat_le 1 c) (left_schedule (workload_of script) s) ≡ true
     rest_is s is = by (nat_lt (player_of s 1).done (length script.setup))
       where
         by : (b : Bool) → list_all (λ c. nat_le 1 c) (cond b s.schedule (left_after_first s s.schedule)) ≡ true
         by true = is.turns
         by false = rest_of s s.schedule is.turns
 
-    pub goes_on : (s : Stage) → IsPlayStage i.facts script s → (client : ℕ) → next_turn script s ≡ Some client → GoesOn i.facts script s (next_stage i ask script s)
+    pub goes_on : (s : Stage Entry) → IsPlayStage i.facts script s → (client : ℕ) → next_turn (workload_of script) s ≡ Some client → GoesOn i.facts script s (next_stage (one_service i ask script) (workload_of script) s)
     goes_on s is client next =
         let first = next_is s is client next in
-        let turn = turn_of (record s { schedule = left_schedule script s; last = client }) (record { fit = is.fit; some = is.some; turns = rest_is s is }) client first.from first.may in
-        subst (λ o. GoesOn i.facts script s (after_turn i ask script s o)) (sym next) (record { stage = turn.stage; less = turn.less })
+        let turn = turn_of (record s { schedule = left_schedule (workload_of script) s; last = client }) (record { fit = is.fit; some = is.some; turns = rest_is s is }) client first.from first.may in
+        subst (λ o. GoesOn i.facts script s (after_turn (one_service i ask script) (workload_of script) s o)) (sym next) (record { stage = turn.stage; less = turn.less })
 
     -- some number of turns leads to the end
-    record Ends (s : Stage) : Type 0 where
+    record Ends (s : Stage Entry) : Type 0 where
       turns : ℕ
-      over : next_turn script (stage_from i ask script s turns) ≡ None
+      over : next_turn (workload_of script) (stage_from (one_service i ask script) (workload_of script) s turns) ≡ None
 
-    choose : (s : Stage) → ((client : ℕ) → next_turn script s ≡ Some client → Ends s) → Ends s
-    choose s more = by (next_turn script s) refl
+    choose : (s : Stage Entry) → ((client : ℕ) → next_turn (workload_of script) s ≡ Some client → Ends s) → Ends s
+    choose s more = by (next_turn (workload_of script) s) refl
       where
-        by : (o : Option ℕ) → next_turn script s ≡ o → Ends s
+        by : (o : Option ℕ) → next_turn (workload_of script) s ≡ o → Ends s
         by None over = record { turns = 0; over = over }
         by (Some client) next = more client next
 
-    ends_within : (fuel : ℕ) (s : Stage) → IsPlayStage i.facts script s → turns_left script s ≤ fuel → Ends s
+    ends_within : (fuel : ℕ) (s : Stage Entry) → IsPlayStage i.facts script s → turns_left script s ≤ fuel → Ends s
     ends_within zero s is few = choose s (λ client next. absurd (omega (arith, (goes_on s is client next).less, few)))
     ends_within (suc fuel) s is few = choose s (λ client next.
         let on = goes_on s is client next in
-        let e = ends_within fuel (next_stage i ask script s) on.stage (omega (arith, on.less, few)) in
+        let e = ends_within fuel (next_stage (one_service i ask script) (workload_of script) s) on.stage (omega (arith, on.less, few)) in
         record { turns = suc e.turns; over = e.over })
 
     -- the first stage
-    first_players : (n count : ℕ) → FitScript i.facts script n (map (λ client. player_at script client 0) (ascending_from n count))
+    first_players : (n count : ℕ) → FitScript i.facts script n (map (λ client. player_at (workload_of script) client 0) (ascending_from n count))
     first_players n zero = tt
     first_players n (suc count) = (next_fits i.facts script n 0, first_players (n + 1) count)
 
-    first_length : (n count : ℕ) → length (map (λ client. player_at script client 0) (ascending_from n count)) ≡ count
+    first_length : (n count : ℕ) → length (map (λ client. player_at (workload_of script) client 0) (ascending_from n count)) ≡ count
     first_length n zero = refl
     first_length n (suc count) = ap suc (first_length (n + 1) count)
 
-    pub first_is_stage : 1 ≤ most_client script.clients → list_all (λ c. nat_le 1 c) script.schedule ≡ true → IsPlayStage i.facts script (first_stage script)
+    pub first_is_stage : 1 ≤ most_client script.clients → list_all (λ c. nat_le 1 c) script.schedule ≡ true → IsPlayStage i.facts script (first_stage (workload_of script))
     first_is_stage some turns = record { fit = first_players 1 (most_client script.clients); some = omega (arith, some, first_length 1 (most_client script.clients)); turns = turns }
 
     -- the play without stops ends
     pub plain_ends : 1 ≤ most_client script.clients → list_all (λ c. nat_le 1 c) script.schedule ≡ true → (history : List Entry) × IsPlainPlay i ask script history
     plain_ends some turns =
-        let e = ends_within (turns_left script (first_stage script)) (first_stage script) (first_is_stage some turns) (omega arith) in
+        let e = ends_within (turns_left script (first_stage (workload_of script))) (first_stage (workload_of script)) (first_is_stage some turns) (omega arith) in
         ((stage_after i ask script e.turns).history, record { turns = e.turns; over = e.over; is = refl })

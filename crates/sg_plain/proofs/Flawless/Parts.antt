@@ -3,6 +3,7 @@ use Rattle.std.proofs.Common.{◌≡◌, ◌⊎◌, inl, inr, ℕ, ◌+◌, ◌<
 use Rattle.std.proofs.lemmas.Grind.{flat_map-append}
 use Rattle.std.proofs.lemmas.List.{length-map}
 use Rattle.std.specs.Prelude.{◌&&◌, ◌||◌, ◌==◌, nat_le, nat_lt, unwrap_or}
+use Rattle.std.specs.Option.{option_map_or}
 use Rattle.std.specs.Str.{bytes_eq}
 use Rattle.std.proofs.lemmas.Bool.Decides.{nat_tests}
 use Rattle.std.specs.declared.option.Option.{Option}
@@ -76,7 +77,7 @@ record IsGoodCall (i : Declared) (in_setup : Bool) (own : ℕ) (c : ScriptCall) 
   fits : call_fits i own c ≡ true
   goes : in_setup ≡ true → not (fun_at i.facts.funs c.fun).block ≡ true
 
-fun_fits : (i : Declared) (in_setup : Bool) (own : ℕ) (c : WrittenCall) (found : Option ℕ) → declared_fun i c.name.bytes ≡ found → fun_flaws i in_setup own c found ≡ []
+fun_fits : (i : Declared) (in_setup : Bool) (own : ℕ) (c : WrittenCall) (found : Option ℕ) → declared_fun i c.name.bytes ≡ found → fun_flaws in_setup own c (option_map_or (λ f. Some (fun_at i.facts.funs f)) found None) ≡ []
     → IsGoodCall i in_setup own (script_call_of i c)
 fun_fits i in_setup own c None is e = absurd cc
 fun_fits i in_setup own c (Some f) is e =
@@ -92,16 +93,16 @@ fun_fits i in_setup own c (Some f) is e =
     by true is = absurd (cc is)
     by false is = refl
 
-call_good : (i : Declared) (in_setup : Bool) (nth own : ℕ) (c : WrittenCall) → call_flaws i in_setup nth own c ≡ [] → IsGoodCall i in_setup own (script_call_of i c)
+call_good : (i : Declared) (in_setup : Bool) (nth own : ℕ) (c : WrittenCall) → call_flaws (i ∷ []) in_setup nth own c ≡ [] → IsGoodCall i in_setup own (script_call_of i c)
 call_good i in_setup nth own c e = fun_fits i in_setup own c (declared_fun i c.name.bytes) refl (front_none _ _ (front_none _ _ e))
 
-pub calls_all_fit : (i : Declared) (in_setup : Bool) (nth own : ℕ) (calls : List WrittenCall) → calls_flaws i in_setup nth own calls ≡ []
+pub calls_all_fit : (i : Declared) (in_setup : Bool) (nth own : ℕ) (calls : List WrittenCall) → calls_flaws (i ∷ []) in_setup nth own calls ≡ []
     → calls_fit i own (map (script_call_of i) calls) ≡ true
 calls_all_fit i in_setup nth own [] e = refl
 calls_all_fit i in_setup nth own (c ∷ calls) e =
     both (call_fits i own (script_call_of i c)) _ (call_good i in_setup nth own c (front_none _ _ e)).fits (calls_all_fit i in_setup (nth + 1) (own + 1) calls (back_none _ _ e))
 
-pub calls_all_go : (i : Declared) (nth own : ℕ) (calls : List WrittenCall) → calls_flaws i true nth own calls ≡ []
+pub calls_all_go : (i : Declared) (nth own : ℕ) (calls : List WrittenCall) → calls_flaws (i ∷ []) true nth own calls ≡ []
     → list_all (λ (c : ScriptCall). not (fun_at i.facts.funs c.fun).block) (map (script_call_of i) calls) ≡ true
 calls_all_go i nth own [] e = refl
 calls_all_go i nth own (c ∷ calls) e =
@@ -216,8 +217,8 @@ setups_counted front p =
     ap length (flat_map-append calls_of_setup front (p ∷ []) ∙ ap (λ v. flat_map calls_of_setup front ++ v) (append-nil (calls_of_setup p)))
     ∙ length-append (flat_map calls_of_setup front) (calls_of_setup p)
 
-part_read : (i : Declared) (setup : ℕ) (front : List Part) (p : Part) (clients : List (ℕ × List ScriptCall)) → part_flaws i setup front p ≡ [] → IsRead i setup front clients
-    → IsRead i setup (front ++ p ∷ []) (with_client i p clients)
+part_read : (i : Declared) (setup : ℕ) (front : List Part) (p : Part) (clients : List (ℕ × List ScriptCall)) → part_flaws (i ∷ []) setup front p ≡ [] → IsRead i setup front clients
+    → IsRead i setup (front ++ p ∷ []) (with_client (script_call_of i) p clients)
 part_read i setup front (Setup at calls) clients none is = record {
   ascend = is.ascend;
   fit = is.fit;
@@ -230,17 +231,17 @@ part_read i setup front (Schedule at numbers) clients none is = record {
   from_parts = λ m has. any_more (is_of_client m) front (Schedule at numbers) (is.from_parts m has);
   few = omega (arith, is.few, counted front (Schedule at numbers), setups_counted front (Schedule at numbers));
 }
-part_read i setup front (Stop at numbers) clients none is = record {
+part_read i setup front (Stop at service numbers) clients none is = record {
   ascend = is.ascend;
   fit = is.fit;
-  from_parts = λ m has. any_more (is_of_client m) front (Stop at numbers) (is.from_parts m has);
-  few = omega (arith, is.few, counted front (Stop at numbers), setups_counted front (Stop at numbers));
+  from_parts = λ m has. any_more (is_of_client m) front (Stop at service numbers) (is.from_parts m has);
+  few = omega (arith, is.few, counted front (Stop at service numbers), setups_counted front (Stop at service numbers));
 }
 part_read i setup front (Client at n calls) clients none is =
     let number = counts_as n.bytes in
-    let inner : client_flaws n ++ calls_flaws i false (length (flat_map calls_in front) + 1) (calls_before setup number + 1) calls ≡ [] = back_none _ _ none in
+    let inner : client_flaws n ++ calls_flaws (i ∷ []) false (length (flat_map calls_in front) + 1) (calls_before setup number + 1) calls ≡ [] = back_none _ _ none in
     let known : is_known_client number ≡ true = is_true _ (not_flawed _ BadClient n.at (front_none _ _ (front_none (client_flaws n) _ inner))) in
-    let first : comes_again front (Client at n calls) ≡ false = not_flawed _ Twice at (front_none _ _ none) in
+    let first : comes_again (i ∷ []) front (Client at n calls) ≡ false = not_flawed _ Twice at (front_none _ _ none) in
     let new : list_any (is_of_client number) front ≡ false = ap (λ b. b && list_any (is_of_client number) front) (sym known) ∙ first in
     record {
       ascend = placed_ascends 0 number (map (script_call_of i) calls) clients is.ascend (from_one number (left _ _ known)) (to_last number (right (nat_le 1 number) _ known)) (absent number new);
@@ -266,16 +267,16 @@ part_read i setup front (Client at n calls) clients none is =
     came m (inl is_own) = any_last (is_of_client m) front (Client at n calls) is_own
     came m (inr has) = any_more (is_of_client m) front (Client at n calls) (is.from_parts m has)
 
-pub parts_read : (i : Declared) (setup : ℕ) (front parts : List Part) (clients : List (ℕ × List ScriptCall)) → flaws_behind i setup front parts ≡ [] → IsRead i setup front clients
-    → IsRead i setup (front ++ parts) (fold (λ clients p. with_client i p clients) clients parts)
+pub parts_read : (i : Declared) (setup : ℕ) (front parts : List Part) (clients : List (ℕ × List ScriptCall)) → flaws_behind (i ∷ []) setup front parts ≡ [] → IsRead i setup front clients
+    → IsRead i setup (front ++ parts) (fold (λ clients p. with_client (script_call_of i) p clients) clients parts)
 parts_read i setup front [] clients none is = subst (λ f. IsRead i setup f clients) (sym (append-nil front)) is
 parts_read i setup front (p ∷ parts) clients none is =
-    subst (λ f. IsRead i setup f (fold (λ clients p. with_client i p clients) (with_client i p clients) parts)) (append_assoc front (p ∷ []) parts)
-    (parts_read i setup (front ++ p ∷ []) parts (with_client i p clients) (behind_none i setup front p parts none) (part_read i setup front p clients (front_none (part_flaws i setup front p) _ none) is))
+    subst (λ f. IsRead i setup f (fold (λ clients p. with_client (script_call_of i) p clients) (with_client (script_call_of i) p clients) parts)) (append_assoc front (p ∷ []) parts)
+    (parts_read i setup (front ++ p ∷ []) parts (with_client (script_call_of i) p clients) (behind_none (i ∷ []) setup front p parts none) (part_read i setup front p clients (front_none (part_flaws (i ∷ []) setup front p) _ none) is))
 
-pub all_counted : (i : Declared) (setup : ℕ) (front parts : List Part) → length (flat_map calls_in front) ≤ 65536 → flaws_behind i setup front parts ≡ [] → length (flat_map calls_in (front ++ parts)) ≤ 65536
+pub all_counted : (i : Declared) (setup : ℕ) (front parts : List Part) → length (flat_map calls_in front) ≤ 65536 → flaws_behind (i ∷ []) setup front parts ≡ [] → length (flat_map calls_in (front ++ parts)) ≤ 65536
 all_counted i setup front [] few none = subst (λ f. length (flat_map calls_in f) ≤ 65536) (sym (append-nil front)) few
 all_counted i setup front (p ∷ parts) few none =
     subst (λ f. length (flat_map calls_in f) ≤ 65536) (append_assoc front (p ∷ []) parts)
-    (all_counted i setup (front ++ p ∷ []) parts (subst (λ v. v ≤ 65536) (sym (counted front p)) (part_few i setup (length (flat_map calls_in front)) p few (inner_none i setup front p parts none)))
-    (behind_none i setup front p parts none))
+    (all_counted i setup (front ++ p ∷ []) parts (subst (λ v. v ≤ 65536) (sym (counted front p)) (part_few (i ∷ []) setup (length (flat_map calls_in front)) p few (inner_none (i ∷ []) setup front p parts none)))
+    (behind_none (i ∷ []) setup front p parts none))

@@ -1,6 +1,7 @@
 -- What is left of a play without stops.
 use Rattle.std.specs.Prelude.{ℕ, ◌≡◌, ◌+◌, ◌-◌, ◌*◌, ◌<◌, ◌≤◌, true, List, [], ◌∷◌, Some, length, slice_get, nat_le}
 use Rattle.std.specs.List.{list_all}
+use Rattle.sg_facts.specs.declared.entry.Entry.{Entry}
 use Rattle.sg_facts.specs.Facts.{Facts, fun_at}
 use Rattle.sg_plain.specs.Calls.{script_calls}
 use Rattle.sg_plain.specs.Plain.{PlainPhase, Player, Stage, blocked, holding, ready, replied, through}
@@ -53,11 +54,11 @@ all_before [] = 0
 all_before (p ∷ players) = turns_before p.phase + all_before players
 
 -- how many turns are left, at most
-abbrev pub turns_left : Script → Stage → ℕ
+abbrev pub turns_left : Script → Stage Entry → ℕ
 turns_left script s = all_to_come script 1 s.players * (3 * length s.players + 1) + all_before s.players
 
 -- what a stage keeps
-pub record IsPlayStage (facts : Facts) (script : Script) (s : Stage) : Type 0 where
+pub record IsPlayStage (facts : Facts) (script : Script) (s : Stage Entry) : Type 0 where
   pub fit : FitScript facts script 1 s.players
   pub some : 1 ≤ length s.players
   pub turns : list_all (λ client. nat_le 1 client) s.schedule ≡ true

@@ -14,8 +14,9 @@ use Rattle.sg_plain.specs.sg_hist.Clients.{calls_of}
 use Rattle.sg_plain.specs.sg_hist.Recovered.{struck_in}
 use Rattle.sg_plain.specs.sg_hist.Inside.Parts.{HasItem, stop_in}
 use Rattle.sg_plain.specs.Calls.{call_after, most_client, script_calls}
-use Rattle.sg_plain.specs.Inside.Turns.{resolved, stage_after}
-use Rattle.sg_plain.specs.Plain.{IsPlainPlay, Stage, left_schedule, next_turn, player_at}
+use Rattle.sg_plain.specs.Inside.Turns.{IsPlainPlay, resolved, stage_after}
+use Rattle.sg_plain.specs.OneService.{workload_of}
+use Rattle.sg_plain.specs.Plain.{Stage, left_schedule, next_turn, player_at}
 use Rattle.sg_plain.specs.Promises.{FollowsPlain, is_in_first_boot, up_to_last}
 use Rattle.sg_play.specs.Recovering.{RecoversSoFar}
 use Rattle.sg_play.specs.Turning.{StepsInTurn, behind_step, with_call, with_leaving, with_offer}
@@ -96,10 +97,10 @@ remarked : (z : Setting) (script : Script) (w : WorldView) (passed last c : ℕ)
 remarked z script w passed last c kind f = record { hold = f.hold; follows = f.follows }
 
 -- where a client has no call under way its player is that of the number of its calls
-free_player : (script : Script) (c : ℕ) (s : Seat) → is_free_phase s.phase ≡ true → player_by script c s ≡ player_at script c s.seq
+free_player : (script : Script) (c : ℕ) (s : Seat) → is_free_phase s.phase ≡ true → player_by script c s ≡ player_at (workload_of script) c s.seq
 free_player script c s free = by s.phase s.call s.seq s.boot s.reply free
   where
-    by : (p : SeatPhase) (call : Call) (seq boot : ℕ) (kept : Reply) → is_free_phase p ≡ true → player_by script c (record { phase = p; call = call; seq = seq; boot = boot; reply = kept }) ≡ player_at script c seq
+    by : (p : SeatPhase) (call : Call) (seq boot : ℕ) (kept : Reply) → is_free_phase p ≡ true → player_by script c (record { phase = p; call = call; seq = seq; boot = boot; reply = kept }) ≡ player_at (workload_of script) c seq
     by Idle call seq boot kept free = refl
     by Left call seq boot kept free = refl
     by Asked call seq boot kept free = absurd (cc free)
@@ -186,7 +187,7 @@ following_leaving z script w passed last c first within idle f = by (nat_lt (sea
 module _ (z : Setting) (script : Script) (x now : WorldView) (given : List (List ℕ)) (client passed last later : ℕ) (is : IsPlaying z.iface script x.history x.seats given)
     (so : RecoversSoFar z x) (so_now : RecoversSoFar z now) (first : 1 ≤ client) (within : client ≤ length x.seats)
     (none_left : is_free_phase (seat_of x client).phase ≡ true → nat_lt (seat_of x client).seq (length (script_calls script client)) ≡ false) (f : IsFollowing z script x passed last)
-    (turn : next_turn script (stage_of script x passed last) ≡ Some client) (schedule : drop later script.schedule ≡ left_schedule script (stage_of script x passed last)) where
+    (turn : next_turn (workload_of script) (stage_of script x passed last) ≡ Some client) (schedule : drop later script.schedule ≡ left_schedule (workload_of script) (stage_of script x passed last)) where
   stepped : (did : Did) (w : WorldView) → Steps z x client did w → (did ≡ Served → Each (HasItem z.iface.facts w.history w.run) w.history) → IsFollowing z script w later client
   stepped did w l served = by f.follows
     where
@@ -234,7 +235,7 @@ module _ (z : Setting) (script : Script) (w : WorldView) (given : List (List ℕ
       let same : stage_of script behind passed last ≡ stage_of script w passed last = stage_offered z.iface.facts script w client passed last first within in
       following_turn z script behind now given client passed last later offered told_before told first (omega (arith, within, is.clients, offered.clients))
       (offered_first z script w given client is first within) (following_offer z script w client passed last first within f)
-      (ap (next_turn script) same ∙ next.turn) (next.schedule ∙ ap (left_schedule script) (sym same)) handed steps
+      (ap (next_turn (workload_of script)) same ∙ next.turn) (next.schedule ∙ ap (left_schedule (workload_of script)) (sym same)) handed steps
 
 -- ---- a turn that wanted memory
 
@@ -252,7 +253,7 @@ was_struck run first newer are stopped none = by first.stop stopped (sym (ap (fl
     by None some nothing = cc some
     by (Some n) some nothing = cc nothing
 
-module _ (z : Setting) (script : Script) (w : WorldView) (passed last : ℕ) (f : IsFollowing z script w passed last) (over : next_turn script (stage_of script w passed last) ≡ None) where
+module _ (z : Setting) (script : Script) (w : WorldView) (passed last : ℕ) (f : IsFollowing z script w passed last) (over : next_turn (workload_of script) (stage_of script w passed last) ≡ None) where
   abbrev test : Entry → Bool
   test = is_in_first_boot z.iface.facts w.run.boots
 
@@ -263,7 +264,7 @@ module _ (z : Setting) (script : Script) (w : WorldView) (passed last : ℕ) (f 
       by : NeverStopped z script w.history w.run.boots w.running w.seats (stage_of script w passed last) ⊎ IsPastStop z script w.history w.run.boots w.running
           → FollowsPlain z.iface.facts w.run w.history plain
       by (inl never) =
-          let plain_is : plain ≡ w.history = whole_play z.iface z.ask script never.turns plain (ap (next_turn script) (sym never.at) ∙ over) play ∙ ap (λ (s : Stage). s.history) (sym never.at) in
+          let plain_is : plain ≡ w.history = whole_play z.iface z.ask script never.turns plain (ap (next_turn (workload_of script)) (sym never.at) ∙ over) play ∙ ap (λ (s : Stage Entry). s.history) (sym never.at) in
           record {
             first_boot = up_to_takes test w.history [] ∙ ap (take (length (up_to_last test w.history))) (append-nil w.history ∙ sym plain_is);
             whole = λ none. sym plain_is;
@@ -282,5 +283,5 @@ module _ (z : Setting) (script : Script) (w : WorldView) (passed last : ℕ) (f 
   following_over none = by f.follows
     where
       by : NeverStopped z script w.history w.run.boots w.running w.seats (stage_of script w passed last) ⊎ IsPastStop z script w.history w.run.boots w.running → IsPlainPlay z.iface z.ask script w.history
-      by (inl never) = record { turns = never.turns; over = ap (next_turn script) (sym never.at) ∙ over; is = ap (λ (s : Stage). s.history) never.at }
+      by (inl never) = record { turns = never.turns; over = ap (next_turn (workload_of script)) (sym never.at) ∙ over; is = ap (λ (s : Stage Entry). s.history) never.at }
       by (inr stopped) = absurd (was_struck w.run stopped.first stopped.newer stopped.are stopped.stopped none)

@@ -13,8 +13,9 @@ use Rattle.sg_facts.specs.Interface.{Declared}
 use Rattle.sg_facts.specs.Legal.{Table}
 use Rattle.sg_facts.specs.Object.{object_of}
 use Rattle.sg_plain.specs.Calls.{call_after}
-use Rattle.sg_plain.specs.Plain.{IsPlainPlay, PlainPhase, Stage, appended, at_phase, blocked, first_stage, holding, left_schedule, next_stage, next_turn, player_of, ready, replied, stage_from, through, turned}
-use Rattle.sg_plain.specs.Inside.Turns.{after_call, after_guard, after_turn, handed_over, served, stage_after}
+use Rattle.sg_plain.specs.OneService.{one_service, workload_of}
+use Rattle.sg_plain.specs.Plain.{PlainPhase, Stage, appended, at_phase, blocked, first_stage, holding, left_schedule, next_stage, next_turn, player_of, ready, replied, stage_from, through, turned}
+use Rattle.sg_plain.specs.Inside.Turns.{IsPlainPlay, after_call, after_guard, after_turn, handed_over, served, stage_after}
 use Rattle.sg_plain.specs.sg_script.declared.script.Script.{Script}
 
 -- a list begins with another
@@ -30,70 +31,70 @@ begins_on a b c x y = record { rest = x.rest ++ y.rest; is = y.is ∙ ap (λ l. 
 
 module _ (i : Declared) (ask : Table) (script : Script) where
   -- one turn more at the end
-  from_more : (s : Stage) (n : ℕ) → stage_from i ask script s (suc n) ≡ next_stage i ask script (stage_from i ask script s n)
+  from_more : (s : Stage Entry) (n : ℕ) → stage_from (one_service i ask script) (workload_of script) s (suc n) ≡ next_stage (one_service i ask script) (workload_of script) (stage_from (one_service i ask script) (workload_of script) s n)
   from_more s zero = refl
-  from_more s (suc n) = from_more (next_stage i ask script s) n
+  from_more s (suc n) = from_more (next_stage (one_service i ask script) (workload_of script) s) n
 
-  pub after_more : (n : ℕ) (s : Stage) → s ≡ stage_after i ask script n → next_stage i ask script s ≡ stage_after i ask script (suc n)
-  after_more n s is = ap (next_stage i ask script) is ∙ sym (from_more (first_stage script) n)
+  pub after_more : (n : ℕ) (s : Stage Entry) → s ≡ stage_after i ask script n → next_stage (one_service i ask script) (workload_of script) s ≡ stage_after i ask script (suc n)
+  after_more n s is = ap (next_stage (one_service i ask script) (workload_of script)) is ∙ sym (from_more (first_stage (workload_of script)) n)
 
   -- ---- the history grows
 
-  own : (s : Stage) (call : Call) (reply : Reply) → Begins s.history (s.history ++ record { call = call; reply = reply } ∷ [])
+  own : (s : Stage Entry) (call : Call) (reply : Reply) → Begins s.history (s.history ++ record { call = call; reply = reply } ∷ [])
   own s call reply = record { rest = record { call = call; reply = reply } ∷ []; is = refl }
 
-  grows_guarded : (c : ℕ) (s : Stage) (call : Call) (code : Option Code) → Begins s.history (after_guard i ask script c s call code).history
+  grows_guarded : (c : ℕ) (s : Stage Entry) (call : Call) (code : Option Code) → Begins s.history (after_guard (one_service i ask script) (workload_of script) c s call code).history
   grows_guarded c s call (Some code) = own s call (Refused code)
   grows_guarded c s call None = by (ask (object_of i.facts s.history) call)
     where
-      by : (reply : Option Reply) → Begins s.history (served i.facts script c s call reply).history
+      by : (reply : Option Reply) → Begins s.history (served (one_service i ask script) c s call reply).history
       by None = begins_same s.history
       by (Some reply) = at (is_visible i.facts call.fun)
         where
-          at : (b : Bool) → Begins s.history (cond b (at_phase c replied (appended i.facts script s call reply)) (at_phase c (holding reply) s)).history
+          at : (b : Bool) → Begins s.history (cond b (at_phase c replied (appended (one_service i ask script) s call reply)) (at_phase c (holding reply) s)).history
           at true = own s call reply
           at false = begins_same s.history
 
-  grows_called : (c : ℕ) (s : Stage) (call : Option Call) → Begins s.history (after_call i ask script c s call).history
+  grows_called : (c : ℕ) (s : Stage Entry) (call : Option Call) → Begins s.history (after_call (one_service i ask script) (workload_of script) c s call).history
   grows_called c s None = begins_same s.history
   grows_called c s (Some call) = grows_guarded c s call (guard i (object_of i.facts s.history) call)
 
-  grows_handed : (c : ℕ) (s : Stage) (reply : Reply) (call : Option Call) → Begins s.history (handed_over i.facts script c s reply call).history
+  grows_handed : (c : ℕ) (s : Stage Entry) (reply : Reply) (call : Option Call) → Begins s.history (handed_over (one_service i ask script) (workload_of script) c s reply call).history
   grows_handed c s reply None = begins_same s.history
   grows_handed c s reply (Some call) = own s call reply
 
-  grows_turned : (c : ℕ) (s : Stage) (p : PlainPhase) → Begins s.history (turned i ask script c s p).history
+  grows_turned : (c : ℕ) (s : Stage Entry) (p : PlainPhase) → Begins s.history (turned (one_service i ask script) (workload_of script) c s p).history
   grows_turned c s ready = grows_called c s (call_after i.facts script s.history c (player_of s c).done)
   grows_turned c s replied = begins_same s.history
   grows_turned c s (holding reply) = grows_handed c s reply (call_after i.facts script s.history c (player_of s c).done)
   grows_turned c s blocked = begins_same s.history
   grows_turned c s through = begins_same s.history
 
-  grows_next : (s : Stage) → Begins s.history (next_stage i ask script s).history
-  grows_next s = by (next_turn script s)
+  grows_next : (s : Stage Entry) → Begins s.history (next_stage (one_service i ask script) (workload_of script) s).history
+  grows_next s = by (next_turn (workload_of script) s)
     where
-      by : (turn : Option ℕ) → Begins s.history (after_turn i ask script s turn).history
+      by : (turn : Option ℕ) → Begins s.history (after_turn (one_service i ask script) (workload_of script) s turn).history
       by None = begins_same s.history
-      by (Some c) = grows_turned c (record s { schedule = left_schedule script s; last = c }) (player_of s c).phase
+      by (Some c) = grows_turned c (record s { schedule = left_schedule (workload_of script) s; last = c }) (player_of s c).phase
 
-  grows_from : (s : Stage) (n : ℕ) → Begins s.history (stage_from i ask script s n).history
+  grows_from : (s : Stage Entry) (n : ℕ) → Begins s.history (stage_from (one_service i ask script) (workload_of script) s n).history
   grows_from s zero = begins_same s.history
-  grows_from s (suc n) = begins_on s.history (next_stage i ask script s).history (stage_from i ask script (next_stage i ask script s) n).history (grows_next s) (grows_from (next_stage i ask script s) n)
+  grows_from s (suc n) = begins_on s.history (next_stage (one_service i ask script) (workload_of script) s).history (stage_from (one_service i ask script) (workload_of script) (next_stage (one_service i ask script) (workload_of script) s) n).history (grows_next s) (grows_from (next_stage (one_service i ask script) (workload_of script) s) n)
 
   -- ---- nobody can take a turn
 
-  stays : (s : Stage) (n : ℕ) → next_turn script s ≡ None → stage_from i ask script s n ≡ s
+  stays : (s : Stage Entry) (n : ℕ) → next_turn (workload_of script) s ≡ None → stage_from (one_service i ask script) (workload_of script) s n ≡ s
   stays s zero over = refl
-  stays s (suc n) over = let same : next_stage i ask script s ≡ s = ap (after_turn i ask script s) over in ap (λ t. stage_from i ask script t n) same ∙ stays s n over
+  stays s (suc n) over = let same : next_stage (one_service i ask script) (workload_of script) s ≡ s = ap (after_turn (one_service i ask script) (workload_of script) s) over in ap (λ t. stage_from (one_service i ask script) (workload_of script) t n) same ∙ stays s n over
 
-  split : (s : Stage) (m n : ℕ) → stage_from i ask script s (m + n) ≡ stage_from i ask script (stage_from i ask script s m) n
-  split s zero n = ap (stage_from i ask script s) (let same : 0 + n ≡ n = omega arith in same)
-  split s (suc m) n = ap (stage_from i ask script s) (let same : suc m + n ≡ suc (m + n) = omega arith in same) ∙ split (next_stage i ask script s) m n
+  split : (s : Stage Entry) (m n : ℕ) → stage_from (one_service i ask script) (workload_of script) s (m + n) ≡ stage_from (one_service i ask script) (workload_of script) (stage_from (one_service i ask script) (workload_of script) s m) n
+  split s zero n = ap (stage_from (one_service i ask script) (workload_of script) s) (let same : 0 + n ≡ n = omega arith in same)
+  split s (suc m) n = ap (stage_from (one_service i ask script) (workload_of script) s) (let same : suc m + n ≡ suc (m + n) = omega arith in same) ∙ split (next_stage (one_service i ask script) (workload_of script) s) m n
 
-  later_than : (m n : ℕ) → m ≤ n → stage_after i ask script n ≡ stage_from i ask script (stage_after i ask script m) (n - m)
-  later_than m n least = ap (stage_after i ask script) (let same : n ≡ m + (n - m) = omega (arith, least) in same) ∙ split (first_stage script) m (n - m)
+  later_than : (m n : ℕ) → m ≤ n → stage_after i ask script n ≡ stage_from (one_service i ask script) (workload_of script) (stage_after i ask script m) (n - m)
+  later_than m n least = ap (stage_after i ask script) (let same : n ≡ m + (n - m) = omega (arith, least) in same) ∙ split (first_stage (workload_of script)) m (n - m)
 
-  ends_at : (m n : ℕ) → m ≤ n → next_turn script (stage_after i ask script m) ≡ None → stage_after i ask script n ≡ stage_after i ask script m
+  ends_at : (m n : ℕ) → m ≤ n → next_turn (workload_of script) (stage_after i ask script m) ≡ None → stage_after i ask script n ≡ stage_after i ask script m
   ends_at m n least over = later_than m n least ∙ stays (stage_after i ask script m) (n - m) over
 
   -- each stage's history is a front of that of a play
@@ -108,7 +109,7 @@ module _ (i : Declared) (ask : Table) (script : Script) where
       by (inr most) = subst (Begins (stage_after i ask script n).history) (ap (λ s. s.history) (ends_at play.turns n most play.over) ∙ sym play.is) (begins_same (stage_after i ask script n).history)
 
   -- and all of it where nobody can take a turn
-  pub whole_play : (n : ℕ) (plain : List Entry) → next_turn script (stage_after i ask script n) ≡ None → IsPlainPlay i ask script plain → plain ≡ (stage_after i ask script n).history
+  pub whole_play : (n : ℕ) (plain : List Entry) → next_turn (workload_of script) (stage_after i ask script n) ≡ None → IsPlainPlay i ask script plain → plain ≡ (stage_after i ask script n).history
   whole_play n plain over play = play.is ∙ by (cases_lt n play.turns)
     where
       by : (n < play.turns) ⊎ (play.turns ≤ n) → (stage_after i ask script play.turns).history ≡ (stage_after i ask script n).history

@@ -9,8 +9,9 @@ use Rattle.sg_facts.specs.declared.entry.Entry.{Entry}
 use Rattle.sg_facts.specs.declared.row.Row.{Row}
 use Rattle.sg_facts.specs.Facts.{Facts}
 use Rattle.sg_plain.specs.Calls.{ascending_from, call_after, script_calls}
+use Rattle.sg_plain.specs.OneService.{workload_of}
 use Rattle.sg_plain.specs.Plain.{Player, after_wakes, blocked, holding, player_at, ready, replied, through, woken_phase}
-use Rattle.sg_plain.specs.Inside.Turns.{waits_on}
+use Rattle.sg_plain.specs.Inside.Turns.{is_woken_by, waits_on}
 use Rattle.sg_plain.specs.sg_hist.Wakes.{wakes}
 use Rattle.sg_plain.specs.Playing.Callers.{IsCaller, handed}
 use Rattle.sg_plain.proofs.Playing.Calling.{IsNext, next_of}
@@ -72,9 +73,9 @@ same_players script seats c new first last same =
 
 -- ---- a script's beginning
 
-pub new_players : (script : Script) (n count : ℕ) → players_by script n (replicate count no_seat) ≡ map (λ client. player_at script client 0) (ascending_from n count)
+pub new_players : (script : Script) (n count : ℕ) → players_by script n (replicate count no_seat) ≡ map (λ client. player_at (workload_of script) client 0) (ascending_from n count)
 new_players script n zero = refl
-new_players script n (suc count) = ap (λ l. player_at script n 0 ∷ l) (new_players script (n + 1) count)
+new_players script n (suc count) = ap (λ l. player_at (workload_of script) n 0 ∷ l) (new_players script (n + 1) count)
 
 -- ---- seats that are woken
 
@@ -151,10 +152,10 @@ module _ (facts : Facts) (script : Script) (history : List Entry) (rows : List R
 
   -- the players are woken as the seats are
   pub woken_players : (n : ℕ) (seats : List Seat) → ((k : ℕ) → k < length seats → IsCaller facts script history (n + k) (unwrap_or (slice_get seats k) no_seat))
-      → after_wakes facts script history rows call reply n (players_by script n seats) ≡ players_by script n (map (woken_seat test) seats)
+      → after_wakes (is_woken_by facts script history rows call reply) n (players_by script n seats) ≡ players_by script n (map (woken_seat test) seats)
   woken_players n [] callers = refl
   woken_players n (s ∷ seats) callers =
-      ap (λ p. p ∷ after_wakes facts script history rows call reply (n + 1) (players_by script (n + 1) seats))
+      ap (λ p. p ∷ after_wakes (is_woken_by facts script history rows call reply) (n + 1) (players_by script (n + 1) seats))
       (woken_one n s (subst (λ m. IsCaller facts script history m s) (let same : n + 0 ≡ n = omega arith in same) (callers zero (omega arith))))
       ∙ ap (λ l. player_by script n (woken_seat test s) ∷ l)
       (woken_players (n + 1) seats (λ k within. subst (λ m. IsCaller facts script history m (unwrap_or (slice_get seats k) no_seat)) (let same : n + suc k ≡ (n + 1) + k = omega arith in same) (callers (suc k) (omega (arith, within)))))

@@ -22,6 +22,7 @@ use Rattle.sg_plain.specs.sg_hist.Reading.{is_by_guard, is_item_of, is_tagged}
 use Rattle.sg_plain.specs.sg_hist.Inside.Reads.{after_item}
 use Rattle.sg_plain.specs.sg_hist.Inside.Parts.{HasItem}
 use Rattle.sg_plain.specs.Calls.{script_calls}
+use Rattle.sg_plain.specs.OneService.{one_service, workload_of}
 use Rattle.sg_plain.specs.Plain.{Stage, blocked, holding, left_schedule, next_turn, player_at, player_of, replied, turned}
 use Rattle.sg_plain.specs.Inside.Turns.{after_turn, stage_after}
 use Rattle.sg_play.specs.Recovering.{RecoversSoFar}
@@ -209,7 +210,7 @@ module _ (z : Setting) (script : Script) (x : WorldView) (given : List (List ℕ
 
   -- ---- a service that never stopped
 
-  module _ (so : RecoversSoFar z x) (turn_is : next_turn script (stage_of script x passed before) ≡ Some c) (schedule_is : drop later script.schedule ≡ left_schedule script (stage_of script x passed before))
+  module _ (so : RecoversSoFar z x) (turn_is : next_turn (workload_of script) (stage_of script x passed before) ≡ Some c) (schedule_is : drop later script.schedule ≡ left_schedule (workload_of script) (stage_of script x passed before))
       (offered_first : is_free_phase s.phase ≡ true → nat_lt s.seq (length (script_calls script c)) ≡ false)
       (a : NeverStopped z script x.history x.run.boots x.running x.seats (stage_of script x passed before)) where
     abbrev schedule : List ℕ
@@ -219,17 +220,17 @@ module _ (z : Setting) (script : Script) (x : WorldView) (given : List (List ℕ
     Now w = NeverStopped z script w.history w.run.boots w.running w.seats (stage_of script w later c) ⊎ IsPastStop z script w.history w.run.boots w.running
 
     -- the client's turn in the play without stops
-    abbrev its_turn : Stage
+    abbrev its_turn : Stage Entry
     its_turn = turn z.iface z.ask script x.history x.seats c first last is.callers schedule c
 
     turned_on : its_turn ≡ stage_after z.iface z.ask script (suc a.turns)
     turned_on =
-        ap (λ (l : List ℕ). turned z.iface z.ask script c (record (stage_of script x passed before) { schedule = l; last = c }) (player_of (stage_of script x passed before) c).phase) schedule_is
-        ∙ ap (after_turn z.iface z.ask script (stage_of script x passed before)) (sym turn_is)
+        ap (λ (l : List ℕ). turned (one_service z.iface z.ask script) (workload_of script) c (record (stage_of script x passed before) { schedule = l; last = c }) (player_of (stage_of script x passed before) c).phase) schedule_is
+        ∙ ap (after_turn (one_service z.iface z.ask script) (workload_of script) (stage_of script x passed before)) (sym turn_is)
         ∙ after_more z.iface z.ask script a.turns (stage_of script x passed before) a.at
 
     -- the stage with this history and these seats
-    abbrev with_these : List Entry → List Seat → Stage
+    abbrev with_these : List Entry → List Seat → Stage Entry
     with_these h l = stage_with z.iface z.ask script x.history x.seats c first last is.callers schedule c h l
 
     -- it goes on
@@ -246,7 +247,7 @@ module _ (z : Setting) (script : Script) (x : WorldView) (given : List (List ℕ
     }
 
     history_is : x.history ≡ (stage_after z.iface z.ask script a.turns).history
-    history_is = ap (λ (t : Stage). t.history) a.at
+    history_is = ap (λ (t : Stage Entry). t.history) a.at
 
     noted_is : (item : Item) → noted x.run.boots item ≡ record { items = a.items ++ item ∷ []; stop = None } ∷ []
     noted_is item = ap (λ l. noted l item) a.one
@@ -296,8 +297,8 @@ module _ (z : Setting) (script : Script) (x : WorldView) (given : List (List ℕ
         (held_entered reply (behind reply Idle no_reply) (λ held. absurd (cc held))) same)))
 
     -- the client goes on to its next call
-    next_player : (reply : Reply) → is_offered s.phase ≡ true → player_by script c (behind reply Idle no_reply) ≡ player_at script c (handed (seat_in (woken reply) c) + 1)
-    next_player reply offers = ap (player_at script c) (number offers ∙ ap (λ n. n + 1) (sym (handed_then reply ∙ handed_offering s offers)))
+    next_player : (reply : Reply) → is_offered s.phase ≡ true → player_by script c (behind reply Idle no_reply) ≡ player_at (workload_of script) c (handed (seat_in (woken reply) c) + 1)
+    next_player reply offers = ap (player_at (workload_of script) c) (number offers ∙ ap (λ n. n + 1) (sym (handed_then reply ∙ handed_offering s offers)))
 
     now_returns : (reply : Reply) (w : WorldView) → Returns z x c reply w → Now w
     now_returns reply w l =
@@ -388,7 +389,7 @@ module _ (z : Setting) (script : Script) (x : WorldView) (given : List (List ℕ
           minus n = omega arith
 
       history_then : x.history ++ entry_by l.reply ∷ [] ≡ (stage_after z.iface z.ask script (suc a.turns)).history
-      history_then = ap (λ (t : Stage). t.history) (sym turn_is_commit ∙ turned_on)
+      history_then = ap (λ (t : Stage Entry). t.history) (sym turn_is_commit ∙ turned_on)
 
       history_now : w.history ≡ x.history ++ entry_by l.reply ∷ []
       history_now = ap (λ (y : WorldView). y.history) l.now

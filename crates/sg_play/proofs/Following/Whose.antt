@@ -6,6 +6,8 @@ use Rattle.std.proofs.lemmas.Bool.{and_parts, cases_lt}
 use Rattle.std.proofs.lemmas.Bool.Decides.{nat_tests}
 use Rattle.sg_facts.specs.Interface.{Declared}
 use Rattle.sg_plain.specs.Calls.{ascending_from}
+use Rattle.sg_plain.specs.OneService.{workload_of}
+use Rattle.sg_facts.specs.declared.entry.Entry.{Entry}
 use Rattle.sg_plain.specs.Plain.{Stage, left_after_first, left_schedule, may_turn, next_turn, player_of}
 use Rattle.sg_plain.specs.Inside.Turns.{first_of, in_a_circle, some_or}
 use Rattle.sg_plain.specs.Playing.Callers.{is_setting_up}
@@ -18,7 +20,7 @@ use Rattle.sg_play.proofs.Following.Turns.{clients_alike, setup_alike, turns_ali
 
 -- ---- the first of some clients
 
-module _ (s : Stage) where
+module _ (s : Stage Entry) where
   -- none of these clients can take a turn
   abbrev pub NoneMay : List ℕ → Type 0
   NoneMay clients = (k client : ℕ) → slice_get clients k ≡ Some client → may_turn s client ≡ false
@@ -91,7 +93,7 @@ drop_whole (x ∷ l) = drop_whole l
 -- ---- the turn
 
 module _ (script : Script) (w : WorldView) (passed last : ℕ) where
-  abbrev s : Stage
+  abbrev s : Stage Entry
   s = stage_of script w passed last
 
   -- client 1 until the setup is done
@@ -107,10 +109,10 @@ module _ (script : Script) (w : WorldView) (passed last : ℕ) where
     no_setup : nat_lt (player_of s 1).done (length script.setup) ≡ false
     no_setup = setup_alike script w passed last ∙ over
 
-    turn_is : next_turn script s ≡ some_or (first_of s s.schedule) (first_of s (in_a_circle s))
+    turn_is : next_turn (workload_of script) s ≡ some_or (first_of s s.schedule) (first_of s (in_a_circle s))
     turn_is = ap (λ b. cond b (Some 1) (some_or (first_of s s.schedule) (first_of s (in_a_circle s)))) no_setup
 
-    left_is : left_schedule script s ≡ left_after_first s s.schedule
+    left_is : left_schedule (workload_of script) s ≡ left_after_first s s.schedule
     left_is = ap (λ b. cond b s.schedule (left_after_first s s.schedule)) no_setup
 
     -- then the first of the schedule that can
@@ -129,10 +131,10 @@ module _ (script : Script) (w : WorldView) (passed last : ℕ) where
       skipped : (first_of s s.schedule ≡ None) × (left_after_first s s.schedule ≡ [])
       skipped = none_first s (drop passed script.schedule) (λ k client there. none (passed + k) client (omega arith) (sym (get_drop script.schedule passed k) ∙ there))
 
-      circle_is : next_turn script s ≡ first_of s (in_a_circle s)
+      circle_is : next_turn (workload_of script) s ≡ first_of s (in_a_circle s)
       circle_is = turn_is ∙ ap (λ o. some_or o (first_of s (in_a_circle s))) skipped.0
 
-      ends_schedule : drop (length script.schedule) script.schedule ≡ left_schedule script s
+      ends_schedule : drop (length script.schedule) script.schedule ≡ left_schedule (workload_of script) s
       ends_schedule = drop_whole script.schedule ∙ sym (left_is ∙ skipped.1)
 
       -- then the next after the last turn's client that can
@@ -159,7 +161,7 @@ module _ (script : Script) (w : WorldView) (passed last : ℕ) where
         }
 
         -- and then none
-        pub no_next : ((other : ℕ) → 1 ≤ other → other ≤ last → may_turn s other ≡ false) → next_turn script s ≡ None
+        pub no_next : ((other : ℕ) → 1 ≤ other → other ≤ last → may_turn s other ≡ false) → next_turn (workload_of script) s ≡ None
         no_next none_around = circle_is ∙ back ∙ none_above s 1 last (λ other from below. none_around other from (omega (arith, below)))
 
 -- ---- nobody
@@ -174,7 +176,7 @@ from_one (x ∷ l) (suc k) n all there = from_one l k n (and_parts (nat_le 1 x) 
 
 -- where no client of a play can take a turn, nobody can in the play without stops
 pub nobody_next : (i : Declared) (script : Script) (w : WorldView) (given : List (List ℕ)) (passed last : ℕ) → IsPlaying i script w.history w.seats given → is_setting_up script w.seats ≡ false
-    → NobodyGoes script w.seats → next_turn script (stage_of script w passed last) ≡ None
+    → NobodyGoes script w.seats → next_turn (workload_of script) (stage_of script w passed last) ≡ None
 nobody_next i script w given passed last is over nobody =
     no_next script w passed last over (λ k other from there. none other (from_one script.schedule k other is.playable.turns there)) (λ other above within. none other (omega (arith, above)))
     (λ other from within. none other from)

@@ -41,7 +41,7 @@ pub record IsAllThere (facts : Facts) (history : List Entry) (items : List Item)
 
 -- the service is in its first boot and didn't stop: all that it needs is there, each reply that a client holds is of that boot, and the
 -- play is at a stage of the play without stops
-pub record NeverStopped (z : Setting) (script : Script) (history : List Entry) (boots : List Boot) (running : Option Object) (seats : List Seat) (stage : Stage) : Type 0 where
+pub record NeverStopped (z : Setting) (script : Script) (history : List Entry) (boots : List Boot) (running : Option Object) (seats : List Seat) (stage : Stage Entry) : Type 0 where
   pub items : List Item
   pub one : boots ≡ record { items = items; stop = None } ∷ []
   pub up : IsSome running

@@ -28,4 +28,4 @@ abbrev pub is_held : Part → Bool
 is_held (Setup at calls) = list_all is_held_call calls
 is_held (Client at n calls) = is_client_number n && list_all is_held_call calls
 is_held (Schedule at numbers) = list_all is_client_number numbers
-is_held (Stop at numbers) = true
+is_held (Stop at service numbers) = true

@@ -1,6 +1,8 @@
 -- Tokens that are the pieces of a script lead from the state before them to the state after them.
-use Rattle.std.proofs.Common.{◌≡◌, ℕ, List, [], ◌∷◌, ◌++◌, refl, sym, ap, subst, append_assoc}
-use Rattle.std.specs.Prelude.{None, Some, codes}
+use Rattle.std.proofs.Common.{◌≡◌, ℕ, Bool, true, false, List, [], ◌∷◌, ◌++◌, refl, sym, ap, subst, append_assoc}
+use Rattle.std.specs.Prelude.{None, Some, ◌&&◌, codes}
+use Rattle.std.specs.declared.option.Option.{Option}
+use Rattle.std.specs.List.{list_all}
 use Rattle.std.proofs.lemmas.List.{append-nil}
 use Rattle.sg_lex.specs.Lexeme.{Lexeme, Spelling}
 use Rattle.sg_lex.proofs.Automata.{Runs}
@@ -12,10 +14,10 @@ use Rattle.sg_script_parse.specs.declared.tree.Part.TheVariants.{Setup, Client, 
 use Rattle.sg_script_parse.specs.Grammar.Pieces.{ScriptPiece, mark, IsScriptPiece}
 use Rattle.sg_script_parse.specs.Grammar.Inside.Pieces.{fixed, word, number, quoted}
 use Rattle.sg_lex.specs.Sentences.{ArePieces}
-use Rattle.sg_script_parse.specs.Grammar.Sentence.{arg_pieces}
-use Rattle.sg_script_parse.specs.Grammar.Inside.States.{ScriptState, due, want, argument, bracketed, listed, body, counts, script, with_part, call_rest, braced, setup_rest, client_rest, schedule_rest, stop_rest, step, scripts}
-use Rattle.sg_script_parse.proofs.Grammar.Basics.{made, is_made, if_then, bytes_same}
-use Rattle.sg_script_parse.proofs.Grammar.Thens.{listed_then, args_then, calls_then, numbers_then, part_then, parts_then}
+use Rattle.sg_script_parse.specs.Grammar.Sentence.{arg_pieces, is_named_for}
+use Rattle.sg_script_parse.specs.Grammar.Inside.States.{ScriptState, due, want, want_word, argument, bracketed, listed, body, counts, script, with_part, call_rest, braced, setup_rest, client_rest, schedule_rest, stop_rest, named, step, scripts}
+use Rattle.sg_script_parse.proofs.Grammar.Basics.{made, is_made, if_then, bytes_same, both_left, both_right}
+use Rattle.sg_script_parse.proofs.Grammar.Thens.{listed_then, args_then, calls_then, numbers_then, named_then, part_then, parts_then}
 use Rattle.sg_lex.specs.Inside.Marks.{dollar_byte, close_bracket_byte, comma_byte, close_brace_byte, semicolon_byte, open_bracket_byte, open_brace_byte}
 
 -- reading tokens that are these pieces leads from the one state to the other
@@ -35,6 +37,10 @@ due_goes byte s end ps g =
 want_goes : (k : Spelling → ScriptState) (n : Spelling) (end : ScriptState) (ps : List ScriptPiece) → Goes (k n) ps end → Goes (want k) (number n ∷ ps) end
 unfolding step
 want_goes k n end ps g = one (want k) (k n) end (number n) ps (λ place. refl) g
+
+word_goes : (k : Spelling → ScriptState) (s : Spelling) (end : ScriptState) (ps : List ScriptPiece) → Goes (k s) ps end → Goes (want_word k) (word s ∷ ps) end
+unfolding step
+word_goes k s end ps g = one (want_word k) (k s) end (word s) ps (λ place. refl) g
 
 argument_goes : (k : WrittenArg → ScriptState) (a : WrittenArg) (end : ScriptState) (ps : List ScriptPiece) → Goes (k a) ps end → Goes (argument k) (arg_pieces a ++ ps) end
 unfolding step
@@ -94,27 +100,38 @@ counts_goes (n ∷ more) numbers k end ps g =
     one (counts numbers k) (counts (numbers ++ n ∷ []) k) end (number n) (numbers_then more ps) (λ place. refl)
     (counts_goes more (numbers ++ n ∷ []) k end ps (subst (λ v. Goes (k v) ps end) (sym (append_assoc numbers (n ∷ []) more)) g))
 
-part_goes : (p : Part) (parts : List Part) (end : ScriptState) (ps : List ScriptPiece) → Goes (with_part parts p) ps end → Goes (script parts) (part_then p ps) end
+-- a service is named exactly in a script for several
+named_goes : (several : Bool) (k : Option Spelling → ScriptState) (service : Option Spelling) (at : ℕ) (numbers : List Spelling) (end : ScriptState) (ps : List ScriptPiece)
+    → is_named_for several (Stop at service numbers) ≡ true → Goes (k service) ps end → Goes (named several k) (named_then service ps) end
+named_goes false k None at numbers end ps is g = g
+named_goes false k (Some s) at numbers end ps is g = absurd (let e : false ≡ true = is in cc)
+named_goes true k None at numbers end ps is g = absurd (let e : false ≡ true = is in cc)
+named_goes true k (Some s) at numbers end ps is g = word_goes (λ v. k (Some v)) s end ps g
+
+part_goes : (several : Bool) (p : Part) (parts : List Part) (end : ScriptState) (ps : List ScriptPiece) → is_named_for several p ≡ true → Goes (with_part several parts p) ps end
+    → Goes (script several parts) (part_then p ps) end
 unfolding step
-part_goes (Setup at calls) parts end ps g =
-    one (script parts) (setup_rest (with_part parts) at) end (fixed (codes "setup") at) (mark (open_brace_byte ∷ []) ∷ calls_then calls ps) (λ place. refl)
-    (braced_goes calls (λ v. with_part parts (Setup at v)) end ps g)
-part_goes (Client at n calls) parts end ps g =
-    one (script parts) (client_rest (with_part parts) at) end (fixed (codes "client") at) (number n ∷ mark (open_brace_byte ∷ []) ∷ calls_then calls ps) (λ place. refl)
-    (want_goes (λ m. braced (λ v. with_part parts (Client at m v))) n end (mark (open_brace_byte ∷ []) ∷ calls_then calls ps)
-    (braced_goes calls (λ v. with_part parts (Client at n v)) end ps g))
-part_goes (Schedule at numbers) parts end ps g =
-    one (script parts) (schedule_rest (with_part parts) at) end (fixed (codes "schedule") at) (numbers_then numbers ps) (λ place. refl)
-    (counts_goes numbers [] (λ v. with_part parts (Schedule at v)) end ps g)
-part_goes (Stop at numbers) parts end ps g =
-    one (script parts) (stop_rest (with_part parts) at) end (fixed (codes "stop") at) (numbers_then numbers ps) (λ place. refl)
-    (counts_goes numbers [] (λ v. with_part parts (Stop at v)) end ps g)
+part_goes several (Setup at calls) parts end ps is g =
+    one (script several parts) (setup_rest (with_part several parts) at) end (fixed (codes "setup") at) (mark (open_brace_byte ∷ []) ∷ calls_then calls ps) (λ place. refl)
+    (braced_goes calls (λ v. with_part several parts (Setup at v)) end ps g)
+part_goes several (Client at n calls) parts end ps is g =
+    one (script several parts) (client_rest (with_part several parts) at) end (fixed (codes "client") at) (number n ∷ mark (open_brace_byte ∷ []) ∷ calls_then calls ps) (λ place. refl)
+    (want_goes (λ m. braced (λ v. with_part several parts (Client at m v))) n end (mark (open_brace_byte ∷ []) ∷ calls_then calls ps)
+    (braced_goes calls (λ v. with_part several parts (Client at n v)) end ps g))
+part_goes several (Schedule at numbers) parts end ps is g =
+    one (script several parts) (schedule_rest (with_part several parts) at) end (fixed (codes "schedule") at) (numbers_then numbers ps) (λ place. refl)
+    (counts_goes numbers [] (λ v. with_part several parts (Schedule at v)) end ps g)
+part_goes several (Stop at service numbers) parts end ps is g =
+    one (script several parts) (stop_rest several (with_part several parts) at) end (fixed (codes "stop") at) (named_then service (numbers_then numbers ps)) (λ place. refl)
+    (named_goes several (λ s. counts [] (λ v. with_part several parts (Stop at s v))) service at numbers end (numbers_then numbers ps) is
+    (counts_goes numbers [] (λ v. with_part several parts (Stop at service v)) end ps g))
 
 -- whole parts, from parts on
-pub parts_go : (more parts : List Part) → Goes (script parts) (parts_then more []) (script (parts ++ more))
-parts_go [] parts [] a = ap script (sym (append-nil parts))
-parts_go [] parts (t ∷ ts) a = absurd a
-parts_go (p ∷ more) parts tokens a =
-    part_goes p parts (script (parts ++ p ∷ more)) (parts_then more [])
-    (subst (λ v. Goes (script (parts ++ p ∷ [])) (parts_then more []) (script v)) (append_assoc parts (p ∷ []) more) (parts_go more (parts ++ p ∷ [])))
+pub parts_go : (several : Bool) (more parts : List Part) → list_all (is_named_for several) more ≡ true → Goes (script several parts) (parts_then more []) (script several (parts ++ more))
+parts_go several [] parts are [] a = ap (script several) (sym (append-nil parts))
+parts_go several [] parts are (t ∷ ts) a = absurd a
+parts_go several (p ∷ more) parts are tokens a =
+    part_goes several p parts (script several (parts ++ p ∷ more)) (parts_then more []) (both_left (is_named_for several p) _ are)
+    (subst (λ v. Goes (script several (parts ++ p ∷ [])) (parts_then more []) (script several v)) (append_assoc parts (p ∷ []) more)
+    (parts_go several more (parts ++ p ∷ []) (both_right (is_named_for several p) _ are)))
     tokens a

@@ -1,6 +1,7 @@
 -- The pieces of a script, one after the other.
 use Rattle.std.proofs.Common.{◌≡◌, List, [], ◌∷◌, ◌++◌, map, refl, ap, ◌∙◌, append_assoc}
-use Rattle.std.specs.Prelude.{codes}
+use Rattle.std.specs.Prelude.{None, Some, codes}
+use Rattle.std.specs.declared.option.Option.{Option}
 use Rattle.std.specs.List.{flat_map}
 use Rattle.sg_script_parse.specs.declared.tree.WrittenArg.{WrittenArg}
 use Rattle.sg_script_parse.specs.declared.tree.WrittenCall.{WrittenCall}
@@ -34,11 +35,16 @@ abbrev pub numbers_then : List Spelling → List ScriptPiece → List ScriptPiec
 numbers_then [] r = mark (semicolon_byte ∷ []) ∷ r
 numbers_then (n ∷ more) r = number n ∷ numbers_then more r
 
+-- the name of a service, where there is one
+abbrev pub named_then : Option Spelling → List ScriptPiece → List ScriptPiece
+named_then None r = r
+named_then (Some s) r = word s ∷ r
+
 abbrev pub part_then : Part → List ScriptPiece → List ScriptPiece
 part_then (Setup at calls) r = fixed (codes "setup") at ∷ mark (open_brace_byte ∷ []) ∷ calls_then calls r
 part_then (Client at n calls) r = fixed (codes "client") at ∷ number n ∷ mark (open_brace_byte ∷ []) ∷ calls_then calls r
 part_then (Schedule at numbers) r = fixed (codes "schedule") at ∷ numbers_then numbers r
-part_then (Stop at numbers) r = fixed (codes "stop") at ∷ numbers_then numbers r
+part_then (Stop at service numbers) r = fixed (codes "stop") at ∷ named_then service (numbers_then numbers r)
 
 abbrev pub parts_then : List Part → List ScriptPiece → List ScriptPiece
 parts_then [] r = r
@@ -79,8 +85,10 @@ part_is (Client at n calls) r =
     (append_assoc (flat_map call_pieces calls) (mark (close_brace_byte ∷ []) ∷ []) r ∙ calls_is calls r)
 part_is (Schedule at numbers) r =
     ap (λ v. fixed (codes "schedule") at ∷ v) (append_assoc (map number numbers) (mark (semicolon_byte ∷ []) ∷ []) r ∙ numbers_is numbers r)
-part_is (Stop at numbers) r =
+part_is (Stop at None numbers) r =
     ap (λ v. fixed (codes "stop") at ∷ v) (append_assoc (map number numbers) (mark (semicolon_byte ∷ []) ∷ []) r ∙ numbers_is numbers r)
+part_is (Stop at (Some s) numbers) r =
+    ap (λ v. fixed (codes "stop") at ∷ word s ∷ v) (append_assoc (map number numbers) (mark (semicolon_byte ∷ []) ∷ []) r ∙ numbers_is numbers r)
 
 pub parts_are : (parts : List Part) → flat_map part_pieces parts ≡ parts_then parts []
 parts_are [] = refl

@@ -1,5 +1,6 @@
 -- Whose turn it is.
 use Rattle.std.specs.Prelude.{ℕ, ◌≡◌, ◌<◌, ◌≤◌, Bool, true, false, Some, slice_get}
+use Rattle.sg_facts.specs.declared.entry.Entry.{Entry}
 use Rattle.sg_play.specs.Following.Stages.{stage_of}
 use Rattle.sg_play.specs.sg_plain.Plain.{Stage, may_turn}
 use Rattle.sg_sim.specs.Playing.{Playing}
@@ -7,7 +8,7 @@ use Rattle.sg_sim.specs.Playing.{Playing}
 -- the stage that a play is at, and whether a client may take a turn there
 
 -- the stage that a play is at
-abbrev pub stage_now : Playing → Stage
+abbrev pub stage_now : Playing → Stage Entry
 stage_now p = stage_of p.script p.view p.passed p.last
 
 -- whether a client may take a turn at the stage that a play is at

@@ -7,7 +7,7 @@ use Rattle.sg_script.proofs.judging.first_in.Given as goal
 
 abbrev pub invariant-each : goal.invariant-each
 invariant-each l = record {
-  front : IsFront l.front (take l.part-index l.parts);
+  front : IsFront l.members l.front (take l.part-index l.parts);
   most : l.front.calls ≤ l.part-index * 18446744073709551615;
-  left : first_behind l.first (flaws_behind l.iface l.setup (take l.part-index l.parts) (drop l.part-index l.parts)) ≡ first_behind None (flaws_behind l.iface l.setup [] l.parts);
+  left : first_behind l.first (flaws_behind l.members l.setup (take l.part-index l.parts) (drop l.part-index l.parts)) ≡ first_behind None (flaws_behind l.members l.setup [] l.parts);
 }

@@ -5,4 +5,4 @@ use Rattle.sg_script.proofs.Earliest.{judged}
 use Rattle.sg_script.proofs.judging.judge.Goals as goal
 
 pub returns : goal.returns
-returns c = judged c.fault.result (flaws_of c.args.iface.now c.args.parts.now) (c.fault.ensures ∙ c.first_in.ensures)
+returns c = judged c.fault.result (flaws_of c.args.members.now c.args.parts.now) (c.fault.ensures ∙ c.first_in.ensures)

@@ -8,5 +8,5 @@ abbrev pub invariant-each : goal.invariant-each
 invariant-each l = record {
   nth : l.nth ≡ l.fn.nth + l.call-index;
   own : l.own ≡ l.fn.own + l.call-index;
-  left : first_behind l.first (calls_flaws l.iface l.in_setup l.nth l.own (drop l.call-index l.calls)) ≡ first_behind l.fn.first (calls_flaws l.iface l.in_setup l.fn.nth l.fn.own l.calls);
+  left : first_behind l.first (calls_flaws l.members l.in_setup l.nth l.own (drop l.call-index l.calls)) ≡ first_behind l.fn.first (calls_flaws l.members l.in_setup l.fn.nth l.fn.own l.calls);
 }

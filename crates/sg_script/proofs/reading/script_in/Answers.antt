@@ -8,4 +8,4 @@ use Rattle.sg_script.proofs.reading.script_in.Goals as goal
 pub script_of-requires : goal.script_of-requires
 script_of-requires c =
     subst (λ parts. list_all is_held parts ≡ true) (c.as_slice.ensures ∙ sym c.as_slice-in-None.ensures)
-    (flawless_held c.args.iface.now c.as_slice.result.now c.in-None.ensures)
+    (flawless_held c.from_ref.result.now c.as_slice.result.now c.in-None.ensures)

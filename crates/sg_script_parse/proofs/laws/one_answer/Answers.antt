@@ -7,9 +7,9 @@ use Rattle.sg_script_parse.proofs.Grammar.Readings.{may_answer, only_answer, rea
 use Rattle.sg_script_parse.proofs.laws.one_answer.Goals as goal
 
 pub returns-clause-some : goal.returns-clause-some
-returns-clause-some c = λ text.
-    (read_from scripts (length text) script_start (answers_of text), may_answer (length text) (answers_of text), reads_no_memory (length text) script_start (answers_of text))
+returns-clause-some c = λ several text.
+    (read_from scripts (length text) (script_start several) (answers_of text), may_answer several (length text) (answers_of text), reads_no_memory (length text) (script_start several) (answers_of text))
 
 pub returns-clause-alone : goal.returns-clause-alone
-returns-clause-alone c = λ text one other h g n m.
-    sym (only_answer (length text) (answers_of text) one h n) ∙ only_answer (length text) (answers_of text) other g m
+returns-clause-alone c = λ several text one other h g n m.
+    sym (only_answer several (length text) (answers_of text) one h n) ∙ only_answer several (length text) (answers_of text) other g m

@@ -17,8 +17,8 @@ returns-in_err-part c =
     let came = on_some ((old.rest ≡ []) × (new.rest ≡ [])) (λ (token : Lexeme). old.rest ≡ Ok token ∷ new.rest) c.in_ok-token.field-0 c.in-Some.token c.in_ok-token.ensures.token c.in-Some.is in
     rw (p.1, p.2) (λ ne.
     c.parts.invariant
-    ∙ part_came c.parts.parts old new c.in-Some.token came c.in_ok-token.ensures.end
-    ∙ c.in_err-part.ensures.leads (with_part c.parts.parts) (λ e. ne (ap Err e)))
+    ∙ part_came c.args.several c.parts.parts old new c.in-Some.token came c.in_ok-token.ensures.end
+    ∙ c.in_err-part.ensures.leads (with_part c.args.several c.parts.parts) (λ e. ne (ap Err e)))
 
 pub parts-preserved : goal.parts-preserved
 parts-preserved c =
@@ -26,6 +26,6 @@ parts-preserved c =
     let new = c.next_token.new.reader in
     let came = on_some ((old.rest ≡ []) × (new.rest ≡ [])) (λ (token : Lexeme). old.rest ≡ Ok token ∷ new.rest) c.in_ok-token.field-0 c.in-Some.token c.in_ok-token.ensures.token c.in-Some.is in
     c.parts.invariant
-    ∙ part_came c.parts.parts old new c.in-Some.token came c.in_ok-token.ensures.end
-    ∙ c.in_ok-part.ensures.leads (with_part c.parts.parts)
-    ∙ ap (λ v. read scripts (script v) c.part.new.reader) (sym c.in_ok-push.ensures.ok)
+    ∙ part_came c.args.several c.parts.parts old new c.in-Some.token came c.in_ok-token.ensures.end
+    ∙ c.in_ok-part.ensures.leads (with_part c.args.several c.parts.parts)
+    ∙ ap (λ v. read scripts (script c.args.several v) c.part.new.reader) (sym c.in_ok-push.ensures.ok)

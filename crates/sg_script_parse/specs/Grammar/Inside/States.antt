@@ -1,6 +1,6 @@
 -- How far a script has been read: an automaton over tokens, whose states carry the parts so far. Nothing public rests on
 -- the automaton, which is proved to read exactly the scripts, and says in what steps the parser goes.
-use Rattle.std.specs.Prelude.{ℕ, if◌then◌else◌, List, [], ◌∷◌, ◌++◌, None, Some, codes}
+use Rattle.std.specs.Prelude.{ℕ, Bool, false, if◌then◌else◌, List, [], ◌∷◌, ◌++◌, None, Some, codes}
 use Rattle.std.specs.declared.option.Option.{Option}
 use Rattle.sg_lex.specs.declared.token.TokenKind.TheVariants.{Word, Number, Text}
 use Rattle.sg_lex.specs.Lexeme.{Lexeme, Spelling}
@@ -29,6 +29,8 @@ pub data ScriptState : Type 0 where
   due : ℕ → ScriptState → ScriptState
   -- a number, and then the state of it
   want : (Spelling → ScriptState) → ScriptState
+  -- a word, and then the state of it
+  want_word : (Spelling → ScriptState) → ScriptState
   -- an argument, and then the state of it
   argument : (WrittenArg → ScriptState) → ScriptState
   -- after `(`: arguments or none, `)`, and then the state of them
@@ -39,8 +41,8 @@ pub data ScriptState : Type 0 where
   body : List WrittenCall → (List WrittenCall → ScriptState) → ScriptState
   -- after numbers: a further one, or `;` and then the state of them all
   counts : List Spelling → (List Spelling → ScriptState) → ScriptState
-  -- before a part or the end
-  script : List Part → ScriptState
+  -- before a part or the end, of a script for several services or for one
+  script : Bool → List Part → ScriptState
 
 -- after the first token of an argument
 abbrev pub argument_behind : (WrittenArg → ScriptState) → Lexeme → Option ScriptState
@@ -72,26 +74,30 @@ client_rest go at = want (λ n. braced (λ calls. go (Client at n calls)))
 abbrev pub schedule_rest : (Part → ScriptState) → ℕ → ScriptState
 schedule_rest go at = counts [] (λ numbers. go (Schedule at numbers))
 
--- after `stop`: numbers up to a semicolon
-abbrev pub stop_rest : (Part → ScriptState) → ℕ → ScriptState
-stop_rest go at = counts [] (λ numbers. go (Stop at numbers))
+-- the name of a service, in a script for several
+abbrev pub named : Bool → (Option Spelling → ScriptState) → ScriptState
+named several k = if several then want_word (λ s. k (Some s)) else k None
+
+-- after `stop`: the name of a service, in a script for several, and numbers up to a semicolon
+abbrev pub stop_rest : Bool → (Part → ScriptState) → ℕ → ScriptState
+stop_rest several go at = named several (λ service. counts [] (λ numbers. go (Stop at service numbers)))
 
 -- after the first token of a part
-abbrev pub part_behind : (Part → ScriptState) → Lexeme → Option ScriptState
-part_behind go token =
+abbrev pub part_behind : Bool → (Part → ScriptState) → Lexeme → Option ScriptState
+part_behind several go token =
     if is_fixed (codes "setup") token then Some (setup_rest go token.at)
     else (if is_fixed (codes "client") token then Some (client_rest go token.at)
     else (if is_fixed (codes "schedule") token then Some (schedule_rest go token.at)
-    else (if is_fixed (codes "stop") token then Some (stop_rest go token.at)
+    else (if is_fixed (codes "stop") token then Some (stop_rest several go token.at)
     else None)))
 
 -- with one part more
-abbrev pub with_part : List Part → Part → ScriptState
-with_part parts part = script (parts ++ part ∷ [])
+abbrev pub with_part : Bool → List Part → Part → ScriptState
+with_part several parts part = script several (parts ++ part ∷ [])
 
 -- before the first token
-abbrev pub script_start : ScriptState
-script_start = script []
+abbrev pub script_start : Bool → ScriptState
+script_start several = script several []
 
 -- ---- steps
 
@@ -100,6 +106,7 @@ unfoldable pub step : ScriptState → Lexeme → Option ScriptState
 step dead token = None
 step (due byte s) token = if is_this_mark byte token then Some s else None
 step (want k) token = if has_kind Number token then Some (k (spelt_by token)) else None
+step (want_word k) token = if has_kind Word token then Some (k (spelt_by token)) else None
 step (argument k) token = argument_behind k token
 step (bracketed k) token =
     if is_this_mark close_bracket_byte token then Some (k []) else argument_behind (λ a. listed (a ∷ []) k) token
@@ -115,13 +122,17 @@ step (counts numbers k) token =
     if has_kind Number token then Some (counts (numbers ++ spelt_by token ∷ []) k)
     else (if is_this_mark semicolon_byte token then Some (k numbers)
     else None)
-step (script parts) token = part_behind (with_part parts) token
+step (script several parts) token = part_behind several (with_part several parts) token
 
 -- the parts, where the text may end here
 unfoldable pub parts_at : ScriptState → Option (List Part)
-parts_at (script parts) = Some parts
+parts_at (script several parts) = Some parts
 parts_at s = None
 
--- how the automaton reads a text
+-- how the automaton reads a text, which is to be a script for several services or for one
+abbrev pub scripts_for : Bool → Automaton ScriptState (List Part) ScriptSyntax
+scripts_for several = record { start = script_start several; step = step; value_at = parts_at; no_token = Syntax; no_sentence = Syntax; no_memory = NoMemory }
+
+-- the same from any state on: how it goes on doesn't depend on its start
 abbrev pub scripts : Automaton ScriptState (List Part) ScriptSyntax
-scripts = record { start = script_start; step = step; value_at = parts_at; no_token = Syntax; no_sentence = Syntax; no_memory = NoMemory }
+scripts = scripts_for false
