@@ -17,8 +17,9 @@ use Rattle.sg_passes.specs.sg_turn.declared.log.LogMark.{LogMark}
 use Rattle.sg_passes.specs.sg_turn.declared.log.LogMarkKind.TheVariants.{Offer as TOffer, Withdraw as TWithdraw}
 use Rattle.sg_passes.specs.sg_turn.Logs.{marks_of}
 use Rattle.sg_passes.specs.Hosts.{AddsLeave}
-use Rattle.sg_passes.specs.Told.{idle, HasNoCall, entry_of, entries_in, withdrawals_in, mark_by, standing_in}
+use Rattle.sg_passes.specs.Told.{idle, HasNoCall, entry_of, entries_in, withdrawals_in, mark_by, standing_in, GivenUp, withdrawal_of}
 use Rattle.sg_log.specs.Log.{call_in, entries_after, given_up, log_from, log_of, phase_number, withdrawn_after}
+use Rattle.sg_log.specs.Names.{withdrawn_of}
 use Rattle.sg_log.proofs.Growing.{Starts, aligned, step_aligned, clients_of, clients_gone}
 use Rattle.sg_log.proofs.Events.{set_call, marked, offers}
 use Rattle.sg_log.proofs.Standing.{Says, says}
@@ -159,3 +160,36 @@ withdrawals_told calls [] h x e w = sym (ap (map given_up) (aligned [] h x e w).
 withdrawals_told calls (n ∷ ms) h x e w =
     let t = step_aligned n.kind n.client ms h x e w in
     withdrawals_at calls n.kind n.client ms h x t.0 (withdrawals_told calls ms (entries_after n.kind h) (withdrawn_after n.kind x) t.1 t.2)
+
+own_withdrew : (b : Bool) (t : LogMark) (m : List LogMark) (y : GivenUp) (f : List GivenUp) → withdrawal_of t.kind ≡ y ∷ [] → withdrawals_in m ≡ f → withdrawals_in (cond b (t ∷ m) m) ≡ cond b (y ∷ f) f
+own_withdrew true t m y f i ih = ap (λ l. l ++ withdrawals_in m) i ∙ ap (λ l. y ∷ l) ih
+own_withdrew false t m y f i ih = ih
+
+own_stayed : (b : Bool) (t : LogMark) (m : List LogMark) (f : List GivenUp) → withdrawal_of t.kind ≡ [] → withdrawals_in m ≡ f → withdrawals_in (cond b (t ∷ m) m) ≡ f
+own_stayed true t m f i ih = ap (λ l. l ++ withdrawals_in m) i ∙ ih
+own_stayed false t m f i ih = ih
+
+map_cond : (b : Bool) (y : Withdrawn) (l : List Withdrawn) → cond b (given_up y ∷ map given_up l) (map given_up l) ≡ map given_up (cond b (y ∷ l) l)
+map_cond true y l = refl
+map_cond false y l = refl
+
+own_gone_at : (calls : ℕ → Call) (c : ℕ) (k : MarkKind) (d : ℕ) (ms : List Mark) (h : List Entry) (x : List Withdrawn) → marked_as is_withdrawal_mark (record { client = d; kind = k } ∷ ms) ≡ clients_gone x
+    → withdrawals_in (marks_of c (log_from calls ms (entries_after k h) (withdrawn_after k x))) ≡ map given_up (withdrawn_of (withdrawn_after k x) c)
+    → withdrawals_in (marks_of c (log_from calls (record { client = d; kind = k } ∷ ms) h x)) ≡ map given_up (withdrawn_of x c)
+own_gone_at calls c Withdraw d ms h [] e ih = absurd (cc)
+own_gone_at calls c Withdraw d ms h (y ∷ x) e ih =
+    own_withdrew (eqb d c) _ _ (given_up y) (map given_up (withdrawn_of x c)) refl ih
+    ∙ ap (λ n. cond (eqb n c) (given_up y ∷ map given_up (withdrawn_of x c)) (map given_up (withdrawn_of x c))) (ap (λ l. get_or l 0 0) e)
+    ∙ map_cond (eqb y.call.client c) y (withdrawn_of x c)
+own_gone_at calls c Entered d ms h x e ih = own_stayed (eqb d c) _ _ (map given_up (withdrawn_of x c)) refl ih
+own_gone_at calls c Offer d ms h x e ih = own_stayed (eqb d c) _ _ (map given_up (withdrawn_of x c)) refl ih
+own_gone_at calls c Answer d ms h x e ih = own_stayed (eqb d c) _ _ (map given_up (withdrawn_of x c)) refl ih
+own_gone_at calls c Leave d ms h x e ih = own_stayed (eqb d c) _ _ (map given_up (withdrawn_of x c)) refl ih
+
+-- and the withdrawn calls of a client's marks are the client's
+pub own_gone_told : (calls : ℕ → Call) (c : ℕ) (ms : List Mark) (h : List Entry) (x : List Withdrawn) → marked_as is_entry_mark ms ≡ clients_of h → marked_as is_withdrawal_mark ms ≡ clients_gone x
+    → withdrawals_in (marks_of c (log_from calls ms h x)) ≡ map given_up (withdrawn_of x c)
+own_gone_told calls c [] h x e w = sym (ap (λ l. map given_up (withdrawn_of l c)) (aligned [] h x e w).1)
+own_gone_told calls c (n ∷ ms) h x e w =
+    let t = step_aligned n.kind n.client ms h x e w in
+    own_gone_at calls c n.kind n.client ms h x w (own_gone_told calls c ms (entries_after n.kind h) (withdrawn_after n.kind x) t.1 t.2)

@@ -23,7 +23,7 @@ use Rattle.sg_world.specs.sg_world_laws.Setting.{Setting}
 use Rattle.sg_passes.specs.sg_turn.declared.log.LogMarkKind.TheVariants.{Entry as TEntry, Answer as TAnswer}
 use Rattle.sg_passes.specs.Hosts.{AddsEntryAtMost, AddsAnswer, AddsStep}
 use Rattle.sg_passes.specs.Told.{idle, asking, has_reply, mark_by, standing_in}
-use Rattle.sg_log.specs.Inside.Dids.{stepped_of}
+use Rattle.sg_log.specs.Dids.{stepped_of}
 use Rattle.sg_log.specs.Log.{call_at, call_in, entries_after, withdrawn_after, log_from, log_of}
 use Rattle.sg_log.proofs.Growing.{Starts, Aligned, aligned, log_same, entries_push}
 use Rattle.sg_log.proofs.Events.{SameCalls, same_in, set_call, woken_call, marked}

@@ -1,24 +1,20 @@
 -- What the log of a named world tells, in the words of its world.
-use Rattle.std.proofs.Common.{◌≡◌, ◌⊎◌, ℕ, ◌≤◌, Bool, true, false, ◌&&◌, List, [], ◌∷◌, ◌++◌, map, length, Option, None, Some, Result, Ok, Err, OnErr, refl, sym, ap, ◌∙◌, subst, inl, inr, true≢false}
+use Rattle.std.proofs.Common.{◌≡◌, ◌⊎◌, ℕ, ◌≤◌, Bool, true, false, ◌&&◌, List, [], ◌∷◌, ◌++◌, map, length, Option, None, Some, Result, Ok, Err, refl, sym, ap, ◌∙◌, subst, inl, inr, true≢false}
 use Rattle.std.specs.List.{list_all}
+use Rattle.std.specs.Result.{IfOk}
 use Rattle.sg_passes.specs.sg_facts.sg_base.declared.call.Call.{Call}
-use Rattle.sg_passes.specs.sg_facts.sg_base.declared.reply.Reply.{Reply}
 use Rattle.sg_passes.specs.Told.{Standing, AllRest, asking, entries_by, entries_in, idle, mark_by, standing_in}
-use Rattle.sg_passes.specs.declared.host.Stepped.TheVariants.{GoesOn}
 use Rattle.sg_passes.specs.sg_turn.declared.log.LogMarkKind.TheVariants.{Withdraw}
 use Rattle.sg_world.specs.Marked.{TellsAll, IsPhaseAfter, last_kind}
-use Rattle.sg_world.specs.declared.did.Did.{Did}
-use Rattle.sg_world.specs.declared.did.Did.TheVariants.{Answered, Blocked as Waits, Booted, Loaded, Lost, Replayed, Served, Skipped, Struck}
 use Rattle.sg_world.specs.sg_recovery_laws.sg_hist.Clients.{calls_of}
 use Rattle.sg_world.specs.sg_seat.WorldView.{Seat, WorldView, seat_of, is_offered, is_at_rest, is_resting, MayWithdraw, happened, withdrawn_by}
 use Rattle.sg_world.specs.sg_seat.declared.mark.MarkKind.{MarkKind}
 use Rattle.sg_world.specs.sg_seat.declared.mark.MarkKind.TheVariants.{Offer, Entry as Entered, Answer, Withdraw as Withdrew, Leave}
 use Rattle.sg_world.specs.sg_seat.declared.phase.Phase.{Phase}
 use Rattle.sg_world.specs.sg_seat.declared.phase.Phase.TheVariants.{Idle, Asked, Held, Receipted, Blocked, Left}
-use Rattle.sg_log.specs.Inside.Dids.{stepped_of}
 use Rattle.sg_log.specs.Log.{call_in, log_of, phase_number}
 use Rattle.sg_log.specs.Names.{IsSeatOf, TellsWorld, phases_of}
-use Rattle.sg_log.proofs.Offering.{withdraw_log, entries_told, own_told, withdrawals_told}
+use Rattle.sg_log.proofs.Offering.{withdraw_log, entries_told, own_told, own_gone_told, withdrawals_told}
 use Rattle.sg_log.proofs.Standing.{Says, says}
 use Rattle.sg_log.proofs.Stepping.{phase_told, seat_call, stands_under}
 
@@ -47,6 +43,7 @@ tells_world w t = record {
   entries = history_told w t;
   own = λ c. own_told (call_in w.seats) c w.marks w.history w.withdrawn t.entries t.withdrawals;
   withdrawals = withdrawals_told (call_in w.seats) w.marks w.history w.withdrawn t.entries t.withdrawals;
+  own_withdrawals = λ c. own_gone_told (call_in w.seats) c w.marks w.history w.withdrawn t.entries t.withdrawals;
   stands = λ c is. seat_told w c is.0 is.1 t;
 }
 
@@ -87,18 +84,6 @@ all_rest (s ∷ seats) e = let t = both_hold (is_resting s.phase) (list_all is_a
 
 -- ---- results
 
--- a step that handed no reply over
-pub goes_on : (did : Did) → ((reply : Reply) → did ≡ Answered reply → ⊥) → stepped_of did ≡ GoesOn
-goes_on (Answered reply) not = absurd (not reply refl)
-goes_on Skipped not = refl
-goes_on Struck not = refl
-goes_on Booted not = refl
-goes_on Replayed not = refl
-goes_on Loaded not = refl
-goes_on Served not = refl
-goes_on Waits not = refl
-goes_on Lost not = refl
-
-pub on_err_of : {A E : Type 0} {P : Type 0} (r : Result A E) → P → OnErr r P
-on_err_of (Ok a) p = tt
-on_err_of (Err e) p = p
+pub if_ok : {A E : Type 0} {P Q : A → Type 0} (r : Result A E) → ((a : A) → P a → Q a) → IfOk r P → IfOk r Q
+if_ok (Ok a) so is = so a is
+if_ok (Err e) so is = tt

@@ -8,5 +8,8 @@
 
 mod named;
 
-pub use named::{NamedWorld, WorldNames};
-pub use sg_passes::{InvokeFault, Pass, PassList, Shared};
+pub use named::{NamedWorld, WorldNames, stepped_of};
+pub use sg_passes::{
+    Args, Host, InvokeFault, Kept, NoMemory, Pass, PassList, Service, Shared, Stepped, Stops,
+};
+pub use sg_world::{Did, World};

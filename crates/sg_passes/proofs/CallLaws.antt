@@ -14,7 +14,7 @@ use Rattle.sg_turn.specs.Seats.{SeatView, TurnView, HasLearnt}
 use Rattle.sg_turn.proofs.Logs.{marks_of-append}
 use Rattle.sg_passes.specs.Hosts.{AddsEntryAtMost, AddsLeave, AddsAnswer}
 use Rattle.sg_passes.specs.Inside.Calls.{GaveBack, GaveBackWith, HasOwnMore, IsOffered, IsEntered, IsUnderWay}
-use Rattle.sg_passes.specs.Passes.{seen_by, own_marks, standing_of, call_by, Grows, StaysIn, HasAnswer, HasNoMemory, HasBlocked}
+use Rattle.sg_passes.specs.Passes.{seen_by, own_marks, standing_of, call_by, Grows, StaysIn, HasAnswer, HasNoMemory, HasBlocked, HasStayed}
 use Rattle.sg_passes.specs.Told.{Standing, idle, left, asking, has_reply, after_mark, standing_after, standing_in, AllRest, entry_of, entries_in, withdrawal_of, withdrawals_in, mark_by}
 
 -- ---- what logs tell that were joined
@@ -152,6 +152,25 @@ blocked waits o q r call phases h same wait rests = record {
   stands = stands_after o r _ h.own_more;
   unanswered = subst (λ l. waits l call) (sym same) wait;
 }
+
+learns_same : (p : SeatView) → HasLearnt p p
+learns_same p = record {
+  turn = refl;
+  last = refl;
+  learns = record { number = refl; known = omega arith; face = record { log = ([], append-nil p.face.log); events = omega arith }; own = refl };
+}
+
+-- a call that has no answer stays under way
+pub stayed : (waits : List HistoryEntry → Call → Type 0) (o r : SeatView) (call call' : Call) → IsUnderWay o call r → standing_of r ≡ asking call' → waits (seen_by r) call' → HasStayed waits o call r
+stayed waits o r call call' u stands wait =
+    let t = is_offered o r r call call' u (learns_same r) stands in
+    record {
+      grows = t.0.grows;
+      entries = ap entries_in t.0.own_more ∙ entries_in-append (own_marks o) _ ∙ append-nil _;
+      given_up = ap withdrawals_in t.0.own_more ∙ withdrawals_in-append (own_marks o) _ ∙ append-nil _;
+      stands = stands_after o r _ t.0.own_more;
+      unanswered = subst (waits (seen_by r)) t.1 wait;
+    }
 
 -- ---- a hold of a call that is under way, by what was done in it
 

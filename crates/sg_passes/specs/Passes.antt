@@ -11,7 +11,7 @@ use Rattle.sg_turn.specs.Seats.{SeatView, TurnView, NumberedFrom, knowledge_of}
 use Rattle.sg_turn.specs.declared.log.LogMark.{LogMark}
 use Rattle.sg_passes.specs.declared.shared.InvokeFault.{InvokeFault}
 use Rattle.sg_passes.specs.declared.shared.InvokeFault.TheVariants.{NoMemory, AllBlocked}
-use Rattle.sg_passes.specs.Told.{GivenUp, Standing, idle, AllRest, entries_in, withdrawals_in, next_call, standing_after}
+use Rattle.sg_passes.specs.Told.{GivenUp, Standing, idle, asking, AllRest, entries_in, withdrawals_in, next_call, standing_after}
 
 -- ---- what a pass has seen
 
@@ -89,13 +89,29 @@ pub record HasBlocked (waits : List Entry → Call → Type 0) (old : SeatView) 
   pub stands : standing_of new ≡ idle
   pub unanswered : waits (seen_by new) call
 
-module _ (legal : List Entry → Type 0) (waits : List Entry → Call → Type 0) where
+-- a call has no answer after all entries that were seen: it is in no entry, and stays under way
+pub record HasStayed (waits : List Entry → Call → Type 0) (old : SeatView) (call : Call) (new : SeatView) : Type 0 where
+  pub grows : Grows old new
+  pub entries : own_entries new ≡ own_entries old
+  pub given_up : given_up_by new ≡ given_up_by old
+  pub stands : standing_of new ≡ asking call
+  pub unanswered : waits (seen_by new) call
+
+module _ (legal : List Entry → Type 0) (blocked : SeatView → Call → SeatView → Type 0) where
   -- a call came to nothing, by the fault that is told
   abbrev pub HasFailed : SeatView → Call → InvokeFault → SeatView → Type 0
   HasFailed old call NoMemory new = HasNoMemory old call new
-  HasFailed old call AllBlocked new = HasBlocked waits old call new
+  HasFailed old call AllBlocked new = blocked old call new
 
   -- what a call makes of a pass, by what it answers
-  abbrev pub HasInvoked : SeatView → Call → Result Reply InvokeFault → SeatView → Type 0
-  HasInvoked old call (Ok reply) new = HasAnswer legal old call reply new
-  HasInvoked old call (Err fault) new = HasFailed old call fault new
+  abbrev pub HasCalled : SeatView → Call → Result Reply InvokeFault → SeatView → Type 0
+  HasCalled old call (Ok reply) new = HasAnswer legal old call reply new
+  HasCalled old call (Err fault) new = HasFailed old call fault new
+
+-- where nobody can go on the call is withdrawn
+abbrev pub HasInvoked : (List Entry → Type 0) → (List Entry → Call → Type 0) → SeatView → Call → Result Reply InvokeFault → SeatView → Type 0
+HasInvoked legal waits = HasCalled legal (HasBlocked waits)
+
+-- where nobody can go on the call stays under way
+abbrev pub HasPlayed : (List Entry → Type 0) → (List Entry → Call → Type 0) → SeatView → Call → Result Reply InvokeFault → SeatView → Type 0
+HasPlayed legal waits = HasCalled legal (HasStayed waits)

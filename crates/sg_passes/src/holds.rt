@@ -1,14 +1,15 @@
 // One event while a seat holds what is shared, which is given back after it.
-ghost use Rattle.std.specs.Prelude.{◌≡◌, ◌+◌, ◌≤◌, ◌<◌, ◌^◌, true, [], ◌∷◌, ◌++◌, length, OnOk, OnErr, IfOk};
+ghost use Rattle.std.specs.Prelude.{◌≡◌, ◌+◌, ◌≤◌, ◌<◌, ◌^◌, true, [], ◌∷◌, ◌++◌, length, OnOk, OnErr};
 ghost use Rattle.sg_turn.specs.Logs.{face_by};
 ghost use Rattle.sg_turn.specs.declared.log.LogMarkKind.TheVariants.{Offer, Withdraw};
-ghost use Rattle.sg_passes.specs.Hosts.{AddsLeave, AddsStep};
+ghost use Rattle.sg_passes.specs.Hosts.{AddsLeave};
 ghost use Rattle.sg_passes.specs.Inside.Calls.{GaveBack, GaveBackWith};
+ghost use Rattle.sg_passes.specs.Inside.Steps.{HasMadeStep};
 ghost use Rattle.sg_passes.specs.Passes.{call_by, own_entries, seen_by, standing_of};
 ghost use Rattle.sg_passes.specs.Told.{AllRest, HasNoCall, asking, mark_by};
 
 use crate::host::{Host, Stepped};
-use sg_facts::{Args, NoMemory};
+use sg_facts::{Args, NoMemory, Reply};
 use sg_turn::{Held, Seat, Turn};
 use std::alloc::Global;
 
@@ -37,7 +38,7 @@ pub fn offer<H: Host>(
     requires value { face_by H.log H.events held.value ≡ seat.old.face }
     requires free { HasNoCall (standing_of seat.old) }
     requires numbered { length (own_entries seat.old) + 1 < 2 ^ 32 }
-    requires may { H.may_offer (call_by seat.old parts.fun parts.desc parts.args) }
+    requires may { H.may_offer (own_entries seat.old) (call_by seat.old parts.fun parts.desc parts.args) }
     ensures ok { OnOk result (GaveBackWith seat.old seat.new (mark_by client (Offer (call_by seat.old parts.fun parts.desc parts.args)) ∷ [])) }
     ensures err { OnErr result (GaveBackWith seat.old seat.new []) }
 {
@@ -47,6 +48,19 @@ pub fn offer<H: Host>(
     offered
 }
 
+/// What a step in a hold came to.
+#[derive(Drop)]
+pub enum HoldStep {
+    /// The call isn't answered yet.
+    GoesOn,
+    /// Nor is it, and its client waits, in a call that has no answer, and each other waits too or has left.
+    AllBlocked,
+    /// The reply was handed over.
+    Answered(Reply),
+    /// The step wanted memory.
+    Short,
+}
+
 /// The client makes a step.
 pub fn step<H: Host>(
     alloc: Global,
@@ -54,21 +68,30 @@ pub fn step<H: Host>(
     seat: &mut Seat<H>,
     client: u8,
     mut held: Held<H>,
-) -> Result<Stepped, NoMemory>
+) -> HoldStep
     requires turn { seat.old.turn ≡ turn.now.id }
     requires holds { seat.old.holds ≡ true }
     requires client { client ≡ seat.old.number }
     requires first { 1 ≤ client }
     requires last { client ≤ H.clients }
     requires value { face_by H.log H.events held.value ≡ seat.old.face }
-    ensures stepped { IfOk result (λ stepped. AddsStep client seat.old.face.log stepped seat.new.face.log) }
+    ensures stepped { HasMadeStep H.waits client seat.old result seat.new }
     ensures same { GaveBack seat.old seat.new }
-    ensures err { OnErr result (GaveBackWith seat.old seat.new []) }
     ensures legal { H.legal (seen_by seat.new) }
 {
-    let stepped = held.value.step(alloc, client);
+    let end = match held.value.step(alloc, client) {
+        Ok(Stepped::GoesOn) => {
+            if held.value.is_all_blocked(client) {
+                HoldStep::AllBlocked
+            } else {
+                HoldStep::GoesOn
+            }
+        }
+        Ok(Stepped::Answered(reply)) => HoldStep::Answered(reply),
+        Err(NoMemory) => HoldStep::Short,
+    };
     turn.give(seat, held);
-    stepped
+    end
 }
 
 /// The client withdraws its call.

@@ -33,8 +33,8 @@ pub trait Host: Kept {
     /// A call has no answer after a history.
     ghost waits: { List Entry → Call → Type 0 };
 
-    /// A call that a client may offer.
-    ghost may_offer: { Call → Type 0 };
+    /// A call that a client may offer that has these entries so far.
+    ghost may_offer: { List Entry → Call → Type 0 };
 
     /// The phases of the clients, as numbers.
     ghost phases: { Self → List ℕ };
@@ -59,7 +59,7 @@ pub trait Host: Kept {
         requires last { client ≤ clients }
         requires free { HasNoCall (standing_in client (Self.log self.old)) }
         requires numbered { length (entries_by client (Self.log self.old)) + 1 < 2 ^ 32 }
-        requires may { may_offer (next_call client (Self.log self.old) fun desc args) }
+        requires may { may_offer (entries_by client (Self.log self.old)) (next_call client (Self.log self.old) fun desc args) }
         ensures ok { OnOk result (Self.log self.new ≡ Self.log self.old ++ mark_by client (Offer (next_call client (Self.log self.old) fun desc args)) ∷ []) }
         ensures err { OnErr result (Self.log self.new ≡ Self.log self.old) }
         ensures events { OneMore (Self.events self.old) (Self.events self.new) };

@@ -24,5 +24,16 @@ impl<H: Host> Model for Pass<H> {
     ghost invariant = { λ p. (p.seat.holds ≡ false) × (p.client ≡ p.seat.number) × (1 ≤ p.client) × (p.client ≤ H.clients) };
 }
 
+impl<H: Host> Pass<H> {
+    ghost use Rattle.std.specs.Prelude.{◌≡◌};
+
+    /// The number of its client.
+    pub fn client(&self) -> u8
+        ensures { result ≡ self.now.number }
+    {
+        self.client
+    }
+}
+
 /// Passes, in ascending numbers.
 pub type PassList<H> = Vec<Pass<H>>;

@@ -2,13 +2,13 @@
 ghost use Rattle.std.specs.Prelude.{◌≡◌, ◌+◌, ◌<◌, ◌^◌, length, map, OnOk, OnErr, IfOk};
 ghost use Rattle.sg_turn.specs.Logs.{face_by};
 ghost use Rattle.sg_turn.specs.Seats.{AllEndIn, all_seats, knowledge_of};
-ghost use Rattle.sg_passes.specs.Inside.Calls.{HasHeld, IsOffered, IsUnderWay};
-ghost use Rattle.sg_passes.specs.Passes.{AreAllPasses, HasInvoked, HasNoMemory, StaysIn, call_by, own_entries, standing_of};
+ghost use Rattle.sg_passes.specs.Inside.Calls.{EndsBlocked, HasHeld, IsOffered, IsUnderWay};
+ghost use Rattle.sg_passes.specs.Passes.{AreAllPasses, HasCalled, HasInvoked, HasNoMemory, HasPlayed, StaysIn, call_by, own_entries, standing_of};
 ghost use Rattle.sg_passes.specs.Told.{HasNoCall, left};
 
 use crate::holds;
-use crate::holds::CallParts;
-use crate::host::{Host, Stepped};
+use crate::holds::{CallParts, HoldStep};
+use crate::host::Host;
 use crate::pass::{Pass, PassList};
 use sg_facts::{Args, NoMemory, Reply};
 use sg_turn::{Dealing, Turn};
@@ -23,6 +23,15 @@ pub enum InvokeFault {
     NoMemory,
     /// It has no answer, and every client waits or has left.
     AllBlocked,
+}
+
+// What becomes of a call where nobody can go on.
+#[derive(Clone, Copy)]
+enum WhenBlocked {
+    // Its client withdraws it.
+    Withdraws,
+    // It stays under way.
+    Stays,
 }
 
 // What a hold came to.
@@ -95,15 +104,55 @@ impl<H: Host> Shared<H> {
         requires turn { pass.old.turn ≡ self.now.id }
         requires free { HasNoCall (standing_of pass.old) }
         requires numbered { length (own_entries pass.old) + 1 < 2 ^ 32 }
-        requires may { H.may_offer (call_by pass.old fun desc args) }
+        requires may { H.may_offer (own_entries pass.old) (call_by pass.old fun desc args) }
         ensures { HasInvoked H.legal H.waits pass.old (call_by pass.old fun desc args) result pass.new }
     {
-        if self.offer(rt, alloc, pass, fun, desc, args).is_err() {
+        let parts = CallParts { fun, desc, args };
+        self.call(rt, alloc, pass, parts, WhenBlocked::Withdraws)
+    }
+
+    /// Makes the next call of the pass's client, as `invoke` does, but withdraws none that is blocked: after `AllBlocked` the call is
+    /// still under way, and the pass can make no other. It may wait.
+    pub fn play_call<R: Wait>(
+        &self,
+        rt: &R,
+        alloc: Global,
+        pass: &mut Pass<H>,
+        fun: u8,
+        desc: u64,
+        args: Args,
+    ) -> Result<Reply, InvokeFault>
+        requires turn { pass.old.turn ≡ self.now.id }
+        requires free { HasNoCall (standing_of pass.old) }
+        requires numbered { length (own_entries pass.old) + 1 < 2 ^ 32 }
+        requires may { H.may_offer (own_entries pass.old) (call_by pass.old fun desc args) }
+        ensures { HasPlayed H.legal H.waits pass.old (call_by pass.old fun desc args) result pass.new }
+    {
+        let parts = CallParts { fun, desc, args };
+        self.call(rt, alloc, pass, parts, WhenBlocked::Stays)
+    }
+
+    // Makes a call, of which this becomes where nobody can go on.
+    fn call<R: Wait>(
+        &self,
+        rt: &R,
+        alloc: Global,
+        pass: &mut Pass<H>,
+        parts: CallParts,
+        blocked: WhenBlocked,
+    ) -> Result<Reply, InvokeFault>
+        requires turn { pass.old.turn ≡ self.now.id }
+        requires free { HasNoCall (standing_of pass.old) }
+        requires numbered { length (own_entries pass.old) + 1 < 2 ^ 32 }
+        requires may { H.may_offer (own_entries pass.old) (call_by pass.old parts.fun parts.desc parts.args) }
+        ensures { HasCalled H.legal (EndsBlocked H.waits blocked) pass.old (call_by pass.old parts.fun parts.desc parts.args) result pass.new }
+    {
+        if self.offer(rt, alloc, pass, parts).is_err() {
             return Err(InvokeFault::NoMemory);
         }
         let mut short = false;
         for _ in rt.forever() {
-            match self.go_on(rt, alloc, pass, short) {
+            match self.go_on(rt, alloc, pass, short, blocked) {
                 HoldEnd::UnderWay => {}
                 HoldEnd::Short => short = true,
                 HoldEnd::Ended(end) => return end,
@@ -118,40 +167,51 @@ impl<H: Host> Shared<H> {
         rt: &R,
         alloc: Global,
         pass: &mut Pass<H>,
-        fun: u8,
-        desc: u64,
-        args: Args,
+        parts: CallParts,
     ) -> Result<(), NoMemory>
         requires turn { pass.old.turn ≡ self.now.id }
         requires free { HasNoCall (standing_of pass.old) }
         requires numbered { length (own_entries pass.old) + 1 < 2 ^ 32 }
-        requires may { H.may_offer (call_by pass.old fun desc args) }
-        ensures ok { OnOk result (IsOffered pass.old (call_by pass.old fun desc args) pass.new) }
-        ensures err { OnErr result (HasNoMemory pass.old (call_by pass.old fun desc args) pass.new) }
+        requires may { H.may_offer (own_entries pass.old) (call_by pass.old parts.fun parts.desc parts.args) }
+        ensures ok { OnOk result (IsOffered pass.old (call_by pass.old parts.fun parts.desc parts.args) pass.new) }
+        ensures err { OnErr result (HasNoMemory pass.old (call_by pass.old parts.fun parts.desc parts.args) pass.new) }
     {
         let held = self.turn.take(rt, &mut pass.seat);
-        let parts = CallParts { fun, desc, args };
         holds::offer(alloc, &self.turn, &mut pass.seat, pass.client, held, parts)
     }
 
-    // Makes one event of a call that is under way: withdraws it where a step of it wanted memory, or nobody can go on; else a step.
-    fn go_on<R: Wait>(&self, rt: &R, alloc: Global, pass: &mut Pass<H>, short: bool) -> HoldEnd
+    // Makes one event of a call that is under way: withdraws it where a step of it wanted memory, or where nobody can go on and it is
+    // to be withdrawn then; else a step.
+    fn go_on<R: Wait>(
+        &self,
+        rt: &R,
+        alloc: Global,
+        pass: &mut Pass<H>,
+        short: bool,
+        blocked: WhenBlocked,
+    ) -> HoldEnd
         requires turn { pass.old.turn ≡ self.now.id }
-        ensures { (old : _) (call : _) → IsUnderWay old call pass.old → HasHeld H.legal H.waits old call result pass.new }
+        ensures { (old : _) (call : _) → IsUnderWay old call pass.old → HasHeld H.legal (EndsBlocked H.waits blocked) old call result pass.new }
     {
         let held = self.turn.take(rt, &mut pass.seat);
         if short && holds::may_withdraw(&pass.seat, pass.client, &held) {
             holds::withdraw(&self.turn, &mut pass.seat, pass.client, held);
             return HoldEnd::Ended(Err(InvokeFault::NoMemory));
         }
-        if holds::is_all_blocked(&pass.seat, pass.client, &held) {
+        if matches!(blocked, WhenBlocked::Withdraws)
+            && holds::is_all_blocked(&pass.seat, pass.client, &held)
+        {
             holds::withdraw(&self.turn, &mut pass.seat, pass.client, held);
             return HoldEnd::Ended(Err(InvokeFault::AllBlocked));
         }
         match holds::step(alloc, &self.turn, &mut pass.seat, pass.client, held) {
-            Ok(Stepped::GoesOn) => HoldEnd::UnderWay,
-            Ok(Stepped::Answered(reply)) => HoldEnd::Ended(Ok(reply)),
-            Err(NoMemory) => HoldEnd::Short,
+            HoldStep::GoesOn => HoldEnd::UnderWay,
+            HoldStep::AllBlocked => match blocked {
+                WhenBlocked::Withdraws => HoldEnd::UnderWay,
+                WhenBlocked::Stays => HoldEnd::Ended(Err(InvokeFault::AllBlocked)),
+            },
+            HoldStep::Answered(reply) => HoldEnd::Ended(Ok(reply)),
+            HoldStep::Short => HoldEnd::Short,
         }
     }
 

@@ -33,7 +33,7 @@ use Rattle.sg_play.specs.Turning.{StepsInTurn, behind_step, with_call, with_leav
 use Rattle.sg_world.proofs.sg_world_laws.Ending.Calls.{test_same}
 use Rattle.sg_world.specs.declared.did.Did.{Did}
 use Rattle.sg_world.specs.declared.did.Did.TheVariants.{Answered, Blocked as Waits, Booted, Loaded, Lost, Replayed, Served, Skipped, Struck}
-use Rattle.sg_world.specs.Steps.{AsksService, Commits, Steps}
+use Rattle.sg_world.specs.Steps.{AsksService, Commits, HasStepped, Steps}
 use Rattle.sg_world.specs.sg_world_laws.Setting.{Setting}
 
 -- ---- an item more
@@ -159,6 +159,13 @@ module _ (z : Setting) (script : Script) (w : WorldView) (given : List (List ℕ
   step_notes Waits later l = one l.asks.item (asked l.asks) later (ap (λ x. items_of x.run.boots) l.now)
   step_notes Served later (inl l) = one l.commits.asks.item (asked l.commits.asks) later (ap (λ x. items_of x.run.boots) l.now ∙ commits l.between l.commits)
   step_notes Served later (inr l) = one l.asks.item (asked l.asks) later (ap (λ x. items_of x.run.boots) l.now)
+
+  -- a client makes a step, client 1 while the setup isn't done
+  pub setting_up_step : (did : Did) (now : WorldView) → (is_setting_up script w.seats ≡ true → c ≡ 1) → (is_setting_up script w.seats ≡ false → is_setting_up script now.seats ≡ false)
+      → IsSettingUpFirst script w → HasStepped z w c did now → IsSettingUpFirst script now
+  setting_up_step did now its settled is stepped =
+      setting_up_noted script w now settled is c its
+      (subst (λ (r : Run). NotesOne script w c (record now { run = r })) (sym (ap (λ (x : WorldView). x.run) stepped.counted)) (step_notes did stepped.later stepped.steps))
 
   -- who leaves notes nothing
   leaving : (later : WorldView) → (with_leaving script later c).run ≡ later.run

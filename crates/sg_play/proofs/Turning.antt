@@ -25,7 +25,7 @@ use Rattle.sg_play.proofs.Stepping.{IsHandedTo, handed_step, quiet_step}
 
 -- ---- the last of some entries
 
-some_last : (es : List Entry) (e : Entry) → last_of es ≡ Some e → 1 ≤ length es
+pub some_last : (es : List Entry) (e : Entry) → last_of es ≡ Some e → 1 ≤ length es
 some_last [] e is = absurd (cc is)
 some_last (x ∷ es) e is = omega arith
 

@@ -1,4 +1,6 @@
 pub mod Following
+pub mod GoingOn
+pub mod NextCall
 pub mod Recovering
 pub mod SettingUp
 pub mod Turning

@@ -1,16 +1,54 @@
 // What a call of a script comes to, by the descriptors that its client's earlier calls were given.
-ghost use Rattle.std.specs.Prelude.{◌≡◌, ◌∷◌, [], List, IfOk};
+ghost use Rattle.std.specs.Prelude.{◌≡◌, ◌+◌, ◌∷◌, [], List, None, IfOk, IfSome, length, slice_get};
 ghost use Rattle.sg_facts.specs.Kinds.{AreWords};
 ghost use Rattle.sg_facts.specs.declared.entry.Entry.{Entry as IsEntry};
+ghost use Rattle.sg_plain.specs.Calls.{script_calls};
 ghost use Rattle.sg_plain.specs.Playing.Given.{GaveIds};
+ghost use Rattle.sg_plain.specs.Playing.Playable.{IsPlayable};
+ghost use Rattle.sg_play.specs.NextCall.{IsNextCall};
 ghost use Rattle.sg_plain.specs.Script.{arg_value, desc_among, id_of_call, value_of, values_of};
 
-use sg_facts::{Args, Kind, NoMemory, TryCopy, Value};
-use sg_plain::Arg;
+use crate::parts::script_call;
+use sg_facts::{Args, Interface, Kind, NoMemory, TryCopy, Value};
+use sg_plain::{Arg, Script};
 use std::alloc::Global;
 
-/// The descriptor or parent among arguments, 0 where no parameter is one.
-pub(crate) fn desc_among(given: &[u64], kinds: &[Kind], args: &[Arg]) -> u64
+/// What a client says of its next call.
+#[derive(Drop)]
+pub struct NextCall {
+    pub fun: u8,
+    pub desc: u64,
+    pub args: Args,
+}
+
+/// The next call of a client, whose calls so far were given these descriptors; None where it has no more.
+pub fn next_call(
+    alloc: Global,
+    interface: &Interface,
+    script: &Script,
+    given: &[u64],
+    client: u8,
+) -> Result<Option<NextCall>, NoMemory>
+    requires { IsPlayable interface.now script.now }
+    ensures some { (own : List IsEntry) → GaveIds own given.now → IfOk result (λ next. IfSome next (λ call.
+        IsNextCall interface.now script.now own (record { client = client; seq = length own + 1; fun = call.fun; desc = call.desc; args = call.args }))) }
+    ensures none { IfOk result (λ next. next ≡ None → slice_get (script_calls script.now client) (length given.now) ≡ None) }
+{
+    let Some(call) = script_call(script, client, given.len()) else {
+        return Ok(None);
+    };
+    let kinds = interface.fun(call.fun).kinds;
+    let desc = desc_among(given, kinds, call.args.as_slice());
+    let args = values_of(alloc, given, kinds, call.args.as_slice())?;
+    Ok(Some(NextCall {
+        fun: call.fun,
+        desc,
+        args,
+    }))
+}
+
+// The descriptor or parent among arguments, 0 where no parameter is one.
+fn desc_among(given: &[u64], kinds: &[Kind], args: &[Arg]) -> u64
     ensures { (own : List IsEntry) → GaveIds own given.now → result ≡ desc_among own kinds.now args.now }
 {
     for (kind, arg) in kinds.iter().zip(args) {
@@ -22,8 +60,8 @@ pub(crate) fn desc_among(given: &[u64], kinds: &[Kind], args: &[Arg]) -> u64
     0
 }
 
-/// The other arguments, in their order.
-pub(crate) fn values_of(
+// The other arguments, in their order.
+fn values_of(
     alloc: Global,
     given: &[u64],
     kinds: &[Kind],

@@ -1,7 +1,7 @@
 //! What a client of a script does in its turn on a world: it offers its next call, makes a step, and leaves after its last call.
 //!
-//! - `turn`: the offer and the step (`offer_next`, `make_step`)
-//! - `calls`: what a script's call comes to, by the descriptors that its client's earlier calls were given
+//! - `turn`: the offer and the step (`offer_next`, `make_step`), and the descriptor of a reply (`desc_of`)
+//! - `calls`: what a client's next call comes to, by the descriptors that its earlier calls were given (`next_call`)
 //! - `parts`: the calls of a client, found by halving (`script_call`, `most_client`)
 //!
 //! `sg_plain` says which calls a client makes, and what a play keeps while it goes on. Of plays over a world the room `Following` shows
@@ -12,9 +12,10 @@ mod calls;
 mod parts;
 mod turn;
 
+pub use calls::{NextCall, next_call};
 pub use parts::{most_client, script_call};
 pub use sg_plain::{
     Arg, ArgList, CallList, ClientList, End, EndList, Ended, Phase, Script, ScriptCall,
 };
 pub use sg_world::World;
-pub use turn::{make_step, offer_next};
+pub use turn::{desc_of, make_step, offer_next};

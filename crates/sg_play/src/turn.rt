@@ -13,7 +13,7 @@ ghost use Rattle.sg_world.specs.Worlded.{setting_of};
 ghost use Rattle.sg_plain.specs.sg_seat.declared.phase.Phase.TheVariants.{Idle};
 ghost use Rattle.sg_plain.specs.Playing.Turns.{is_free_phase};
 
-use crate::calls::{desc_among, values_of};
+use crate::calls::{NextCall, next_call};
 use crate::parts::script_call;
 use sg_facts::{NoMemory, Reply, Service, Stops};
 use sg_plain::{Phase, Script};
@@ -43,15 +43,12 @@ pub fn offer_next<S: Service, T: Stops>(
     if !is_free(world.phase(client)) {
         return Ok(());
     }
-    let done = world.seq(client) as usize;
-    let Some(call) = script_call(script, client, done) else {
+    let next = next_call(alloc, world.interface(), script, given, client)?;
+    let Some(call) = next else {
         return Ok(());
     };
-    let kinds = world.interface().fun(call.fun).kinds;
-    let args = call.args.as_slice();
-    let desc = desc_among(given, kinds, args);
-    let values = values_of(alloc, given, kinds, args)?;
-    world.offer(alloc, client, call.fun, desc, values)
+    let NextCall { fun, desc, args } = call;
+    world.offer(alloc, client, fun, desc, args)
 }
 
 /// A client makes a step, and leaves where its last call is answered. Gives the descriptor of the reply that was handed over, 0 for none;
@@ -114,8 +111,8 @@ fn is_free(phase: Phase) -> bool
     matches!(phase, Phase::Idle | Phase::Left)
 }
 
-// The descriptor of a reply, 0 for none.
-fn desc_of(reply: &Reply) -> u64
+/// The descriptor of a reply, 0 for none.
+pub fn desc_of(reply: &Reply) -> u64
     ensures { result ≡ desc_of reply.now }
 {
     match reply {

@@ -1,2 +1,4 @@
+mod Keeping
+mod Passing
 mod Reaching
 mod Running

@@ -1,4 +1,5 @@
 -- What the contracts of private functions, and proofs, cite.
-pub mod Next
+pub mod Keeping
 pub mod Played
+pub mod Seats
 pub mod Unpicked

@@ -1,25 +1,32 @@
 // Plays a script on threads.
-ghost use Rattle.std.specs.Prelude.{◌≡◌, [], true, IfOk};
+ghost use Rattle.std.specs.Prelude.{◌≡◌, [], true, false, IfOk};
 ghost use Rattle.sg_edge.specs.Stops.{AscendsAbove, struck_of, up_to};
+ghost use Rattle.sg_sim.specs.sg_plain.Calls.{most_client};
 ghost use Rattle.sg_sim.specs.sg_plain.Playing.Playable.{IsPlayable};
 ghost use Rattle.sg_sim.specs.Played.{IsPlayed};
+ghost use Rattle.sg_shared.specs.Inside.Seats.{AllFree};
 ghost use Rattle.sg_shared.specs.Reached.{IsReachedEnd};
+ghost use Rattle.sg_sim.specs.Playing.{ComesTo, new_of};
+ghost use Rattle.sg_sim.specs.sg_plain.Playing.Callers.{is_setting_up};
 ghost use Rattle.sg_sim.specs.sg_play.Waking.Waking.{no_query_waits};
 ghost use Rattle.sg_sim.specs.sg_world.Worlded.{setting_of};
 
-use crate::shared::{Naming, Shared};
-use crate::threads::play_clients;
+use crate::naming::Naming;
+use crate::threads::{NOBODY, Stage, play_clients};
+use crate::world::share_world;
 use sg_edge::{AtPoints, Gate};
 use sg_facts::{NoMemory, Service, Tables, TryCopy};
-use sg_sim::{Play, Played, Script};
+use sg_sim::{Play, Played, Script, discard, most_client};
 use std::alloc::Global;
 use std::marker::Brand;
-use std::sync::{Mutex, Wait};
+use std::sync::Wait;
+use std::sync::atomic::AtomicU8;
 use std::thread::Threads;
 
 /// Plays a script to its end on a service, by its tables: until no client can take a turn. Client 1 makes the calls of the setup here; then
-/// each client with calls left makes them in a thread of its own, or here where it gets none, and passes the gate before it offers a call
-/// and after the call was answered. The service stops at the points of the script. `NoMemory` where some turn wanted memory.
+/// each client with calls left makes them through its pass, in a thread of its own, and passes the gate before it offers a call and after
+/// the call was answered. What is left then is played here. The service stops at the points of the script. `NoMemory` where memory was
+/// wanting.
 pub fn run<R: Threads + Wait + Sync, S: Service + Send, G: Gate>(
     rt: &R,
     alloc: Global,
@@ -49,6 +56,8 @@ fn run_named<R: Threads + Wait + Sync, S: Service + Send, G: Gate, N: Naming + S
 ) -> Result<Played, NoMemory>
     requires tables { tables ≡ N.tables }
     requires script { script ≡ N.script }
+    requires clients { N.clients ≡ most_client N.script.clients }
+    requires stops { N.plan ≡ N.script.stops }
     requires service { tables.iface.facts ≡ S.facts }
     requires playable { IsPlayable tables.iface script }
     requires waits { no_query_waits tables.iface.facts ≡ true }
@@ -58,9 +67,46 @@ fn run_named<R: Threads + Wait + Sync, S: Service + Send, G: Gate, N: Naming + S
     ensures played { IfOk result (IsPlayed (record { interface = N.tables.iface; ask = S.ask; parts = S.parts; walks = N.tables.walks }) (λ asked struck plan. struck ≡ up_to asked plan) N.script N.script.stops) }
     ensures world { IfOk result (IsReachedEnd (setting_of S.ask S.sound S.parts N.tables) N.script) }
 {
-    let mut play = Play::<S, AtPoints>::new(alloc, tables, script, stops)?;
-    let short = play.setup(alloc).is_err();
-    let shared = Mutex::new(Shared::<S, N>::new(play, short));
-    play_clients(rt, alloc, &shared, gate);
-    shared.into_inner().finish(alloc)
+    let interface = tables.interface().copy(alloc)?;
+    let play = set_up(alloc, Play::<S, AtPoints>::new(alloc, tables, script, stops)?)?;
+    let (world, script) = play.parts();
+    let Ok(setup) = world.history().copied(alloc) else {
+        discard(world);
+        return Err(NoMemory);
+    };
+    let clients = most_client(script.clients.as_slice());
+    let (shared, passes) = share_world::<S, N>(alloc, world, clients)?;
+    let stage = Stage {
+        shared: &shared,
+        script: &script,
+        interface: &interface,
+        setup: setup.as_slice(),
+        gate,
+        unstarted: AtomicU8::new(NOBODY),
+    };
+    let passes = play_clients(rt, alloc, stage, passes);
+    let world = shared.close(passes).into_world();
+    Play::over(alloc, world, script)?.finish(alloc)
+}
+
+// A play in which nothing was done plays its setup. No client has a call under way then.
+fn set_up<S: Service>(
+    alloc: Global,
+    mut play: Play<S, AtPoints>,
+) -> Result<Play<S, AtPoints>, NoMemory>
+    requires { play.view ≡ new_of play.script }
+    ensures tables { IfOk result (λ p. p.tables ≡ play.tables) }
+    ensures script { IfOk result (λ p. p.script ≡ play.script) }
+    ensures plan { IfOk result (λ p. p.plan ≡ play.plan) }
+    ensures done { IfOk result (λ p. is_setting_up play.script p.view.seats ≡ false) }
+    ensures free { IfOk result (λ p. AllFree p.view) }
+    ensures turns { IfOk result (λ p. ComesTo (setting_of S.ask S.sound S.parts play.tables) play.script (new_of play.script) p.view) }
+{
+    match play.setup(alloc) {
+        Ok(()) => Ok(play),
+        Err(NoMemory) => {
+            play.abandon();
+            Err(NoMemory)
+        }
+    }
 }

@@ -34,7 +34,7 @@ seat_at zero k = refl
 seat_at (suc n) zero = refl
 seat_at (suc n) (suc k) = seat_at n k
 
-new_seat : (n client : ℕ) → seat_in (replicate n no_seat) client ≡ no_seat
+pub new_seat : (n client : ℕ) → seat_in (replicate n no_seat) client ≡ no_seat
 new_seat n client = seat_at n (client - 1)
 
 abbrev nothing : List ℕ

@@ -5,13 +5,17 @@ use Rattle.std.specs.Prelude.{nat_lt}
 use Rattle.sg_facts.specs.sg_base.declared.call.Call.{Call}
 use Rattle.sg_facts.specs.Facts.{Facts}
 use Rattle.sg_play.proofs.Following.Following.{following_happened, following_new, following_offer, following_taken, following_wanted}
+use Rattle.sg_play.proofs.Withdrawn.{withdrawn_stepped, withdrawn_wanted}
 use Rattle.sg_play.specs.Following.Follows.{IsFollowing}
 use Rattle.sg_play.specs.Following.Stages.{IsNextTurn, stage_of}
+use Rattle.sg_play.proofs.GoingOn.{goes_of, playing_of}
 use Rattle.sg_play.proofs.SettingUp.{offer_notes_none, setting_up_new, setting_up_still, setting_up_turn, was_on}
+use Rattle.sg_play.specs.GoingOn.{MayGoOn}
 use Rattle.sg_play.specs.SettingUp.{IsSettingUpFirst}
 use Rattle.sg_play.specs.sg_hist.Clients.{calls_of}
 use Rattle.sg_play.specs.sg_hist.Reading.{items_of}
 use Rattle.sg_play.specs.sg_plain.Playing.Callers.{is_setting_up}
+use Rattle.sg_play.specs.sg_plain.Playing.Given.{HaveGiven}
 use Rattle.sg_play.specs.sg_plain.Calls.{call_after, most_client, script_calls}
 use Rattle.sg_play.specs.Turning.{StepsInTurn, behind_step, with_call, with_offer, with_leaving}
 use Rattle.sg_play.specs.sg_plain.Playing.Playable.{IsPlayable}
@@ -29,7 +33,7 @@ use Rattle.sg_play.proofs.Waking.Waking.{waking_happened, waking_new, waking_off
 use Rattle.sg_play.specs.Waking.Waking.{IsWaking, no_query_waits}
 use Rattle.sg_play.specs.sg_world.declared.did.Did.{Did}
 use Rattle.sg_play.specs.sg_world.declared.did.Did.TheVariants.{Answered, Blocked as Waits, Booted, Loaded, Lost, Replayed, Served, Skipped, Struck}
-use Rattle.sg_play.specs.sg_world.Steps.{Commits, Steps, WantsMemory}
+use Rattle.sg_play.specs.sg_world.Steps.{WantsMemory}
 use Rattle.sg_play.specs.sg_world_laws.Setting.{Setting}
 
 -- ---- nothing is withdrawn
@@ -47,27 +51,6 @@ none_offered facts script w client = by (is_free_phase (seat_of w client).phase)
     by : (b : Bool) → (cond b (with_call w client next) w).withdrawn ≡ w.withdrawn
     by true = called w client next
     by false = refl
-
-module _ (z : Setting) (w : WorldView) (c : ℕ) where
-  commits : (between : WorldView) → Commits z w c between → between.withdrawn ≡ w.withdrawn
-  commits between l = ap (λ x. x.withdrawn) l.now
-
-  stepped : (did : Did) (later : WorldView) → Steps z w c did later → later.withdrawn ≡ w.withdrawn
-  stepped Skipped later l = ap (λ x. x.withdrawn) l.now
-  stepped (Answered reply) later (inl l) = ap (λ x. x.withdrawn) l.now
-  stepped (Answered reply) later (inr (inl l)) = ap (λ x. x.withdrawn) l.now
-  stepped (Answered reply) later (inr (inr l)) = ap (λ x. x.withdrawn) l.now
-  stepped Lost later l = ap (λ x. x.withdrawn) l.now
-  stepped Booted later l = ap (λ x. x.withdrawn) l.now
-  stepped Struck later (inl l) = ap (λ x. x.withdrawn) l.now
-  stepped Struck later (inr (inl l)) = ap (λ x. x.withdrawn) l.now
-  stepped Struck later (inr (inr (inl l))) = ap (λ x. x.withdrawn) l.now
-  stepped Struck later (inr (inr (inr l))) = ap (λ x. x.withdrawn) l.now ∙ commits l.between l.commits
-  stepped Replayed later l = ap (λ x. x.withdrawn) l.now
-  stepped Loaded later l = ap (λ x. x.withdrawn) l.now
-  stepped Waits later l = ap (λ x. x.withdrawn) l.now
-  stepped Served later (inl l) = ap (λ x. x.withdrawn) l.now ∙ commits l.between l.commits
-  stepped Served later (inr l) = ap (λ x. x.withdrawn) l.now
 
 left : (script : Script) (w : WorldView) (client : ℕ) → (with_leaving script w client).withdrawn ≡ w.withdrawn
 left script w client = by (nat_lt (seat_of w client).seq (length (script_calls script client))) (is_left_phase (seat_of w client).phase)
@@ -90,10 +73,7 @@ behind script client Served later = refl
 
 none_stepped : (z : Setting) (script : Script) (w : WorldView) (client : ℕ) (handed : Option ℕ) (now : WorldView) → StepsInTurn z script w client handed now → now.withdrawn ≡ w.withdrawn
 none_stepped z script w client handed now steps =
-    ap (λ x. x.withdrawn) steps.is ∙ behind script client steps.did steps.later ∙ ap (λ x. x.withdrawn) steps.stepped.counted ∙ stepped z w client steps.did steps.stepped.later steps.stepped.steps
-
-none_wanted : (z : Setting) (w : WorldView) (client : ℕ) (now : WorldView) → WantsMemory z w client now → now.withdrawn ≡ w.withdrawn
-none_wanted z w client now wants = ap (λ x. x.withdrawn) wants.counted
+    ap (λ x. x.withdrawn) steps.is ∙ behind script client steps.did steps.later ∙ withdrawn_stepped z w client steps.did steps.later steps.stepped
 
 -- ---- the setup
 
@@ -147,6 +127,24 @@ kept_new z script playable none_waits w new = subst (λ x. KeepsPlay z script x 
   waking = waking_new z (new_world (replicate (most_client script.clients) no_seat)) (most_client script.clients) refl;
   none_waits = none_waits;
 })
+
+-- a play goes on over a world
+pub kept_over : (z : Setting) (script : Script) (w : WorldView) (given : List (List ℕ)) → no_query_waits z.iface.facts ≡ true → w.withdrawn ≡ [] → MayGoOn z script w → HaveGiven w.history w.seats given
+    → KeepsPlay z script w given 0 0 false
+kept_over z script w given none_waits none is gave = record {
+  playing = playing_of z script w is given gave;
+  none_withdrawn = none;
+  last_there = omega arith;
+  following = λ ordered. absurd (cc ordered);
+  setting_up = is.setting_up;
+  waking = is.waking;
+  none_waits = none_waits;
+}
+
+-- and over that of a play whose setup is done
+pub kept_goes : (z : Setting) (script : Script) (w : WorldView) (given : List (List ℕ)) (passed last : ℕ) (in_order : Bool) → KeepsPlay z script w given passed last in_order → is_setting_up script w.seats ≡ false
+    → MayGoOn z script w
+kept_goes z script w given passed last in_order is settled = goes_of z script w given is.playing settled is.setting_up is.waking
 
 module _ (z : Setting) (script : Script) (w : WorldView) (given : List (List ℕ)) (passed last : ℕ) (in_order : Bool) (is : KeepsPlay z script w given passed last in_order) where
   -- a turn out of order may follow
@@ -204,4 +202,4 @@ module _ (z : Setting) (script : Script) (w : WorldView) (given : List (List ℕ
           → now.withdrawn ≡ w.withdrawn
       by (inl same) = ap (λ x. x.withdrawn) same
       by (inr (inl same)) = ap (λ x. x.withdrawn) same
-      by (inr (inr both)) = none_wanted z (behind_offer z script w given client) client now both.1 ∙ none_offered z.iface.facts script w client
+      by (inr (inr both)) = withdrawn_wanted z (behind_offer z script w given client) client now both.1 ∙ none_offered z.iface.facts script w client

@@ -1,10 +1,14 @@
 // What the calls of the clients were given.
-ghost use Rattle.std.specs.Prelude.{◌≡◌, ◌≤◌, ◌<◌, [], Some, IfOk, OnOk, length, replicate};
+ghost use Rattle.std.specs.Prelude.{◌≡◌, ◌≤◌, ◌<◌, [], Some, IfOk, OnOk, length, replicate, take};
 ghost use Rattle.sg_play.specs.sg_clients.Clients.{IsClient};
-ghost use Rattle.sg_play.specs.sg_plain.Playing.Given.{given_in, with_handed};
+ghost use Rattle.sg_play.specs.sg_hist.Clients.{calls_of};
+ghost use Rattle.sg_play.specs.sg_plain.Playing.Callers.{handed};
+ghost use Rattle.sg_play.specs.sg_plain.Playing.Given.{GaveIds, HaveGiven, given_in, with_handed};
+ghost use Rattle.sg_play.specs.sg_seat.WorldView.{seat_of};
 ghost use Rattle.sg_sim.specs.Inside.Givens.{lists_of, room_for};
 
-use sg_facts::{NoMemory, RoomyList};
+use sg_facts::{Entry, NoMemory, RoomyList, Service, Stops};
+use sg_play::{Phase, World, desc_of};
 use std::alloc::Global;
 use std::marker::Model;
 
@@ -36,6 +40,23 @@ impl Given {
         Ok(Given { lists })
     }
 
+    /// What the calls of a world's clients were given, of which there are so many: by its entries, one for each reply that was handed
+    /// over.
+    pub fn told_by<S: Service, T: Stops>(
+        alloc: Global,
+        world: &World<S, T>,
+        clients: u8,
+    ) -> Result<Given, NoMemory>
+        requires { clients ≡ length world.now.view.seats }
+        ensures { IfOk result (λ given. HaveGiven world.now.view.history world.now.view.seats (lists_of given)) }
+    {
+        let mut lists = Vec::with_capacity(alloc, usize::from(clients))?;
+        'clients: for before in 0..clients {
+            lists.push(handed_ids(alloc, world, before + 1)?)?;
+        }
+        Ok(Given { lists })
+    }
+
     /// What a client's calls were given.
     pub fn of(&self, client: u8) -> &[u64]
         requires client { IsClient (length self.now) client }
@@ -61,4 +82,35 @@ impl Given {
     {
         self.lists[usize::from(client) - 1].add(id);
     }
+}
+
+/// The descriptors that a client's entries were given, in their order, 0 for none.
+pub fn ids_of(alloc: Global, entries: &[Entry], client: u8) -> Result<RoomyList<u64>, NoMemory>
+    ensures { IfOk result (λ ids. GaveIds (calls_of entries.now client) ids.items) }
+{
+    let mut ids = RoomyList::new(alloc);
+    for entry in entries {
+        if entry.call.client == client {
+            ids.reserve(1)?;
+            ids.add(desc_of(&entry.reply));
+        }
+    }
+    Ok(ids)
+}
+
+// Those of the replies that it was handed over.
+fn handed_ids<S: Service, T: Stops>(
+    alloc: Global,
+    world: &World<S, T>,
+    client: u8,
+) -> Result<RoomyList<u64>, NoMemory>
+    requires client { IsClient (length world.now.view.seats) client }
+    ensures { IfOk result (λ ids. GaveIds (take (handed (seat_of world.now.view client)) (calls_of world.now.view.history client)) ids.items) }
+{
+    let _count = world.seq(client);
+    let mut ids = ids_of(alloc, world.history().as_slice(), client)?;
+    if matches!(world.phase(client), Phase::Receipted) {
+        let _last = ids.pop();
+    }
+    Ok(ids)
 }

@@ -15,7 +15,13 @@ mod played;
 mod plays;
 mod turn;
 
+pub use given::ids_of;
 pub use play::Play;
 pub use played::Played;
 pub use plays::play_script;
-pub use sg_play::{Arg, ArgList, CallList, ClientList, Phase, Script, ScriptCall};
+pub use sg_discard::discard;
+pub use sg_play::{
+    Arg, ArgList, CallList, ClientList, NextCall, Phase, Script, ScriptCall, desc_of, most_client,
+    next_call,
+};
+pub use turn::tell_world;

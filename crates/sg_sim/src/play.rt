@@ -10,6 +10,7 @@ ghost use Rattle.sg_facts.specs.Trace.{run_of};
 ghost use Rattle.sg_play.specs.sg_plain.Calls.{script_calls};
 ghost use Rattle.sg_play.specs.Turning.{StepsInTurn, with_offer};
 ghost use Rattle.sg_play.specs.Following.Stages.{IsNextTurn};
+ghost use Rattle.sg_play.specs.GoingOn.{MayGoOn};
 ghost use Rattle.sg_sim.specs.Inside.Next.{IsFirstBehind, NoneBehind, NoneScheduled, may_go_next, stage_now};
 ghost use Rattle.sg_play.specs.sg_seat.WorldView.{is_blocked_phase, seat_of};
 ghost use Rattle.sg_sim.specs.Played.{FollowsSchedule, IsOfWorld, IsPlayed};
@@ -100,6 +101,56 @@ impl<S: Service, T: Stops> Play<S, T> {
             last: 0,
             in_order: true,
         })
+    }
+
+    /// A play of a script that goes on over a world whose clients have made some of its calls, those of the setup among them. Its turns
+    /// are not told to be those of the play without stops. `NoMemory` also where the world has a withdrawn call; it is dropped then.
+    pub fn over(
+        alloc: Global,
+        world: World<S, T>,
+        script: Script,
+    ) -> Result<Play<S, T>, NoMemory>
+        requires waits { no_query_waits world.tables.iface.facts ≡ true }
+        requires goes { world.view.withdrawn ≡ [] → MayGoOn (setting_of S.ask S.sound S.parts world.tables) script world.view }
+        ensures tables { IfOk result (λ p. p.tables ≡ world.tables) }
+        ensures script { IfOk result (λ p. p.script ≡ script) }
+        ensures plan { IfOk result (λ p. p.plan ≡ world.plan) }
+        ensures view { IfOk result (λ p. p.view ≡ world.view) }
+        ensures in_order { IfOk result (λ p. p.in_order ≡ false) }
+    {
+        if !world.withdrawn().is_empty() {
+            discard(world);
+            return Err(NoMemory);
+        }
+        let clients = most_client(script.clients.as_slice());
+        match Given::told_by(alloc, &world, clients) {
+            Ok(given) => Ok(Play {
+                world,
+                script,
+                given,
+                passed: 0,
+                last: 0,
+                in_order: false,
+            }),
+            Err(NoMemory) => {
+                discard(world);
+                Err(NoMemory)
+            }
+        }
+    }
+
+    /// Its world and its script, given away. Where the setup is done a play can go on over them.
+    pub fn parts(self) -> (World<S, T>, Script)
+        ensures tables { result.0.tables ≡ self.tables }
+        ensures plan { result.0.plan ≡ self.plan }
+        ensures view { result.0.view ≡ self.view }
+        ensures script { result.1 ≡ self.script }
+        ensures withdrawn { self.view.withdrawn ≡ [] }
+        ensures waits { no_query_waits self.tables.iface.facts ≡ true }
+        ensures goes { is_setting_up self.script self.view.seats ≡ false → MayGoOn (setting_of S.ask S.sound S.parts self.tables) self.script self.view }
+    {
+        let Play { world, script, .. } = self;
+        (world, script)
     }
 
     /// Plays the calls of the setup, which client 1 makes, and no other. After `NoMemory` it may be called again.

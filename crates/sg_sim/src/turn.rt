@@ -32,17 +32,17 @@ pub fn take_turn<S: Service, T: Stops>(
 {
     given.reserve(client)?;
     offer_next(alloc, world, script, given.of(client), client)?;
-    tell(world);
+    tell_world(world);
     let handed = make_step(alloc, world, script, client)?;
     if let Some(id) = handed {
         given.add(client, id);
     }
-    tell(world);
+    tell_world(world);
     Ok(handed)
 }
 
-// What a world keeps, for the proof: nothing is done, and it takes what these calls promise.
-fn tell<S: Service, T: Stops>(world: &World<S, T>)
+/// What a world keeps, for the proof: nothing is done, and it takes what these calls promise.
+pub fn tell_world<S: Service, T: Stops>(world: &World<S, T>)
     ensures { RecoversSoFar (setting_of S.ask S.sound S.parts world.now.tables) world.now.view }
 {
     let _ = world.interface();

@@ -8,7 +8,9 @@ use Rattle.sg_turn.specs.declared.log.LogMark.{LogMark}
 use Rattle.sg_turn.specs.declared.log.LogMarkKind.TheVariants.{Offer, Entry}
 use Rattle.sg_passes.specs.declared.shared.HoldEnd.{HoldEnd}
 use Rattle.sg_passes.specs.declared.shared.HoldEnd.TheVariants.{UnderWay, Short, Ended}
-use Rattle.sg_passes.specs.Passes.{Grows, HasInvoked, own_marks}
+use Rattle.sg_passes.specs.declared.shared.WhenBlocked.{WhenBlocked}
+use Rattle.sg_passes.specs.declared.shared.WhenBlocked.TheVariants.{Withdraws, Stays}
+use Rattle.sg_passes.specs.Passes.{Grows, HasBlocked, HasCalled, HasStayed, own_marks}
 use Rattle.sg_passes.specs.Told.{mark_by}
 
 -- a seat has given the value back, and counted the hold
@@ -39,8 +41,13 @@ IsEntered old call new = (reply : Reply) × HasOwnMore old new (mark_by old.numb
 abbrev pub IsUnderWay : SeatView → Call → SeatView → Type 0
 IsUnderWay old call new = IsOffered old call new ⊎ IsEntered old call new
 
+-- what becomes of a call where nobody can go on
+abbrev pub EndsBlocked : (List HistoryEntry → Call → Type 0) → WhenBlocked → SeatView → Call → SeatView → Type 0
+EndsBlocked waits Withdraws = HasBlocked waits
+EndsBlocked waits Stays = HasStayed waits
+
 -- what the holds so far have made of the pass, by what the last came to
-abbrev pub HasHeld : (List HistoryEntry → Type 0) → (List HistoryEntry → Call → Type 0) → SeatView → Call → HoldEnd → SeatView → Type 0
-HasHeld legal waits old call UnderWay new = IsUnderWay old call new
-HasHeld legal waits old call Short new = IsUnderWay old call new
-HasHeld legal waits old call (Ended result) new = HasInvoked legal waits old call result new
+abbrev pub HasHeld : (List HistoryEntry → Type 0) → (SeatView → Call → SeatView → Type 0) → SeatView → Call → HoldEnd → SeatView → Type 0
+HasHeld legal blocked old call UnderWay new = IsUnderWay old call new
+HasHeld legal blocked old call Short new = IsUnderWay old call new
+HasHeld legal blocked old call (Ended result) new = HasCalled legal blocked old call result new

@@ -58,7 +58,7 @@ returns-clause-taken g c =
     let same : handed ≡ c.match-handed.handed = elim c.match-handed.branch [ in-Some w ↦ w.in-Some.is ∙ sym w.handed-is | in_default w ↦ sym w.handed-is ] in
     subst (λ (h : Option ℕ). TakesTurn z c.args.script.now c.args.world.now.view lists c.args.client h later (lists_of c.match-handed.given)) same
     (taken z c.args.script.now c.args.world.now.view lists c.args.client x later handed (lists_of c.match-handed.given) c.in_ok-offer_next.ensures.ok offered
-    (subst (λ (t : Compiled). RecoversSoFar (setting_of g.S.Service.ask g.S.Service.sound g.S.Service.parts t) x) c.offer_next.ensures.tables c.tell.ensures)
+    (subst (λ (t : Compiled). RecoversSoFar (setting_of g.S.Service.ask g.S.Service.sound g.S.Service.parts t) x) c.offer_next.ensures.tables c.tell_world.ensures)
     (subst (λ (t : Compiled). StepsInTurn (setting_of g.S.Service.ask g.S.Service.sound g.S.Service.parts t) c.args.script.now x c.args.client handed later) c.offer_next.ensures.tables c.in_ok-handed.ensures.steps)
     (elim c.match-handed.branch [
       | in-Some w ↦ ap lists_of w.given-is ∙ w.add.ensures ∙ ap (λ l. with_handed l c.args.client (Some w.in-Some.id)) c.reserve.ensures.lists ∙ ap (with_handed lists c.args.client) (sym w.in-Some.is)
@@ -66,4 +66,4 @@ returns-clause-taken g c =
     ])
     (subst (λ (t : Compiled). IsPlaying t.iface c.args.script.now later.history later.seats (with_handed lists c.args.client handed)) c.offer_next.ensures.tables
     (c.in_ok-handed.ensures.ok lists (subst (λ (t : Compiled). IsPlaying t.iface c.args.script.now x.history x.seats lists) (sym c.offer_next.ensures.tables) offered)))
-    (subst (λ (t : Compiled). RecoversSoFar (setting_of g.S.Service.ask g.S.Service.sound g.S.Service.parts t) later) (c.make_step.ensures.tables ∙ c.offer_next.ensures.tables) c.tell-2.ensures))
+    (subst (λ (t : Compiled). RecoversSoFar (setting_of g.S.Service.ask g.S.Service.sound g.S.Service.parts t) later) (c.make_step.ensures.tables ∙ c.offer_next.ensures.tables) c.tell_world-2.ensures))

@@ -8,4 +8,4 @@ returns-clause-ok g c =
     let q = c.take-held.new.seat in
     let l = subst (λ s. HasLearnt s q) c.pass.view_is c.take-held.ensures.seat in
     let e = c.pass.invariant.1 ∙ sym c.take-held.ensures.seat.learns.number in
-    on_ok c.offer.result (offers c.args.pass.now q c.offer.new.seat c.pass.inside.client c.args.fun c.args.desc c.args.args l e) c.offer.ensures.ok
+    on_ok c.offer.result (offers c.args.pass.now q c.offer.new.seat c.pass.inside.client c.args.parts.fun c.args.parts.desc c.args.parts.args l e) c.offer.ensures.ok
