@@ -54,26 +54,26 @@ impl<'a> LentItem<'a> {
     }
 
     /// The item of a record, lent.
-    pub(crate) fn of_record(record: Lent<'a, Item>) -> LentItem<'a>
-        ensures { item_in result ≡ item_of (record_in record.entry) }
+    pub(crate) fn of_record(kept: Lent<'a, Item>) -> LentItem<'a>
+        ensures { item_in result ≡ item_of (record_in kept.entry) }
     {
-        match record {
+        match kept {
             Lent::Brief(brief) => LentItem::in_brief(brief),
             Lent::Whole(item) => LentItem::of(item),
         }
     }
 
     // The item of a record in brief, lent.
-    fn in_brief(record: LentBrief<'a>) -> LentItem<'a>
-        ensures { item_in result ≡ item_of (InBrief record.entry.brief record.entry.args.now record.entry.words.now) }
+    fn in_brief(kept: LentBrief<'a>) -> LentItem<'a>
+        ensures { item_in result ≡ item_of (InBrief kept.entry.brief kept.entry.args.now kept.entry.words.now) }
     {
-        let brief = record.brief;
+        let brief = kept.brief;
         LentItem {
             tag: LentTag::in_brief(&brief.why, brief.client, brief.seq),
-            shown: LentCall::in_brief(&brief, record.args),
+            shown: LentCall::in_brief(&brief, kept.args),
             real: brief.real,
             points: brief.points,
-            outcome: LentOutcome::in_brief(&brief.gave, record.words),
+            outcome: LentOutcome::in_brief(&brief.gave, kept.words),
         }
     }
 }

@@ -26,10 +26,10 @@ impl<'a> LentEntry<'a> {
     }
 
     /// The entry of a record, lent.
-    pub(crate) fn of_record(record: Lent<'a, Entry>) -> LentEntry<'a>
-        ensures { entry_in result ≡ entry_of (record_in record.entry) }
+    pub(crate) fn of_record(kept: Lent<'a, Entry>) -> LentEntry<'a>
+        ensures { entry_in result ≡ entry_of (record_in kept.entry) }
     {
-        match record {
+        match kept {
             Lent::Brief(lent) => LentEntry {
                 call: LentCall::in_brief(&lent.brief, lent.args),
                 reply: LentReply::in_brief(&lent.brief.gave, lent.words),
