@@ -12,4 +12,4 @@ pub use named::{NamedWorld, WorldNames, stepped_of};
 pub use sg_passes::{
     Args, Host, InvokeFault, Kept, NoMemory, Pass, PassList, Service, Shared, Stepped, Stops,
 };
-pub use sg_world::{Did, World};
+pub use sg_world::{Did, History, World};

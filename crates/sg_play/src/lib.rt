@@ -17,5 +17,5 @@ pub use parts::{most_client, script_call};
 pub use sg_plain::{
     Arg, ArgList, CallList, ClientList, End, EndList, Ended, Phase, Script, ScriptCall,
 };
-pub use sg_world::World;
+pub use sg_world::{History, World};
 pub use turn::{desc_of, make_step, offer_next};

@@ -80,7 +80,7 @@ fn run_named<R: Threads + Wait + Sync, S: Service + Send, G: Gate, N: Naming + S
         shared: &shared,
         script: &script,
         interface: &interface,
-        setup: setup.as_slice(),
+        setup: &setup,
         gate,
         unstarted: AtomicU8::new(NOBODY),
     };

@@ -9,9 +9,9 @@ ghost use Rattle.sg_sim.specs.sg_plain.Playing.Playable.{IsPlayable};
 use crate::naming::Naming;
 use crate::world::PlayedWorld;
 use sg_edge::Gate;
-use sg_facts::{Entry, Interface, Service};
+use sg_facts::{Interface, Service};
 use sg_log::{InvokeFault, Pass, PassList, Shared};
-use sg_sim::{NextCall, Script, desc_of, ids_of, next_call};
+use sg_sim::{History, NextCall, Script, desc_of, ids_of, next_call};
 use std::alloc::Global;
 use std::snapshot::Snapshot;
 use std::sync::Wait;
@@ -29,7 +29,7 @@ pub struct Stage<'a, S: Service, N: Naming, G: Gate> {
     pub script: &'a Script,
     pub interface: &'a Interface,
     /// The entries that there were before the threads.
-    pub setup: &'a [Entry],
+    pub setup: &'a History,
     pub gate: &'a G,
     /// A client whose thread isn't started; `NOBODY` before any is.
     pub unstarted: AtomicU8,
@@ -59,7 +59,7 @@ pub fn play_clients<
     requires script { stage.script.now ≡ N.script }
     requires interface { stage.interface.now ≡ N.tables.iface }
     requires playable { IsPlayable N.tables.iface N.script }
-    requires passes { Each (MayPlay stage.shared.now stage.setup.now) passes.items }
+    requires passes { Each (MayPlay stage.shared.now stage.setup.now.items) passes.items }
     ensures { AreSamePasses passes.items result.items }
 {
     play_all(rt, alloc, &stage, passes)
@@ -75,7 +75,7 @@ fn play_all<R: Threads + Wait + Sync, S: Service + Send, N: Naming + Send + Sync
     requires script { stage.now.script.now ≡ N.script }
     requires interface { stage.now.interface.now ≡ N.tables.iface }
     requires playable { IsPlayable N.tables.iface N.script }
-    requires passes { Each (MayPlay stage.now.shared.now stage.now.setup.now) passes.items }
+    requires passes { Each (MayPlay stage.now.shared.now stage.now.setup.now.items) passes.items }
     ensures { AreSamePasses passes.items result.items }
 {
     thread::scope(
@@ -85,7 +85,7 @@ fn play_all<R: Threads + Wait + Sync, S: Service + Send, N: Naming + Send + Sync
             requires script { stage.entry.now.script.now ≡ N.script }
             requires interface { stage.entry.now.interface.now ≡ N.tables.iface }
             requires playable { IsPlayable N.tables.iface N.script }
-            requires passes { Each (MayPlay stage.entry.now.shared.now stage.entry.now.setup.now) passes.items }
+            requires passes { Each (MayPlay stage.entry.now.shared.now stage.entry.now.setup.now.items) passes.items }
             ensures { AreSamePasses passes.items result.items }
         { play_rest(rt, alloc, scope, stage, passes) },
     )
@@ -102,7 +102,7 @@ fn play_rest<'s, E, R: Threads + Wait + Sync, S: Service + Send, N: Naming + Sen
     requires script { stage.now.script.now ≡ N.script }
     requires interface { stage.now.interface.now ≡ N.tables.iface }
     requires playable { IsPlayable N.tables.iface N.script }
-    requires passes { Each (MayPlay stage.now.shared.now stage.now.setup.now) passes.items }
+    requires passes { Each (MayPlay stage.now.shared.now stage.now.setup.now.items) passes.items }
     ensures same { AreSamePasses passes.items result.items }
     ensures room { vec_capacity passes ≤ vec_capacity result }
 {
@@ -138,7 +138,7 @@ fn play_client<R: Wait, S: Service, N: Naming, G: Gate>(
     requires script { stage.now.script.now ≡ N.script }
     requires interface { stage.now.interface.now ≡ N.tables.iface }
     requires playable { IsPlayable N.tables.iface N.script }
-    requires pass { MayPlay stage.now.shared.now stage.now.setup.now pass }
+    requires pass { MayPlay stage.now.shared.now stage.now.setup.now.items pass }
     ensures { IsSamePass pass result }
 {
     let starts = stage.unstarted.load(Ordering::SeqCst) != pass.client();
@@ -160,7 +160,7 @@ fn make_calls<R: Wait, S: Service, N: Naming, G: Gate>(
     requires script { stage.now.script.now ≡ N.script }
     requires interface { stage.now.interface.now ≡ N.tables.iface }
     requires playable { IsPlayable N.tables.iface N.script }
-    requires pass { MayPlay stage.now.shared.now stage.now.setup.now pass.old }
+    requires pass { MayPlay stage.now.shared.now stage.now.setup.now.items pass.old }
     ensures same { IsSamePass pass.old pass.new }
     ensures free { result ≡ true → HasNoCall (standing_of pass.new) }
 {

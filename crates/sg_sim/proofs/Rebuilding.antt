@@ -1,10 +1,14 @@
 -- What the clients of a world were given, from its entries.
-use Rattle.std.proofs.Common.{◌≡◌, ◌⊎◌, ℕ, zero, suc, ◌+◌, ◌-◌, ◌<◌, ◌≤◌, true, false, cond, List, [], ◌∷◌, ◌++◌, length, map, take, refl, sym, ◌∙◌, ap, subst, inl, inr, arith, eqb-true, length-append}
+use Rattle.std.proofs.Common.{◌≡◌, ◌≢◌, ◌⊎◌, ℕ, zero, suc, ◌+◌, ◌-◌, ◌<◌, ◌≤◌, true, false, cond, List, [], ◌∷◌, ◌++◌, length, map, take, refl, sym, ◌∙◌, ap, subst, inl, inr, append-nil, arith, eqb-true, length-append}
 use Rattle.std.specs.Prelude.{◌==◌, IfNone, IfSome, None, Some, slice_get, unwrap_or}
 use Rattle.std.specs.declared.option.Option.{Option}
 use Rattle.std.proofs.lemmas.Bool.{cases_lt}
+use Rattle.std.proofs.lemmas.List.Elements.{filter-append}
+use Rattle.sg_facts.proofs.Places.{take_next}
+use Rattle.sg_facts.proofs.Replaying.Found.{other_test, same_test}
 use Rattle.sg_facts.specs.declared.entry.Entry.{Entry}
 use Rattle.sg_facts.specs.sg_base.Room.{Roomy}
+use Rattle.sg_play.specs.sg_hist.Clients.{calls_of}
 use Rattle.sg_play.specs.sg_hist.Inside.Reads.{desc_of}
 use Rattle.sg_play.specs.sg_plain.Playing.Callers.{handed, is_receipted}
 use Rattle.sg_play.specs.sg_plain.Playing.Given.{GaveIds, given_in}
@@ -116,3 +120,32 @@ no_length (x ∷ xs) none = absurd (omega (arith, none))
 
 pub none_there : {T : Type 0} (xs : List T) → (length xs == 0) ≡ true → xs ≡ []
 none_there xs is = no_length xs (eqb-true (length xs) 0 is)
+
+-- ---- an entry more
+
+pub gave_more : (own : List Entry) (e : Entry) (ids : List ℕ) → GaveIds own ids → GaveIds (own ++ e ∷ []) (ids ++ desc_of e.reply ∷ [])
+gave_more own e ids gave = pushed own ∙ ap (λ l. l ++ desc_of e.reply ∷ []) gave
+  where
+    pushed : (es : List Entry) → map (λ (x : Entry). desc_of x.reply) (es ++ e ∷ []) ≡ map (λ (x : Entry). desc_of x.reply) es ++ desc_of e.reply ∷ []
+    pushed [] = refl
+    pushed (x ∷ es) = ap (λ l. desc_of x.reply ∷ l) (pushed es)
+
+-- by whether it is the client's
+calls_next : (xs : List Entry) (at client : ℕ) (e : Entry) → slice_get xs at ≡ Some e
+    → calls_of (take (at + 1) xs) client ≡ calls_of (take at xs) client ++ cond (e.call.client == client) (e ∷ []) []
+calls_next xs at client e found = ap (λ l. calls_of l client) (take_next xs at e found) ∙ filter-append (λ x. x.call.client == client) (take at xs) (e ∷ [])
+
+-- what it gave is added
+pub gave_next : (xs : List Entry) (ids new : List ℕ) (at client id : ℕ) (e : Entry) → slice_get xs at ≡ Some e → GaveIds (calls_of (take at xs) client) ids
+    → e.call.client ≡ client → id ≡ desc_of e.reply → new ≡ ids ++ id ∷ [] → GaveIds (calls_of (take (at + 1) xs) client) new
+gave_next xs ids new at client id e found before its gives adds =
+    let own = calls_of (take at xs) client in
+    subst (λ es. GaveIds es new) (sym (calls_next xs at client e found ∙ ap (λ b. own ++ cond b (e ∷ []) []) (same_test e.call.client client its)))
+    (gave_more own e ids before ∙ ap (λ d. ids ++ d ∷ []) (sym gives) ∙ sym adds)
+
+-- and nothing where it isn't the client's
+pub gave_same : (xs : List Entry) (ids : List ℕ) (at client : ℕ) (e : Entry) → slice_get xs at ≡ Some e → GaveIds (calls_of (take at xs) client) ids
+    → e.call.client ≢ client → GaveIds (calls_of (take (at + 1) xs) client) ids
+gave_same xs ids at client e found before other =
+    let own = calls_of (take at xs) client in
+    subst (λ es. GaveIds es ids) (sym (calls_next xs at client e found ∙ ap (λ b. own ++ cond b (e ∷ []) []) (other_test e.call.client client other) ∙ append-nil own)) before

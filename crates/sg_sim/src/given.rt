@@ -1,14 +1,16 @@
 // What the calls of the clients were given.
 ghost use Rattle.std.specs.Prelude.{◌≡◌, ◌≤◌, ◌<◌, [], Some, IfOk, OnOk, length, replicate, take};
+ghost use Rattle.sg_facts.specs.sg_records.Lent.{reply_in};
 ghost use Rattle.sg_play.specs.sg_clients.Clients.{IsClient};
 ghost use Rattle.sg_play.specs.sg_hist.Clients.{calls_of};
+ghost use Rattle.sg_play.specs.sg_hist.Inside.Reads.{desc_of};
 ghost use Rattle.sg_play.specs.sg_plain.Playing.Callers.{handed};
 ghost use Rattle.sg_play.specs.sg_plain.Playing.Given.{GaveIds, HaveGiven, given_in, with_handed};
 ghost use Rattle.sg_play.specs.sg_seat.WorldView.{seat_of};
 ghost use Rattle.sg_sim.specs.Inside.Givens.{lists_of, room_for};
 
-use sg_facts::{Entry, NoMemory, RoomyList, Service, Stops};
-use sg_play::{Phase, World, desc_of};
+use sg_facts::{LentReply, NoMemory, RoomyList, Service, Stops};
+use sg_play::{History, Phase, World};
 use std::alloc::Global;
 use std::marker::Model;
 
@@ -85,17 +87,28 @@ impl Given {
 }
 
 /// The descriptors that a client's entries were given, in their order, 0 for none.
-pub fn ids_of(alloc: Global, entries: &[Entry], client: u8) -> Result<RoomyList<u64>, NoMemory>
-    ensures { IfOk result (λ ids. GaveIds (calls_of entries.now client) ids.items) }
+pub fn ids_of(alloc: Global, history: &History, client: u8) -> Result<RoomyList<u64>, NoMemory>
+    ensures { IfOk result (λ ids. GaveIds (calls_of history.now.items client) ids.items) }
 {
     let mut ids = RoomyList::new(alloc);
-    for entry in entries {
+    for at in 0..history.len() {
+        let entry = history.at(at);
         if entry.call.client == client {
             ids.reserve(1)?;
-            ids.add(desc_of(&entry.reply));
+            ids.add(desc_in(&entry.reply));
         }
     }
     Ok(ids)
+}
+
+// The descriptor of a lent reply, 0 for none.
+fn desc_in(reply: &LentReply) -> u64
+    ensures { result ≡ desc_of (reply_in reply.now) }
+{
+    match reply {
+        LentReply::Ok(good) => good.desc,
+        LentReply::Refused(_) => 0,
+    }
 }
 
 // Those of the replies that it was handed over.
@@ -108,7 +121,7 @@ fn handed_ids<S: Service, T: Stops>(
     ensures { IfOk result (λ ids. GaveIds (take (handed (seat_of world.now.view client)) (calls_of world.now.view.history client)) ids.items) }
 {
     let _count = world.seq(client);
-    let mut ids = ids_of(alloc, world.history().as_slice(), client)?;
+    let mut ids = ids_of(alloc, world.history(), client)?;
     if matches!(world.phase(client), Phase::Receipted) {
         let _last = ids.pop();
     }

@@ -22,4 +22,5 @@ mod world;
 
 pub use did::Did;
 pub use sg_clients::{Mark, MarkKind, Phase, Withdrawn};
+pub use sg_replay::History;
 pub use world::World;

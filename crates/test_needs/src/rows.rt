@@ -1,7 +1,6 @@
 // Calls, and rows of locks.
 ghost use Rattle.std.specs.Prelude.{◌≡◌, ◌+◌, [], OnOk};
 ghost use Rattle.test_tables.specs.sg_lock.LockFacts.{lock_facts};
-ghost use Rattle.test_histories.specs.Written.{call_of};
 
 use sg_facts::{Args, Bytes, Call, Good, NoMemory, Reply, Tables, Words};
 use sg_needs::Tracker;
@@ -12,7 +11,7 @@ pub(crate) const ALLOC: u8 = 1;
 
 /// A client's first call of a function, without arguments.
 pub(crate) fn call(alloc: Global, client: u8, fun: u8, desc: u64) -> Call
-    ensures { result ≡ call_of client 1 fun desc [] }
+    ensures { result ≡ record { client = client; seq = 1; fun = fun; desc = desc; args = [] } }
 {
     Call {
         client,

@@ -2,7 +2,7 @@
 use crate::answers::try_each;
 use crate::{calls, numbers, order, parts, syntax};
 use std::test::Fail;
-use test_interfaces::{EVENT, LOCK, RAMFS};
+use test_tables::{EVENT, LOCK, RAMFS};
 
 #[test]
 fn of_scripts_for_locks(rt: HostRuntime) -> Result<(), Fail> {

@@ -3,7 +3,7 @@ use crate::answers::{Answer, answer, standard};
 use sg_script::ScriptKind::{Limit, NotAscending};
 use std::alloc::{AllocError, Global};
 use std::test::Fail;
-use test_interfaces::{LOCK, RAMFS};
+use test_tables::{LOCK, RAMFS};
 
 // A text: some bytes, others so many times, and some more.
 fn repeated(

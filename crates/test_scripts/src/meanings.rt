@@ -4,7 +4,7 @@ use sg_script::{Arg, Script, ScriptCall, read};
 use std::alloc::Global;
 use std::process::Abort;
 use std::test::Fail;
-use test_interfaces::{LOCK, RAMFS};
+use test_tables::{LOCK, RAMFS};
 
 // The script of a text for a standard interface.
 fn script_on(alloc: Global, text: &[u8], script: &[u8]) -> Result<Script, Fail> {

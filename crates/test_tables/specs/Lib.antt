@@ -1,3 +1,4 @@
+pub use Rattle.sg_event.specs as sg_event
 pub use Rattle.sg_lock.specs as sg_lock
 pub use Rattle.sg_mm.specs as sg_mm
 pub use Rattle.sg_ramfs.specs as sg_ramfs

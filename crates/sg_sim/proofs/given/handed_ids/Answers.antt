@@ -17,7 +17,7 @@ returns g c =
     let own = calls_of w.history c.args.client in
     let count : s.seq ≡ length own = sym c.seq-count.ensures.seq ∙ c.seq-count.ensures.count in
     let gave : GaveIds own c.in_ok-ids.ids.items
-    = subst (λ (es : List Entry). GaveIds (calls_of es c.args.client) c.in_ok-ids.ids.items) (c.as_slice.ensures ∙ c.history.ensures.items) c.in_ok-ids.ensures in
+    = subst (λ (es : List Entry). GaveIds (calls_of es c.args.client) c.in_ok-ids.ids.items) c.history.ensures.items c.in_ok-ids.ensures in
     let receipt : is_receipted s.phase ≡ c.match-matches.matches = elim c.match-matches.branch [
       | in-Receipted m ↦ ap is_receipted (sym c.phase.ensures.phase ∙ m.in-Receipted.is) ∙ sym m.matches-is
       | in_default m ↦ ap is_receipted (sym c.phase.ensures.phase) ∙ not_receipt c.phase.result m.in_default.not-Receipted ∙ sym m.matches-is
