@@ -61,12 +61,7 @@ fn desc_among(given: &[u64], kinds: &[Kind], args: &[Arg]) -> u64
 }
 
 // The other arguments, in their order.
-fn values_of(
-    alloc: Global,
-    given: &[u64],
-    kinds: &[Kind],
-    args: &[Arg],
-) -> Result<Args, NoMemory>
+fn values_of(alloc: Global, given: &[u64], kinds: &[Kind], args: &[Arg]) -> Result<Args, NoMemory>
     ensures values { (own : List IsEntry) → GaveIds own given.now → IfOk result (λ values. values ≡ values_of own kinds.now args.now) }
     ensures words { IfOk result AreWords }
 {

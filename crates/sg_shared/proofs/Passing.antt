@@ -106,7 +106,7 @@ all_back t zero qs some same = absurd (omega (arith, some))
 all_back t (suc n) qs some same =
     let ends = last_pass (first_seats t n) qs (new_seat t (suc n) true) same in
     let kept = front_passes t (all_seats t (suc n)) qs 1 same (all_each (λ (p : SeatView). p.turn ≡ t.id) t (suc n) (λ k l first last. refl))
-        (push_numbered 1 (first_seats t n) (new_seat t (suc n) true) (firsts_numbered t n) (let count = firsts_length t n in omega (arith, count))) in
+    (push_numbered 1 (first_seats t n) (new_seat t (suc n) true) (firsts_numbered t n) (let count = firsts_length t n in omega (arith, count))) in
     record {
       others = ends.0;
       final = ends.1;

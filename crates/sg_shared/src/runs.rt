@@ -68,7 +68,10 @@ fn run_named<R: Threads + Wait + Sync, S: Service + Send, G: Gate, N: Naming + S
     ensures world { IfOk result (IsReachedEnd (setting_of S.ask S.sound S.parts N.tables) N.script) }
 {
     let interface = tables.interface().copy(alloc)?;
-    let play = set_up(alloc, Play::<S, AtPoints>::new(alloc, tables, script, stops)?)?;
+    let play = set_up(
+        alloc,
+        Play::<S, AtPoints>::new(alloc, tables, script, stops)?,
+    )?;
     let (world, script) = play.parts();
     let Ok(setup) = world.history().copied(alloc) else {
         discard(world);

@@ -45,12 +45,7 @@ impl<S: Service, N: Naming> Promise<Pass<PlayedWorld<S, N>>> for SamePass<S, N> 
 
 /// The calls that are left are made: each client makes its own in a thread of its own, and one whose thread isn't started leaves. The
 /// passes come back when each thread ended.
-pub fn play_clients<
-    R: Threads + Wait + Sync,
-    S: Service + Send,
-    N: Naming + Send + Sync,
-    G: Gate,
->(
+pub fn play_clients<R: Threads + Wait + Sync, S: Service + Send, N: Naming + Send + Sync, G: Gate>(
     rt: &R,
     alloc: Global,
     stage: Stage<'_, S, N, G>,
@@ -169,7 +164,13 @@ fn make_calls<R: Wait, S: Service, N: Naming, G: Gate>(
         return true;
     };
     for _ in rt.forever() {
-        let next = next_call(alloc, stage.interface, stage.script, given.as_slice(), client);
+        let next = next_call(
+            alloc,
+            stage.interface,
+            stage.script,
+            given.as_slice(),
+            client,
+        );
         let Ok(Some(call)) = next else {
             return true;
         };

@@ -21,7 +21,7 @@ pub use played::Played;
 pub use plays::play_script;
 pub use sg_discard::discard;
 pub use sg_play::{
-    Arg, ArgList, CallList, ClientList, History, NextCall, Phase, Script, ScriptCall, desc_of, most_client,
-    next_call,
+    Arg, ArgList, CallList, ClientList, History, NextCall, Phase, Script, ScriptCall, desc_of,
+    most_client, next_call,
 };
 pub use turn::tell_world;

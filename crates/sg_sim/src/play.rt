@@ -105,11 +105,7 @@ impl<S: Service, T: Stops> Play<S, T> {
 
     /// A play of a script that goes on over a world whose clients have made some of its calls, those of the setup among them. Its turns
     /// are not told to be those of the play without stops. `NoMemory` also where the world has a withdrawn call; it is dropped then.
-    pub fn over(
-        alloc: Global,
-        world: World<S, T>,
-        script: Script,
-    ) -> Result<Play<S, T>, NoMemory>
+    pub fn over(alloc: Global, world: World<S, T>, script: Script) -> Result<Play<S, T>, NoMemory>
         requires waits { no_query_waits world.tables.iface.facts ≡ true }
         requires goes { world.view.withdrawn ≡ [] → MayGoOn (setting_of S.ask S.sound S.parts world.tables) script world.view }
         ensures tables { IfOk result (λ p. p.tables ≡ world.tables) }

@@ -10,4 +10,4 @@ use Rattle.sg_shared.proofs.world.PlayedWorldHost.is_all_blocked.Goals as goal
 pub returns-clause-waits : goal.returns-clause-waits
 returns-clause-waits g c = λ e.
     subst (λ (y : Worlded). (call : Call) × (standing_in c.args.client (log_of y.view) ≡ asking call) × HasNoAnswer g.N.WorldNames.tables.iface g.S.Service.ask (entries_in (log_of y.view)) call)
-        c.self.view_is (c.is_all_blocked.ensures.waits e)
+    c.self.view_is (c.is_all_blocked.ensures.waits e)

@@ -42,7 +42,7 @@ offer_call-requires-clause-numbered g c = subst (λ (y : Worlded). length (entri
 pub returns-clause-ok : goal.returns-clause-ok
 returns-clause-ok g c =
     subst (λ (y : Worlded). OnOk c.offer_call.result (log_of c.offer_call.new.self.world.view ≡ log_of y.view ++ mark_by c.args.client (Offer (next_call c.args.client (log_of y.view) c.args.fun c.args.desc c.args.args)) ∷ []))
-        c.self.view_is c.offer_call.ensures.offers
+    c.self.view_is c.offer_call.ensures.offers
 
 pub returns-clause-err : goal.returns-clause-err
 returns-clause-err g c = subst (λ (y : Worlded). OnErr c.offer_call.result (log_of c.offer_call.new.self.world.view ≡ log_of y.view)) c.self.view_is c.offer_call.ensures.same

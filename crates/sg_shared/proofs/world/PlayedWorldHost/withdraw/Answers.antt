@@ -24,4 +24,4 @@ pub returns-clause-log : goal.returns-clause-log
 returns-clause-log g c =
     subst (λ (y : Worlded). (call : Call) → standing_in c.args.client (log_of y.view) ≡ asking call
     → log_of c.withdraw_call.new.self.world.view ≡ log_of y.view ++ mark_by c.args.client (Withdraw call (phases_of y.view) (length (entries_in (log_of y.view)))) ∷ [])
-        c.self.view_is c.withdraw_call.ensures.withdraws
+    c.self.view_is c.withdraw_call.ensures.withdraws
