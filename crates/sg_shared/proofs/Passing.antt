@@ -42,15 +42,18 @@ gave_more own e given gave = pushed own ∙ ap (λ l. l ++ desc_of e.reply ∷ [
 
 -- ---- the same passes
 
-pub same_push : (ps qs : List SeatView) (p q : SeatView) → AreSamePasses ps qs → IsSamePass p q → AreSamePasses (ps ++ p ∷ []) (qs ++ q ∷ [])
+same_push : (ps qs : List SeatView) (p q : SeatView) → AreSamePasses ps qs → IsSamePass p q → AreSamePasses (ps ++ p ∷ []) (qs ++ q ∷ [])
 same_push [] [] p q same it = (it, tt)
 same_push [] (y ∷ qs) p q same it = absurd same
 same_push (x ∷ ps) [] p q same it = absurd same
 same_push (x ∷ ps) (y ∷ qs) p q same it = (same.0, same_push ps qs p q same.1 it)
 
-pub each_push : (P : SeatView → Type 0) (ps : List SeatView) (p : SeatView) → Each P (ps ++ p ∷ []) → Each P ps × P p
-each_push P [] p all = (tt, all.0)
-each_push P (x ∷ ps) p all = let rest = each_push P ps p all.1 in ((all.0, rest.0), rest.1)
+-- the last pass went out and came back
+pub same_pushed : (ps qs popped played : List SeatView) (p q sent : SeatView) → ps ≡ popped ++ p ∷ [] → qs ≡ played ++ q ∷ [] → AreSamePasses popped played → sent ≡ p
+    → IsSamePass sent q → AreSamePasses ps qs
+same_pushed ps qs popped played p q sent out back same is it =
+    subst (λ xs. AreSamePasses xs qs) (sym out)
+    (subst (AreSamePasses (popped ++ p ∷ [])) (sym back) (same_push popped played p q same (subst (λ (x : SeatView). IsSamePass x q) is it)))
 
 -- ---- all passes
 

@@ -1,5 +1,5 @@
 // The threads of the clients.
-ghost use Rattle.std.specs.Prelude.{◌≡◌, ◌≤◌, true, vec_capacity};
+ghost use Rattle.std.specs.Prelude.{◌≡◌, ◌≤◌, true, vec_capacity, vec_len};
 ghost use Rattle.sg_facts.specs.sg_base.Lists.{Each};
 ghost use Rattle.sg_log.specs.sg_passes.Passes.{standing_of};
 ghost use Rattle.sg_log.specs.sg_passes.Told.{HasNoCall};
@@ -77,10 +77,10 @@ fn play_all<R: Threads + Wait + Sync, S: Service + Send, N: Naming + Send + Sync
         thread::scope_env(),
         rt,
         |scope| -> PassList<PlayedWorld<S, N>>
-            requires script { stage.entry.now.script.now ≡ N.script }
-            requires interface { stage.entry.now.interface.now ≡ N.tables.iface }
+            requires script { stage.now.script.now ≡ N.script }
+            requires interface { stage.now.interface.now ≡ N.tables.iface }
             requires playable { IsPlayable N.tables.iface N.script }
-            requires passes { Each (MayPlay stage.entry.now.shared.now stage.entry.now.setup.now.items) passes.items }
+            requires passes { Each (MayPlay stage.now.shared.now stage.now.setup.now.items) passes.items }
             ensures { AreSamePasses passes.items result.items }
         { play_rest(rt, alloc, scope, stage, passes) },
     )
@@ -99,6 +99,7 @@ fn play_rest<'s, E, R: Threads + Wait + Sync, S: Service + Send, N: Naming + Sen
     requires playable { IsPlayable N.tables.iface N.script }
     requires passes { Each (MayPlay stage.now.shared.now stage.now.setup.now.items) passes.items }
     ensures same { AreSamePasses passes.items result.items }
+    ensures count { vec_len result ≡ vec_len passes }
     ensures room { vec_capacity passes ≤ vec_capacity result }
 {
     let Some(pass) = passes.pop() else {
@@ -106,7 +107,14 @@ fn play_rest<'s, E, R: Threads + Wait + Sync, S: Service + Send, N: Naming + Sen
     };
     let client = pass.client();
     let same = SamePass(Snapshot::of(&pass));
-    match scope.spawn_with(same, move || play_client(rt, alloc, stage, pass)) {
+    let play = move || -> Pass<PlayedWorld<S, N>>
+        requires script { stage.now.script.now ≡ N.script }
+        requires interface { stage.now.interface.now ≡ N.tables.iface }
+        requires playable { IsPlayable N.tables.iface N.script }
+        requires pass { MayPlay stage.now.shared.now stage.now.setup.now.items pass }
+        ensures { IsSamePass pass result }
+    { play_client(rt, alloc, stage, pass) };
+    match scope.spawn_with(same, play) {
         Ok(handle) => {
             let mut played = play_rest(rt, alloc, scope, stage, passes);
             played.push_reserved(handle.join(rt));
