@@ -4,7 +4,6 @@ use Rattle.std.proofs.lemmas.Bool.{cases_lt}
 use Rattle.std.specs.Result.{IfOk}
 use Rattle.std.specs.declared.result.Result.{Result}
 use Rattle.sg_facts.specs.sg_base.Lists.{Each}
-use Rattle.sg_facts.specs.declared.entry.Entry.{Entry}
 use Rattle.sg_log.specs.Log.{log_of}
 use Rattle.sg_log.specs.Names.{IsSeatOf, TellsWorld}
 use Rattle.sg_log.specs.sg_passes.Passes.{AreAllPasses, Grows}
@@ -14,10 +13,8 @@ use Rattle.sg_log.specs.sg_passes.sg_turn.Seats.{NumberedFrom, SeatView, TurnVie
 use Rattle.sg_shared.specs.Inside.Seats.{AllFree, AreSamePasses, IsSamePass, MayPlay}
 use Rattle.sg_sim.proofs.Beginning.{new_seat as new_seat_of}
 use Rattle.sg_sim.specs.Playing.{new_of}
-use Rattle.sg_sim.specs.sg_plain.sg_hist.Inside.Reads.{desc_of}
 use Rattle.sg_sim.specs.sg_plain.Calls.{most_client}
 use Rattle.sg_sim.specs.sg_plain.Playing.Callers.{is_setting_up}
-use Rattle.sg_sim.specs.sg_plain.Playing.Given.{GaveIds}
 use Rattle.sg_sim.specs.sg_plain.Playing.Turns.{is_free_phase}
 use Rattle.sg_sim.specs.sg_plain.sg_script.declared.script.Script.{Script}
 use Rattle.sg_sim.specs.sg_seat.WorldView.{Seat, WorldView, is_offered, seat_of}
@@ -32,13 +29,6 @@ same_self p = record { number = refl; turn = refl; last = refl }
 -- it has seen more since
 pub same_grown : (o p q : SeatView) → IsSamePass o p → Grows p q → IsSamePass o q
 same_grown o p q same grows = record { number = grows.number ∙ same.number; turn = grows.turn ∙ same.turn; last = grows.last ∙ same.last }
-
-pub gave_more : (own : List Entry) (e : Entry) (given : List ℕ) → GaveIds own given → GaveIds (own ++ e ∷ []) (given ++ desc_of e.reply ∷ [])
-gave_more own e given gave = pushed own ∙ ap (λ l. l ++ desc_of e.reply ∷ []) gave
-  where
-    pushed : (es : List Entry) → map (λ (x : Entry). desc_of x.reply) (es ++ e ∷ []) ≡ map (λ (x : Entry). desc_of x.reply) es ++ desc_of e.reply ∷ []
-    pushed [] = refl
-    pushed (x ∷ es) = ap (λ l. desc_of x.reply ∷ l) (pushed es)
 
 -- ---- the same passes
 

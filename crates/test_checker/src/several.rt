@@ -33,8 +33,16 @@ static REFUSED: [Refused; 17] = [
         b"",
         b"interface 2 refused at 2:15: DuplicateService\n",
     ),
-    (&[Given::Nothing], b"", b"interface 1 refused at 1:1: Syntax\n"),
-    (&[Given::Lock, Given::Mark], b"", b"interface 2 refused at 1:1: Lex\n"),
+    (
+        &[Given::Nothing],
+        b"",
+        b"interface 1 refused at 1:1: Syntax\n",
+    ),
+    (
+        &[Given::Lock, Given::Mark],
+        b"",
+        b"interface 2 refused at 1:1: Lex\n",
+    ),
     // Interface by interface, and what is wrong with one before what it shares with others.
     (
         &[Given::Lock, Given::Event, Given::Lock, Given::Mark],
@@ -48,7 +56,15 @@ static REFUSED: [Refused; 17] = [
     ),
     // There are six services.
     (
-        &[Given::Lock, Given::Event, Given::Mm, Given::Ramfs, Given::Sched, Given::Timer, Given::Event2],
+        &[
+            Given::Lock,
+            Given::Event,
+            Given::Mm,
+            Given::Ramfs,
+            Given::Sched,
+            Given::Timer,
+            Given::Event2,
+        ],
         b"",
         b"interface 7 refused at 3:15: DuplicateService\n",
     ),
@@ -100,7 +116,11 @@ static REFUSED: [Refused; 17] = [
         b"script refused at 1:14: NotAscending\n",
     ),
     // So it does where there is one service.
-    (&[Given::Lock], b"stop 1;", b"script refused at 1:6: Syntax\n"),
+    (
+        &[Given::Lock],
+        b"stop 1;",
+        b"script refused at 1:6: Syntax\n",
+    ),
 ];
 
 impl Given {
@@ -214,7 +234,8 @@ fn all_six(rt: HostRuntime) -> Result<(), Fail> {
 #[test]
 fn members(rt: HostRuntime) -> Result<(), Fail> {
     let alloc = rt.alloc();
-    let script = b"setup { lock_alloc(); evt_split(); } stop event 4 9; client 3 { evt_wait(1); lock_take(1); } stop lock 2;";
+    let script =
+        b"setup { lock_alloc(); evt_split(); } stop event 4 9; client 3 { evt_wait(1); lock_take(1); } stop lock 2;";
     let input = input_of(alloc, &[Given::Event, Given::Mm, Given::Lock], script)?;
     let MultiInput::Ready(_, script) = read(alloc, &input)? else {
         return Err("refused")?;

@@ -1,5 +1,5 @@
 -- The setup is played in a new world, and what is left over the world that comes back.
-use Rattle.std.proofs.Common.{◌≡◌, ◌≤◌, ℕ, List, [], ap, sym, ◌∙◌, subst, subst₂}
+use Rattle.std.proofs.Common.{◌≡◌, ◌≤◌, ℕ, List, ap, sym, ◌∙◌, subst, subst₂}
 use Rattle.std.specs.Result.{IfOk}
 use Rattle.sg_edge.specs.Stops.{up_to}
 use Rattle.sg_facts.specs.Tables.{Compiled}
