@@ -1,6 +1,7 @@
 -- Calls on locks may be offered where the interface declares them.
-use Rattle.std.proofs.Common.{◌≡◌, ℕ, zero, suc, true, [], refl, sym, subst, arith}
+use Rattle.std.proofs.Common.{◌≡◌, ℕ, zero, suc, true, List, [], refl, sym, subst, arith}
 use Rattle.sg_log.specs.sg_passes.sg_facts.sg_base.declared.call.Call.{Call}
+use Rattle.sg_log.specs.sg_passes.sg_facts.declared.entry.Entry.{Entry}
 use Rattle.sg_log.specs.sg_passes.sg_facts.Facts.{Facts}
 use Rattle.sg_log.specs.sg_passes.sg_facts.Interface.{Declared, declares}
 use Rattle.sg_log.specs.sg_passes.sg_facts.Kinds.{FitsKinds}
@@ -27,8 +28,8 @@ declared i (suc (suc (suc zero))) desc h is = h.releases
 declared i (suc (suc (suc (suc n)))) desc h is = let more = is.last in absurd (omega (arith, more))
 
 -- an interface that declares them takes them
-pub takes_lock_calls : (i : Declared) → DeclaresLockCalls i → TakesLockCalls (MayOffer i)
-takes_lock_calls i h = λ client seq fun desc is. record {
+pub takes_lock_calls : (i : Declared) → DeclaresLockCalls i → TakesLockCalls (λ (own : List Entry). MayOffer i)
+takes_lock_calls i h = λ own client seq fun desc is. record {
   declared = declared i fun desc h is;
   fits = subst (λ (facts : Facts). FitsKinds facts (lock_call client seq fun desc)) (sym h.facts) (fits client seq fun desc is);
   words = tt;

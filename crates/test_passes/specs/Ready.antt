@@ -1,6 +1,7 @@
 -- Passes whose client has no call under way, what calls leave of a pass, and calls on locks.
-use Rattle.std.specs.Prelude.{◌≡◌, ℕ, ◌+◌, ◌≤◌, [], length}
+use Rattle.std.specs.Prelude.{◌≡◌, ℕ, ◌+◌, ◌≤◌, List, [], length}
 use Rattle.sg_log.specs.sg_passes.sg_facts.sg_base.declared.call.Call.{Call}
+use Rattle.sg_log.specs.sg_passes.sg_facts.declared.entry.Entry.{Entry}
 use Rattle.sg_log.specs.sg_passes.sg_turn.Seats.{SeatView, TurnView}
 use Rattle.sg_log.specs.sg_passes.Passes.{own_entries, standing_of}
 use Rattle.sg_log.specs.sg_passes.Told.{HasNoCall}
@@ -43,6 +44,6 @@ pub record IsLockCall (fun desc : ℕ) : Type 0 where
   pub last : fun ≤ 3
   pub creates : fun ≡ 1 → desc ≡ 0
 
--- a client may offer such calls
-abbrev pub TakesLockCalls : (Call → Type 0) → Type 0
-TakesLockCalls may = (client seq fun desc : ℕ) → IsLockCall fun desc → may (record { client = client; seq = seq; fun = fun; desc = desc; args = [] })
+-- a client may offer such calls, whatever its entries
+abbrev pub TakesLockCalls : (List Entry → Call → Type 0) → Type 0
+TakesLockCalls may = (own : List Entry) (client seq fun desc : ℕ) → IsLockCall fun desc → may own (record { client = client; seq = seq; fun = fun; desc = desc; args = [] })
