@@ -129,7 +129,6 @@ fn make_calls<R: Abort + Threads + Wait + Sync, H: Closes + Send>(
 }
 
 // The clients of a world that is new make the calls, by its name.
-#[tactic(auto, using(crate::proofs::Locks::takes_lock_calls))]
 fn in_named<R: Abort + Threads + Wait + Sync, N: WorldNames + Send + Sync>(
     rt: &R,
     alloc: Global,
@@ -146,6 +145,15 @@ fn in_named<R: Abort + Threads + Wait + Sync, N: WorldNames + Send + Sync>(
     make_calls(rt, alloc, NamedWorld::<_, _, N>::new(world, CLIENTS), calls)
 }
 
+// Whether a world's interface declares the calls that make a lock, take it and release it.
+fn declares_lock_calls(world: &LockWorld) -> bool
+    requires { world.now.tables.iface.facts ≡ lock_facts }
+    ensures { result ≡ true → DeclaresLockCalls world.now.tables.iface }
+{
+    let iface = world.interface();
+    iface.declares(1) && iface.declares(2) && iface.declares(3)
+}
+
 // The same, by the name of its tables.
 fn in_world<R: Abort + Threads + Wait + Sync>(
     rt: &R,
@@ -157,8 +165,7 @@ fn in_world<R: Abort + Threads + Wait + Sync>(
     requires seats { length world.view.seats ≡ 2 }
     requires log { log_of world.view ≡ [] }
 {
-    let iface = world.interface();
-    assert!(rt; iface.declares(1) && iface.declares(2) && iface.declares(3));
+    assert!(rt; declares_lock_calls(&world));
     in_named::<_, Brand>(rt, alloc, world, calls)
 }
 
