@@ -3,7 +3,7 @@
 //!
 //! - `host`: what is shared, as its log tells it (`Host`), and what a step of a client came to (`Stepped`)
 //! - `pass`: what one client makes its calls with (`Pass`)
-//! - `holds`: one event while a seat holds what is shared
+//! - `holds`: one event while a seat holds what is shared; `pause`: how a client waits between two of them
 //! - `shared`: the sharing, and the calls (`Shared`), with why a call has no reply (`InvokeFault`)
 //!
 //! `specs/Passes.antt` says what a call makes of a pass; `specs/Told.antt` what a log tells.
@@ -12,6 +12,7 @@
 mod holds;
 mod host;
 mod pass;
+mod pause;
 mod shared;
 
 pub use host::{Host, Stepped};

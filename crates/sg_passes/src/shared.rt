@@ -10,6 +10,7 @@ use crate::holds;
 use crate::holds::{CallParts, HoldStep};
 use crate::host::Host;
 use crate::pass::{Pass, PassList};
+use crate::pause::pause;
 use sg_facts::{Args, NoMemory, Reply};
 use sg_turn::{Dealing, Turn};
 use std::alloc::Global;
@@ -151,12 +152,15 @@ impl<H: Host> Shared<H> {
             return Err(InvokeFault::NoMemory);
         }
         let mut short = false;
+        let mut events: u32 = 0;
         for _ in rt.forever() {
             match self.go_on(rt, alloc, pass, short, blocked) {
                 HoldEnd::UnderWay => {}
                 HoldEnd::Short => short = true,
                 HoldEnd::Ended(end) => return end,
             }
+            events = events.saturating_add(1);
+            pause(rt, events);
         }
         unreachable!()
     }
