@@ -36,7 +36,7 @@ static REFUSED: [Refused; 17] = [
     (
         &[Given::Nothing],
         b"",
-        b"interface 1 refused at 1:1: Syntax\n",
+        b"interface 1 refused at 2:1: Syntax\n",
     ),
     (
         &[Given::Lock, Given::Mark],
