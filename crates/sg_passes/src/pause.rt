@@ -8,6 +8,7 @@ const AT_ONCE: u32 = 8;
 
 // The first wait, in microseconds, and how often it is doubled at most: up to 10 milliseconds.
 const SHORTEST: u64 = 10;
+
 const DOUBLINGS: u32 = 10;
 
 // The word that nobody changes, by which a thread sleeps.
