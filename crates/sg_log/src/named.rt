@@ -247,6 +247,10 @@ impl<S: Service, T: Stops, N: WorldNames> Host for NamedWorld<S, T, N> {
         matches!(self.world.phase(client), Phase::Blocked) && self.world.all_blocked()
     }
 
+    fn is_waiting(&self, client: u8) -> bool {
+        matches!(self.world.phase(client), Phase::Blocked)
+    }
+
     fn withdraw(&mut self, client: u8) {
         self.withdraw_call(client);
     }

@@ -89,6 +89,11 @@ pub trait Host: Kept {
             → (call : _) × (standing_in client (Self.log self.now) ≡ asking call) × waits (entries_in (Self.log self.now)) call }
         ensures rest { result ≡ true → AllRest (phases self.now) };
 
+    /// Whether a client's call has to wait, as far as is known before its next step.
+    fn is_waiting(&self, client: u8) -> bool
+        requires first { 1 ≤ client }
+        requires last { client ≤ clients };
+
     /// A client withdraws its call.
     fn withdraw(&mut self, client: u8)
         requires first { 1 ≤ client }

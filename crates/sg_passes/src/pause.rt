@@ -1,26 +1,26 @@
-// How a client waits between two events of a call that goes on and on.
+// How a client waits between two events of a call that has to wait.
 use std::sync::Wait;
 use std::sync::atomic::AtomicU64;
 use std::time::Duration;
 
-// So many events of a call are made without a wait. A call that needn't wait takes fewer, unless much has to be rebuilt for it.
-const AT_ONCE: u32 = 8;
+// So often who has to wait asks again at once.
+const AT_ONCE: u32 = 2;
 
-// The first wait, in microseconds, and how often it is doubled at most: up to 10 milliseconds.
+// The first sleep, in microseconds, and how often it is doubled at most: up to 10 milliseconds.
 const SHORTEST: u64 = 10;
 
 const DOUBLINGS: u32 = 10;
 
-// The word that nobody changes, by which a thread sleeps.
+// The value of the word by which a thread sleeps, which nobody changes.
 const STILL: u32 = 0;
 
-/// Sleeps for a while, after so many events of a call, so that who waits long asks seldom: each time for about as long as it slept in
-/// all before.
-pub fn pause<R: Wait>(rt: &R, events: u32) {
-    if events < AT_ONCE {
+/// Sleeps for a while, where a call had to wait at so many events one after the other; so who waits long asks seldom: each time after
+/// about as long as it slept in all before.
+pub fn pause<R: Wait>(rt: &R, asked: u32) {
+    if asked <= AT_ONCE {
         return;
     }
-    let doublings = (events - AT_ONCE).min(DOUBLINGS);
+    let doublings = (asked - AT_ONCE).min(DOUBLINGS);
     let word = AtomicU64::new(u64::from(STILL));
     word.park_timeout(rt, STILL, Duration::from_micros(SHORTEST << doublings));
 }

@@ -152,15 +152,16 @@ impl<H: Host> Shared<H> {
             return Err(InvokeFault::NoMemory);
         }
         let mut short = false;
-        let mut events: u32 = 0;
+        let mut waits = false;
+        let mut asked: u32 = 0;
         for _ in rt.forever() {
-            match self.go_on(rt, alloc, pass, short, blocked) {
+            match self.go_on(rt, alloc, pass, short, blocked, &mut waits) {
                 HoldEnd::UnderWay => {}
                 HoldEnd::Short => short = true,
                 HoldEnd::Ended(end) => return end,
             }
-            events = events.saturating_add(1);
-            pause(rt, events);
+            asked = if waits { asked.saturating_add(1) } else { 0 };
+            pause(rt, asked);
         }
         unreachable!()
     }
@@ -185,7 +186,7 @@ impl<H: Host> Shared<H> {
     }
 
     // Makes one event of a call that is under way: withdraws it where a step of it wanted memory, or where nobody can go on and it is
-    // to be withdrawn then; else a step.
+    // to be withdrawn then; else a step. It notes whether the call had to wait before.
     fn go_on<R: Wait>(
         &self,
         rt: &R,
@@ -193,11 +194,13 @@ impl<H: Host> Shared<H> {
         pass: &mut Pass<H>,
         short: bool,
         blocked: WhenBlocked,
+        waits: &mut bool,
     ) -> HoldEnd
         requires turn { pass.old.turn ≡ self.now.id }
         ensures { (old : _) (call : _) → IsUnderWay old call pass.old → HasHeld H.legal (EndsBlocked H.waits blocked) old call result pass.new }
     {
         let held = self.turn.take(rt, &mut pass.seat);
+        *waits = held.value.is_waiting(pass.client);
         if short && holds::may_withdraw(&pass.seat, pass.client, &held) {
             holds::withdraw(&self.turn, &mut pass.seat, pass.client, held);
             return HoldEnd::Ended(Err(InvokeFault::NoMemory));

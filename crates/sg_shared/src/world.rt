@@ -157,6 +157,10 @@ impl<S: Service, N: Naming> Host for PlayedWorld<S, N> {
         self.named.is_all_blocked(client)
     }
 
+    fn is_waiting(&self, client: u8) -> bool {
+        self.named.is_waiting(client)
+    }
+
     fn withdraw(&mut self, client: u8) {
         self.named.withdraw_call(client);
     }

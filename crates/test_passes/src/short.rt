@@ -98,6 +98,10 @@ impl<H: Host> Host for Short<H> {
         self.host.is_all_blocked(client)
     }
 
+    fn is_waiting(&self, client: u8) -> bool {
+        self.host.is_waiting(client)
+    }
+
     fn withdraw(&mut self, client: u8) {
         self.count();
         self.host.withdraw(client);
