@@ -1,8 +1,12 @@
+pub mod Args
 pub mod Codes
 pub mod Counts
+pub mod Few
+pub mod Inside
 pub mod Lists
 pub mod Reply
 pub mod Room
 pub mod Spare
 pub mod Stops
 pub mod Text
+pub mod Values

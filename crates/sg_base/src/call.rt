@@ -7,10 +7,10 @@ use std::alloc::Global;
 pub struct Call {
     /// The client, from 1 to 64.
     pub client: u8,
-    /// The number of the call among the client's own, from 1.
-    pub seq: u32,
     /// The function's number in its service, from 1.
     pub fun: u8,
+    /// The number of the call among the client's own, from 1.
+    pub seq: u32,
     /// The descriptor or parent that the function takes, 0 where it takes neither.
     pub desc: u64,
     /// The other arguments, in their order.

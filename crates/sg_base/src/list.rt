@@ -2,7 +2,7 @@
 ghost use Rattle.std.specs.Prelude.{◌≡◌, ◌↔◌, ◌+◌, ◌<◌, [], ◌∷◌, ◌++◌, length, IsTrue, IfOk, IfSome, IfNone, OnOk, OnErr, slice_get, slice_set};
 ghost use Rattle.std.specs.Option.{option_copied};
 
-use crate::{NoMemory, TryCopy, Value};
+use crate::{NoMemory, TryCopy};
 use std::alloc::Global;
 use std::marker::Model;
 
@@ -12,10 +12,6 @@ pub struct ListOf<E> {
     items: Vec<E>,
 }
 
-/// The arguments of a call beside its descriptor or parent.
-pub type Args = ListOf<Value>;
-/// The words of a reply.
-pub type Words = ListOf<u64>;
 /// Bytes of any kind.
 pub type Bytes = ListOf<u8>;
 /// The path of a file.

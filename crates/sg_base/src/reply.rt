@@ -109,7 +109,7 @@ impl ReplyRoom {
         match from {
             Reply::Ok(good) => Reply::Ok(Good {
                 desc: good.desc,
-                words: self.words.fill(good.words.as_slice()),
+                words: self.words.fill_words(good.words.as_slice()),
                 bytes: self.bytes.fill(good.bytes.as_slice()),
             }),
             Reply::Refused(code) => Reply::Refused(*code),

@@ -2,7 +2,7 @@
 ghost use Rattle.std.specs.Prelude.{◌≡◌, ◌↔◌, ◌+◌, ◌<◌, ◌≤◌, [], ◌∷◌, ◌++◌, length, IsTrue, IsOk, IfOk, IfSome, IfNone, OnOk, OnSome, slice_get, vec_capacity};
 ghost use Rattle.std.specs.Option.{option_copied};
 
-use crate::{ListOf, NoMemory, TryCopy};
+use crate::{ListOf, NoMemory, TryCopy, Words};
 use std::alloc::Global;
 use std::marker::Model;
 
@@ -39,6 +39,16 @@ impl<E: Copy> ListRoom<E> {
         ensures { result ≡ from.now }
     {
         ListOf::from_vec(filled(self.items, from))
+    }
+}
+
+impl ListRoom<u64> {
+    /// These words, without memory. They keep no room that they don't need.
+    pub fn fill_words(self, from: &[u64]) -> Words
+        requires { length from.now ≤ self }
+        ensures { result ≡ from.now }
+    {
+        Words::from_vec(filled(self.items, from))
     }
 }
 

@@ -1,9 +1,11 @@
 // Room that is kept from one list to the next.
 ghost use Rattle.std.specs.Prelude.{◌≡◌, ◌≤◌, [], length, vec_capacity, OnOk};
+ghost use Rattle.sg_base.specs.Few.{most_few};
 
+use crate::few::FewWords;
 use crate::reply::{MOST_BYTES, MOST_WORDS};
 use crate::room::filled;
-use crate::{Good, ListOf, NoMemory, Reply};
+use crate::{Good, ListOf, NoMemory, Reply, Words};
 use std::alloc::Global;
 use std::marker::Model;
 use std::mem;
@@ -69,6 +71,20 @@ impl<E: Copy> SpareList<E> {
     }
 }
 
+impl SpareList<u64> {
+    /// These words, without memory. A few of them take none of the room.
+    pub fn fill_words(&mut self, from: &[u64]) -> Words
+        requires { length from.now ≤ self.old }
+        ensures words { result ≡ from.now }
+        ensures kept { length from.now ≤ most_few → self.new ≡ self.old }
+    {
+        match FewWords::of(from) {
+            Some(few) => Words::of_few(*self.items.allocator(), few),
+            None => Words::from_vec(filled(self.take(), from)),
+        }
+    }
+}
+
 /// Room for one reply after another, of at most 4 words and 256 bytes each. Words or bytes, where a reply has any, use up their part of
 /// it.
 #[derive(Debug, Drop)]
@@ -113,7 +129,7 @@ impl SpareReply {
         match from {
             Reply::Ok(good) => Reply::Ok(Good {
                 desc: good.desc,
-                words: self.words.fill(good.words.as_slice()),
+                words: self.words.fill_words(good.words.as_slice()),
                 bytes: self.bytes.fill(good.bytes.as_slice()),
             }),
             Reply::Refused(code) => Reply::Refused(*code),

@@ -7,7 +7,7 @@ ghost use Rattle.sg_event.specs.Inside.EventDecision.{on_split, on_event_wait, o
 use crate::Event;
 use crate::functions::{SPLIT, TAKE, TRIGGER, WAIT};
 use crate::shape::event_shape;
-use sg_facts::{Call, Code, Shape, Value};
+use sg_facts::{Call, Code, LentValue, Shape};
 use sg_slots::{Decision, RowRules, RowService, Slots};
 
 /// The event service: it makes, triggers, takes from and ends events, and blocks who waits for one whose count is 0.
@@ -92,7 +92,7 @@ fn number(call: &Call) -> u64
     ensures { result ≡ word_of (arg_at call.now 0) }
 {
     match call.args.get(0) {
-        Some(Value::Word(n)) => *n,
+        Some(LentValue::Word(n)) => n,
         _ => 0,
     }
 }

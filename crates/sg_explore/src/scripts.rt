@@ -57,11 +57,11 @@ fn copied_call(alloc: Global, call: &ScriptCall) -> Result<ScriptCall, NoMemory>
 fn copied_args(alloc: Global, args: &[Arg]) -> Result<ArgList, NoMemory>
     ensures { IfOk result (λ copy. copy ≡ args.now) }
 {
-    let mut copy = ListOf::new(alloc);
+    let mut copy = Vec::with_capacity(alloc, args.len())?;
     'each: for arg in args {
         copy.push(copied_arg(alloc, arg)?)?;
     }
-    Ok(copy)
+    Ok(ArgList::from_vec(copy))
 }
 
 // An equal argument.

@@ -84,9 +84,8 @@ impl ItemList {
         ensures items { self.new.items ≡ self.old.items ++ item_asked asking.now ∷ [] }
         ensures room { self.old.room ≤ self.new.room + 1 }
     {
-        let args = asking.shown.args.as_slice();
         self.records
-            .add_brief(brief, args, reply_words(asking.outcome));
+            .add_brief(brief, &asking.shown.args, reply_words(asking.outcome));
     }
 
     // Adds an item at the end as it is.

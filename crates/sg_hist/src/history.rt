@@ -79,9 +79,8 @@ impl History {
         ensures items { self.new.items ≡ self.old.items ++ entry.now ∷ [] }
         ensures room { self.old.room ≤ self.new.room + 1 }
     {
-        let args = entry.call.args.as_slice();
         self.records
-            .add_brief(brief, args, reply_words(&entry.reply));
+            .add_brief(brief, &entry.call.args, reply_words(&entry.reply));
     }
 
     // Adds an entry at the end as it is.

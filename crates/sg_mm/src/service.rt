@@ -19,7 +19,7 @@ use crate::functions::{ALIAS, GET, RELEASE};
 use crate::pages::{Pages, answer};
 use crate::shape::mm_shape;
 use crate::{Page, PageKey};
-use sg_facts::{Call, Code, NoMemory, Outcome, Path, Reply, Service, Shape, Stops, Value};
+use sg_facts::{Call, Code, LentValue, NoMemory, Outcome, Path, Reply, Service, Shape, Stops};
 use std::alloc::Global;
 
 /// The memory mapping service: it makes pages in spaces at addresses, from each other too, tells which page is in a place,
@@ -161,7 +161,7 @@ fn number(call: &Call, k: usize) -> u64
     ensures { result ≡ number_at call.now k }
 {
     match call.args.get(k) {
-        Some(Value::Word(n)) => *n,
+        Some(LentValue::Word(n)) => n,
         _ => 0,
     }
 }

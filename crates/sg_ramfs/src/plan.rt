@@ -12,7 +12,10 @@ ghost use Rattle.sg_ramfs.specs.Inside.RamfsTree.{tree_rows, IsTree};
 use crate::OpenFile;
 use crate::files::{OpenFiles, part_of};
 use crate::tree::FileTree;
-use sg_facts::{Bytes, Call, Code, FilePath, MOST_FILE, MOST_PATH, NoMemory, Patch, Value};
+use sg_facts::{
+    Args, Bytes, Call, Code, FilePath, LentArgs, LentValue, MOST_FILE, MOST_PATH, NoMemory, Patch,
+    Value,
+};
 use sg_slots::Decision;
 use std::alloc::Global;
 
@@ -44,15 +47,26 @@ pub(crate) enum WritePlan {
     Put { entry: OpenFile, patch: Patch },
 }
 
-/// The first text among values; empty where there is none.
-pub(crate) fn first_text(values: &[Value]) -> &[u8]
+/// The first text among arguments; empty where there is none.
+pub(crate) fn first_text(args: &Args) -> &[u8]
+    ensures value { result.now ≡ first_text args.now }
+    ensures most { length result.now ≤ 256 }
+{
+    match args.lent() {
+        LentArgs::Words(_) => &[],
+        LentArgs::Values(values) => text_among(values),
+    }
+}
+
+// The first text among values; empty where there is none.
+fn text_among(values: &[Value]) -> &[u8]
     ensures value { result.now ≡ first_text values.now }
     ensures most { length result.now ≤ 256 }
 {
     match values {
         [] => &[],
         [Value::Text(text), ..] => text.bytes(),
-        [_, rest @ ..] => first_text(rest),
+        [_, rest @ ..] => text_among(rest),
     }
 }
 
@@ -61,7 +75,7 @@ pub(crate) fn number(call: &Call) -> u64
     ensures { result ≡ word_of (arg_at call.now 0) }
 {
     match call.args.get(0) {
-        Some(Value::Word(number)) => *number,
+        Some(LentValue::Word(number)) => number,
         _ => 0,
     }
 }
@@ -90,7 +104,7 @@ pub(crate) fn split(
     ensures tree { IsTree tree.now }
 {
     let path = tree.path(alloc, call.desc)?;
-    let name = first_text(call.args.as_slice());
+    let name = first_text(&call.args);
     if is_bad_name(name) {
         return Ok(Decision::Refuse(Code::BadName));
     }

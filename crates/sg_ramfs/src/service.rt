@@ -186,7 +186,7 @@ fn write<T: Stops>(
     ensures test { T.test (T.asked stops.old) (T.struck stops.old) (T.plan stops.old)
         → T.test (T.asked stops.new) (T.struck stops.new) (T.plan stops.new) }
 {
-    let bytes = plan::first_text(call.args.as_slice());
+    let bytes = plan::first_text(&call.args);
     match plan::write(tree, files, alloc, call.desc, bytes) {
         Ok(plan) => carry_write(tree, files, alloc, stops, call.desc, plan),
         Err(_) => Outcome::NoMemory,

@@ -21,7 +21,7 @@ pub values_tell : (xs ys : List Value) (r : Bool) → r ≡ pointwise value-eq.i
 values_tell xs ys r is = let d = pointwise_decides value_same xs ys in (λ h. d.0 (sym is ∙ h), λ e. is ∙ d.1 e)
 
 -- the words of values that are words
-word_back : (xs : List ℕ) → map word_of (map Word xs) ≡ xs
+pub word_back : (xs : List ℕ) → map word_of (map Word xs) ≡ xs
 word_back [] = refl
 word_back (x ∷ xs) = ap (λ l. x ∷ l) (word_back xs)
 

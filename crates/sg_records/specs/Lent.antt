@@ -1,25 +1,16 @@
 -- What a lent call, reply or record stands for.
-use Rattle.std.specs.Prelude.{List, map}
+pub use Rattle.sg_base.specs.Args.{args_in}
 use Rattle.sg_base.specs.declared.call.Call.{Call}
 use Rattle.sg_base.specs.declared.reply.Good.{Good}
 use Rattle.sg_base.specs.declared.reply.Reply.{Reply}
 use Rattle.sg_base.specs.declared.reply.Reply.TheVariants.{Ok, Refused}
-use Rattle.sg_base.specs.declared.value.Value.{Value}
-use Rattle.sg_base.specs.declared.value.Value.TheVariants.{Word}
 use Rattle.sg_records.specs.declared.lent.Lent.{Lent}
 use Rattle.sg_records.specs.declared.lent.Lent.TheVariants.{Brief as BriefLent, Whole as WholeLent}
-use Rattle.sg_records.specs.declared.lent.LentArgs.{LentArgs}
-use Rattle.sg_records.specs.declared.lent.LentArgs.TheVariants.{Words, Values}
 use Rattle.sg_records.specs.declared.lent.LentCall.{LentCall}
 use Rattle.sg_records.specs.declared.lent.LentGood.{LentGood}
 use Rattle.sg_records.specs.declared.lent.LentReply.{LentReply}
 use Rattle.sg_records.specs.declared.lent.LentReply.TheVariants.{Ok as OkLent, Refused as RefusedLent}
 use Rattle.sg_records.specs.Records.{Record, InBrief, Whole}
-
--- the arguments
-abbrev pub args_in : LentArgs → List Value
-args_in (Words words) = map Word words.now
-args_in (Values values) = values.now
 
 -- the call
 abbrev pub call_in : LentCall → Call

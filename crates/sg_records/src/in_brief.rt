@@ -5,13 +5,13 @@ ghost use Rattle.sg_records.specs.Records.{IsBriefCall, IsBriefReply, word_of, w
 
 use crate::Gave;
 use crate::records::{MOST_ARGS, MOST_REPLY_WORDS};
-use sg_base::{Call, Reply, Value};
+use sg_base::{Args, Call, LentArgs, Reply, Value};
 
 /// Whether a call can be kept in brief: it has at most 4 arguments, all of them words.
 pub fn is_brief_call(call: &Call) -> bool
     ensures { IsTrue result → IsBriefCall call.now }
 {
-    call.args.len() <= MOST_ARGS && are_words(call.args.as_slice())
+    call.args.len() <= MOST_ARGS && are_words(&call.args)
 }
 
 /// What a reply gives, in brief; None for one with bytes or with more than 4 words.
@@ -40,13 +40,23 @@ pub fn reply_words(reply: &Reply) -> &[u64]
     }
 }
 
+// Whether all arguments are words.
+fn are_words(args: &Args) -> bool
+    ensures { IsTrue result → map Word (map word_of args.now) ≡ args.now }
+{
+    match args.lent() {
+        LentArgs::Words(_) => true,
+        LentArgs::Values(values) => are_word_values(values),
+    }
+}
+
 // Whether all values are words.
-fn are_words(values: &[Value]) -> bool
+fn are_word_values(values: &[Value]) -> bool
     ensures { IsTrue result → map Word (map word_of values.now) ≡ values.now }
 {
     match values {
         [] => true,
-        [Value::Word(_), rest @ ..] => are_words(rest),
+        [Value::Word(_), rest @ ..] => are_word_values(rest),
         [Value::Text(_), ..] => false,
     }
 }

@@ -5,15 +5,8 @@ ghost use Rattle.sg_records.specs.Lent.{call_in, reply_in};
 ghost use Rattle.sg_records.specs.Records.{call_of, reply_of};
 
 use crate::{Brief, Gave};
-use sg_base::{Args, Bytes, Call, Code, Good, NoMemory, Reply, TryCopy, Value, Words};
+use sg_base::{Args, Bytes, Call, Code, Good, LentArgs, NoMemory, Reply, TryCopy, Value, Words};
 use std::alloc::Global;
-
-/// The arguments of a call, lent: all of them words, or any values.
-#[derive(Clone, Copy, Debug)]
-pub enum LentArgs<'a> {
-    Words(&'a [u64]),
-    Values(&'a [Value]),
-}
 
 /// A call, lent.
 #[derive(Clone, Copy, Debug)]
@@ -65,7 +58,7 @@ impl<'a> LentCall<'a> {
             seq: call.seq,
             fun: call.fun,
             desc: call.desc,
-            args: LentArgs::Values(call.args.as_slice()),
+            args: call.args.lent(),
         }
     }
 

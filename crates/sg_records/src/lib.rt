@@ -1,7 +1,7 @@
 //! Calls with what they gave, kept in few bytes.
 //!
 //! - `brief`: a call of words in brief (`Brief`, `Why`, `Gave`)
-//! - `lent`: calls, replies and records, lent (`LentCall`, `LentArgs`, `LentReply`, `LentGood`, `LentBrief`, `Lent`)
+//! - `lent`: calls, replies and records, lent (`LentCall`, `LentReply`, `LentGood`, `LentBrief`, `Lent`)
 //! - `in_brief`: which calls and replies can be kept in brief (`is_brief_call`, `gave_of`, `reply_words`)
 //! - `head`: what is kept of a record beside its words
 //! - `records`: the list of records (`Records`)
@@ -19,10 +19,10 @@ mod same;
 
 pub use brief::{Brief, Gave, Why};
 pub use in_brief::{gave_of, is_brief_call, reply_words};
-pub use lent::{Lent, LentArgs, LentBrief, LentCall, LentGood, LentReply};
+pub use lent::{Lent, LentBrief, LentCall, LentGood, LentReply};
 pub use records::{MOST_ARGS, MOST_REPLY_WORDS, Records};
 pub use sg_base::{
-    Args, Bytes, Call, Code, Good, IdList, ListOf, ListRoom, NoMemory, PairList, Path, Point,
-    PointList, Reply, ReplyRoom, RoomyList, SpareList, SpareReply, Stops, Text, TextFault,
-    TextRoom, TryCopy, Value, Words, is_text_byte,
+    Args, Bytes, Call, Code, Good, IdList, LentArgs, LentValue, ListOf, ListRoom, NoMemory,
+    PairList, Path, Point, PointList, Reply, ReplyRoom, RoomyList, SpareList, SpareReply, Stops,
+    Text, TextFault, TextRoom, TryCopy, Value, Words, is_text_byte,
 };

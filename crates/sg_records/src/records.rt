@@ -8,7 +8,7 @@ ghost use Rattle.sg_records.specs.Records.{InBrief, Whole, most_args, most_reply
 
 use crate::head::Head;
 use crate::{Brief, Gave, Lent, Why};
-use sg_base::{NoMemory, TryCopy, Value};
+use sg_base::{Args, LentArgs, NoMemory, TryCopy, Value};
 use std::alloc::Global;
 use std::marker::Model;
 
@@ -78,7 +78,7 @@ impl<W> Records<W> {
     }
 
     /// Adds a call in brief at the end, into the room that there is. Of its arguments it takes the words.
-    pub fn add_brief(&mut self, brief: &Brief, args: &[Value], words: &[u64])
+    pub fn add_brief(&mut self, brief: &Brief, args: &Args, words: &[u64])
         requires room { 0 < self.old.room }
         requires args { length args.now ≤ most_args }
         requires words { length words.now ≤ most_reply_words }
@@ -172,14 +172,27 @@ fn reserve<E>(list: &mut Vec<E>, more: usize) -> Result<(), NoMemory>
 }
 
 // Adds the words among arguments, into the room that there is.
-fn push_args(list: &mut Vec<u64>, args: &[Value])
+fn push_args(list: &mut Vec<u64>, args: &Args)
     requires { vec_len list.old + length args.now ≤ vec_capacity list.old }
     ensures items { list.new.items ≡ list.old.items ++ map word_of args.now }
     ensures len { vec_len list.new ≡ vec_len list.old + length args.now }
     ensures capacity { vec_capacity list.new ≡ vec_capacity list.old }
 {
-    for arg in args {
-        list.push_reserved(word_of(arg));
+    match args.lent() {
+        LentArgs::Words(words) => push_words(list, words),
+        LentArgs::Values(values) => push_values(list, values),
+    }
+}
+
+// Adds the words among values, into the room that there is.
+fn push_values(list: &mut Vec<u64>, values: &[Value])
+    requires { vec_len list.old + length values.now ≤ vec_capacity list.old }
+    ensures items { list.new.items ≡ list.old.items ++ map word_of values.now }
+    ensures len { vec_len list.new ≡ vec_len list.old + length values.now }
+    ensures capacity { vec_capacity list.new ≡ vec_capacity list.old }
+{
+    for value in values {
+        list.push_reserved(word_of(value));
     }
 }
 
@@ -198,11 +211,10 @@ fn push_words(list: &mut Vec<u64>, words: &[u64])
     requires { vec_len list.old + length words.now ≤ vec_capacity list.old }
     ensures items { list.new.items ≡ list.old.items ++ words.now }
     ensures len { vec_len list.new ≡ vec_len list.old + length words.now }
-    ensures capacity { vec_capacity list.old ≤ vec_capacity list.new }
+    ensures capacity { vec_capacity list.new ≡ vec_capacity list.old }
 {
-    match list.extend_from_slice(words) {
-        Ok(()) => {}
-        Err(_) => unreachable!(),
+    for word in words {
+        list.push_reserved(*word);
     }
 }
 

@@ -1,10 +1,11 @@
 // Whether lent calls and replies are the same, however each is lent.
 ghost use Rattle.std.specs.Prelude.{◌≡◌, ◌↔◌, IsTrue, map};
 ghost use Rattle.sg_base.specs.declared.value.Value.TheVariants.{Word as IsWord};
-ghost use Rattle.sg_records.specs.Lent.{args_in, call_in, good_in, reply_in};
+ghost use Rattle.sg_base.specs.Args.{args_in};
+ghost use Rattle.sg_records.specs.Lent.{call_in, good_in, reply_in};
 
-use crate::{LentArgs, LentCall, LentGood, LentReply};
-use sg_base::Value;
+use crate::{LentCall, LentGood, LentReply};
+use sg_base::{LentArgs, Value};
 
 impl<'a> LentCall<'a> {
     /// Whether it is the same call as another.

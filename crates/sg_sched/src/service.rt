@@ -22,7 +22,7 @@ ghost use Rattle.sg_sched.specs.Inside.SchedDecision.{on_create, on_yield, on_sl
 use crate::Thread;
 use crate::functions::{CREATE, NEXT, PLACE, SLEEP, WAIT, WAKEUP, YIELD};
 use crate::shape::sched_shape;
-use sg_facts::{Call, Code, NoMemory, Outcome, Path, Service, Shape, Stops, Value};
+use sg_facts::{Call, Code, LentValue, NoMemory, Outcome, Path, Service, Shape, Stops};
 use sg_queues::{Decision, Queue};
 use std::alloc::Global;
 
@@ -128,7 +128,7 @@ fn argument(call: &Call) -> u64
     ensures { arg_at call.now 0 ≡ Word result }
 {
     match call.args.get(0) {
-        Some(Value::Word(number)) => *number,
+        Some(LentValue::Word(number)) => number,
         _ => unreachable!(),
     }
 }

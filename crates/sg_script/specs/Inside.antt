@@ -1,4 +1,5 @@
 -- What the contracts of private functions cite.
+pub mod Args
 pub mod Firsts
 pub mod Fronts
 pub mod Held

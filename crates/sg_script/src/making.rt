@@ -7,10 +7,11 @@ ghost use Rattle.sg_script.specs.Numbers.{counts_as, is_text};
 ghost use Rattle.sg_script.specs.Scripts.{calls_of_setup, clients_of, is_stop_of, most_members, multi_call_of, multi_script_of, placed, schedule_of, script_args, script_call_of, script_of, stops_of};
 ghost use Rattle.sg_script.specs.Inside.Parts.{arg_of, stops_in, turns_of, with_client};
 
+use crate::args::ArgList;
 use crate::multi::{MultiCall, MultiScript, StopsList};
 use crate::names::{declared_fun, found_from, is_stop_of};
 use crate::numbers::{counts_as, unquoted};
-use crate::script::{Arg, ArgList, Script, ScriptCall, TurnList};
+use crate::script::{Arg, Script, ScriptCall, TurnList};
 use sg_facts::{Interface, ListOf, NoMemory, PointList, Text, TextFault};
 use sg_script_parse::{Part, Spelled, WrittenArg, WrittenCall};
 use std::alloc::Global;
@@ -57,6 +58,9 @@ fn args_of(alloc: Global, args: &[WrittenArg]) -> Result<ArgList, NoMemory>
     requires { list_all is_held_arg args.now ≡ true }
     ensures { IfOk result (λ made. made ≡ script_args args.now) }
 {
+    if let [arg] = args {
+        return Ok(ArgList::of_one(arg_of(alloc, arg)?));
+    }
     let mut made = Vec::with_capacity(alloc, args.len())?;
     'each: for arg in args {
         made.push(arg_of(alloc, arg)?)?;

@@ -1,4 +1,5 @@
 // A script for an interface.
+use crate::args::ArgList;
 use sg_facts::{ListOf, PointList, Text};
 
 /// What a call is given in place of a descriptor, a parent, a number or a text.
@@ -11,9 +12,6 @@ pub enum Arg {
     /// `$k`: the descriptor that this client's k-th call was given, counted from 1; 0 where it was given none.
     Back(u32),
 }
-
-/// The arguments of a call, one for each parameter after the caller.
-pub type ArgList = ListOf<Arg>;
 
 /// A call of a script.
 #[derive(Debug, Drop)]

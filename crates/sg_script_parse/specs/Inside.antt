@@ -1,4 +1,5 @@
 -- What the parser's own clauses cite beside the automaton of scripts.
+pub mod Args
 use Rattle.sg_lex.specs.declared.token.TokenKind.{TokenKind}
 use Rattle.sg_lex.specs.Lexeme.{Lexeme, Spelling}
 

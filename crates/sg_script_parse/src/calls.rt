@@ -1,14 +1,14 @@
 // Calls and their arguments.
-ghost use Rattle.std.specs.Prelude.{◌≡◌, ◌≤◌, List, [], ◌∷◌, length, IfOk, OnOk};
+ghost use Rattle.std.specs.Prelude.{◌≡◌, ◌≤◌, List, [], ◌∷◌, length, OnOk};
 ghost use Rattle.sg_script_parse.specs.declared.tree.WrittenArg.{WrittenArg as Arg};
 ghost use Rattle.sg_script_parse.specs.declared.tree.WrittenCall.{WrittenCall as Call};
 ghost use Rattle.sg_script_parse.specs.Grammar.Inside.States.{ScriptState, argument, bracketed, call_rest, braced, scripts};
 ghost use Rattle.sg_lex.specs.Inside.Automata.{read, Leads};
 
+use crate::args::WrittenArgList;
 use crate::error::ScriptSyntax;
 use crate::reader::{mark, number, take_mark, take_spelled};
-use crate::tree::{Spelled, WrittenArg, WrittenArgList, WrittenCall, WrittenCallList};
-use sg_base::NoMemory;
+use crate::tree::{Spelled, WrittenArg, WrittenCall, WrittenCallList};
 use sg_lex::{Reader, TokenKind};
 use std::alloc::Global;
 
@@ -54,9 +54,9 @@ fn bracketed<'a>(reader: &mut Reader<'a>, alloc: Global) -> Result<WrittenArgLis
     if take_mark(reader, b')')? {
         return Ok(WrittenArgList::new(alloc));
     }
-    let mut args = list_of_one(alloc, argument(reader)?)?;
+    let mut args = WrittenArgList::of_one(argument(reader)?);
     'commas: while take_mark(reader, b',')? {
-        args.push(argument(reader)?)?;
+        args.push(alloc, argument(reader)?)?;
     }
     mark(reader, b')')?;
     Ok(args)
@@ -75,14 +75,4 @@ fn argument<'a>(reader: &mut Reader<'a>) -> Result<WrittenArg<'a>, ScriptSyntax>
         Some(text) => Ok(WrittenArg::Text(text)),
         None => Ok(WrittenArg::Number(number(reader)?)),
     }
-}
-
-// The list of this argument. Most lists have one, so that it takes room for one alone; a push to an empty list would take
-// more.
-fn list_of_one<'a>(alloc: Global, arg: WrittenArg<'a>) -> Result<WrittenArgList<'a>, NoMemory>
-    ensures { IfOk result (λ args. args ≡ arg.entry ∷ []) }
-{
-    let mut items = Vec::with_capacity(alloc, 1)?;
-    items.push(arg)?;
-    Ok(WrittenArgList::from_vec(items))
 }

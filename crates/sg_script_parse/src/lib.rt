@@ -2,6 +2,7 @@
 //! those parts or with the place at which a text ceases to be a script.
 //!
 //! - `tree`: the parts of a script (`Part`), whose words, numbers and texts are lent from the text (`Spelled`)
+//! - `args`: the arguments of a call (`WrittenArgList`)
 //! - `error`: why a text is no script (`ScriptSyntax`)
 //! - `laws`: a script has one list of parts, and a text one answer
 //! - `reader`: tokens taken from a text, and the error where another comes than may
@@ -9,6 +10,7 @@
 //! - `parser`: the whole, of a script for one service (`parse`) or for several (`parse_multi`)
 #![tactic(auto)]
 
+mod args;
 mod calls;
 mod error;
 mod laws;
@@ -17,9 +19,8 @@ mod parts;
 mod reader;
 mod tree;
 
+pub use args::WrittenArgList;
 pub use error::ScriptSyntax;
 pub use laws::{one_answer, one_list_of_parts};
 pub use parser::{parse, parse_multi};
-pub use tree::{
-    Part, PartList, Spelled, SpelledList, WrittenArg, WrittenArgList, WrittenCall, WrittenCallList,
-};
+pub use tree::{Part, PartList, Spelled, SpelledList, WrittenArg, WrittenCall, WrittenCallList};

@@ -1,4 +1,5 @@
 // The parts of a script, as they are written.
+use crate::args::WrittenArgList;
 use sg_base::ListOf;
 use std::marker::Model;
 
@@ -21,8 +22,6 @@ impl<'a> Model for Spelled<'a> {
 
 /// The numbers of a part.
 pub type SpelledList<'a> = ListOf<Spelled<'a>>;
-/// The arguments of a call.
-pub type WrittenArgList<'a> = ListOf<WrittenArg<'a>>;
 /// The calls of a part.
 pub type WrittenCallList<'a> = ListOf<WrittenCall<'a>>;
 /// The parts of a script.

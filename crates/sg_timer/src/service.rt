@@ -22,7 +22,7 @@ ghost use Rattle.sg_timer.specs.Inside.TimerDecision.{on_create, on_tick, on_tim
 use crate::Timer;
 use crate::functions::{CREATE, FIRST, PLACE, SKIP, TICK, WAIT};
 use crate::shape::timer_shape;
-use sg_facts::{Call, Code, NoMemory, Outcome, Path, Service, Shape, Stops, Value};
+use sg_facts::{Call, Code, LentValue, NoMemory, Outcome, Path, Service, Shape, Stops};
 use sg_queues::{Decision, Queue};
 use std::alloc::Global;
 
@@ -128,7 +128,7 @@ fn number(call: &Call, at: usize) -> u64
     ensures { result ≡ word_of (arg_at call.now at) }
 {
     match call.args.get(at) {
-        Some(Value::Word(n)) => *n,
+        Some(LentValue::Word(n)) => n,
         _ => 0,
     }
 }

@@ -5,7 +5,7 @@ ghost use Rattle.sg_facts.specs.Inside.Rows.{cleared};
 ghost use Rattle.sg_track.specs.Drafts.{EachNew, IsValue, drafted};
 
 use crate::words::{arg_word, first_word};
-use sg_facts::{Call, Effect, Good, Value};
+use sg_facts::{Call, Effect, Good, LentValue};
 
 /// What a field of a row will be.
 #[derive(Clone, Copy, Debug)]
@@ -81,8 +81,8 @@ impl Draft {
             Draft::Number(_) => Draft::Number(0),
             Draft::Blank => Draft::Blank,
             Draft::Arg(at) => match call.args.get(usize::from(at)) {
-                Some(Value::Text(_)) => Draft::Blank,
-                Some(Value::Word(_)) | None => Draft::Number(0),
+                Some(LentValue::Text(_)) => Draft::Blank,
+                Some(LentValue::Word(_)) | None => Draft::Number(0),
             },
         }
     }

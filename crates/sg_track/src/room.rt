@@ -3,7 +3,7 @@ ghost use Rattle.std.specs.Prelude.{◌≡◌, ◌+◌, ◌≤◌, [], length, m
 ghost use Rattle.sg_track.specs.Drafts.{drafted};
 
 use crate::draft::Draft;
-use sg_facts::{Call, Fields, NoMemory, Text, TextRoom, Value};
+use sg_facts::{Call, Fields, LentValue, NoMemory, Text, TextRoom, Value};
 use std::alloc::Global;
 use std::mem;
 
@@ -77,8 +77,8 @@ fn filled_value(draft: Draft, texts: &mut Vec<TextRoom>, call: &Call) -> Value
         Draft::Number(word) => Value::Word(word),
         Draft::Blank => Value::Text(Text::empty(*texts.allocator())),
         Draft::Arg(at) => match call.args.get(usize::from(at)) {
-            Some(Value::Word(word)) => Value::Word(*word),
-            Some(Value::Text(text)) => Value::Text(filled_text(texts, text)),
+            Some(LentValue::Word(word)) => Value::Word(word),
+            Some(LentValue::Text(text)) => Value::Text(filled_text(texts, text)),
             None => Value::Word(0),
         },
     }

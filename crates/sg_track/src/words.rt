@@ -4,7 +4,7 @@ ghost use Rattle.sg_facts.specs.sg_base.declared.value.Value.TheVariants.{Word};
 ghost use Rattle.sg_facts.specs.Track.{arg_at, effect_of, field_at, fields_after, first_word, word_of};
 ghost use Rattle.sg_track.specs.Drafts.{EachNew, IsDraftWord};
 
-use sg_facts::{Call, Effect, Fields, Good, Value};
+use sg_facts::{Call, Effect, Fields, Good, LentValue, Value};
 
 /// The number in a value; 0 for a text.
 pub(crate) fn word_of(value: &Value) -> u64
@@ -21,8 +21,8 @@ pub(crate) fn arg_word(call: &Call, at: u8) -> u64
     ensures { result ≡ word_of (arg_at call.now at) }
 {
     match call.args.get(usize::from(at)) {
-        Some(value) => word_of(value),
-        None => 0,
+        Some(LentValue::Word(word)) => word,
+        Some(LentValue::Text(_)) | None => 0,
     }
 }
 

@@ -3,6 +3,7 @@
 //!
 //! - `texts`: which bytes are a text
 //! - `lists`: lists, and lists that take memory ahead
+//! - `few`: arguments and words, few of them and more
 //! - `copies`: copies of each kind of value, with memory and without
 //! - `reading`, `writing`: how inputs are read and outputs written, over memory and over std
 //! - `faulty`: a reader and writer that does what is listed (`Faulty`)
@@ -13,6 +14,8 @@
 mod copies;
 #[cfg(test)]
 mod faulty;
+#[cfg(test)]
+mod few;
 #[cfg(test)]
 mod lists;
 #[cfg(test)]

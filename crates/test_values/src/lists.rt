@@ -1,11 +1,11 @@
 // Lists, and lists that take memory ahead.
-use sg_base::{ListOf, ListRoom, NoMemory, RoomyList, SpareList, Words};
+use sg_base::{IdList, ListOf, ListRoom, NoMemory, RoomyList, SpareList};
 use std::alloc::Global;
 use std::process::Abort;
 use std::test::Fail;
 
 // Numbers are kept in a list that is empty, and one is changed.
-fn keep_in_order(rt: &impl Abort, list: &mut Words) -> Result<(), NoMemory> {
+fn keep_in_order(rt: &impl Abort, list: &mut IdList) -> Result<(), NoMemory> {
     assert!(rt; list.is_empty());
     assert_eq!(rt; list.pop(), None);
     list.push(7)?;
@@ -20,19 +20,19 @@ fn keep_in_order(rt: &impl Abort, list: &mut Words) -> Result<(), NoMemory> {
 }
 
 // Whether a list is equal to one of these numbers that is made from a slice.
-fn is_slice(alloc: Global, list: &Words, numbers: &[u64]) -> Result<bool, NoMemory> {
-    let other = Words::from_slice(alloc, numbers)?;
+fn is_slice(alloc: Global, list: &IdList, numbers: &[u64]) -> Result<bool, NoMemory> {
+    let other = IdList::from_slice(alloc, numbers)?;
     Ok(*list == other)
 }
 
 // Whether a list is equal to one of three numbers that is made from others.
-fn is_vec(alloc: Global, list: &Words) -> Result<bool, NoMemory> {
+fn is_vec(alloc: Global, list: &IdList) -> Result<bool, NoMemory> {
     let other = ListOf::from_vec(vec![in alloc; 7, 12, 9]?);
     Ok(*list == other)
 }
 
 // A list that is empty is filled and compared.
-fn fill_and_compare(rt: &impl Abort, alloc: Global, list: &mut Words) -> Result<(), NoMemory> {
+fn fill_and_compare(rt: &impl Abort, alloc: Global, list: &mut IdList) -> Result<(), NoMemory> {
     keep_in_order(rt, list)?;
     assert!(rt; is_slice(alloc, list, &[7, 12, 9])?);
     assert!(rt; is_vec(alloc, list)?);
@@ -42,7 +42,7 @@ fn fill_and_compare(rt: &impl Abort, alloc: Global, list: &mut Words) -> Result<
 
 #[test]
 fn keeps_lists_in_order(rt: HostRuntime) -> Result<(), Fail> {
-    let mut list = Words::new(rt.alloc());
+    let mut list = IdList::new(rt.alloc());
     Ok(fill_and_compare(&rt, rt.alloc(), &mut list)?)
 }
 

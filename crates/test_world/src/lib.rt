@@ -31,6 +31,7 @@ pub use seen::shows;
 pub use sg_discard::{Did, Phase, World};
 pub use sg_edge::Never;
 pub use sg_facts::{
-    Bytes, Code, Entry, Good, NoMemory, Point, Reply, Service, Stops, Tables, Value, Words,
+    Args, Bytes, Code, Entry, Good, LentValue, NoMemory, Point, Reply, Service, Stops, Tables,
+    Value, Words,
 };
 pub use words::headed;

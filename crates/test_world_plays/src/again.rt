@@ -6,7 +6,7 @@ use sg_top::{History, Played};
 use std::alloc::Global;
 use std::test::Fail;
 use test_world::{
-    Asked, Entry, Judge, Never, NoMemory, Run, Service, Stops, Tables, Value, judged,
+    Args, Asked, Entry, Judge, LentValue, Never, NoMemory, Run, Service, Stops, Tables, judged,
 };
 
 // The entries of a history, of which each is to come again.
@@ -36,7 +36,7 @@ fn comes_again<S: Service, T: Stops>(
 ) -> Result<bool, Fail> {
     let call = &entry.call;
     let fun = format!(in alloc; "{}", call.fun)?;
-    let args = written(alloc, call.args.as_slice())?;
+    let args = written(alloc, &call.args)?;
     let asked = Asked {
         fun: &fun,
         desc: call.desc,
@@ -49,15 +49,16 @@ fn comes_again<S: Service, T: Stops>(
 }
 
 // Arguments as a text that tells a call has them. None of them holds a space here.
-fn written(alloc: Global, values: &[Value]) -> Result<String, NoMemory> {
+fn written(alloc: Global, args: &Args) -> Result<String, NoMemory> {
     let mut text = String::new(alloc);
-    for value in values {
-        match value {
-            Value::Word(number) => text.push_str(&format!(in alloc; "{number} ")?)?,
-            Value::Text(bytes) => {
+    for at in 0..args.len() {
+        match args.get(at) {
+            Some(LentValue::Word(number)) => text.push_str(&format!(in alloc; "{number} ")?)?,
+            Some(LentValue::Text(bytes)) => {
                 let bytes = str::from_utf8(bytes.bytes()).unwrap_or("");
                 text.push_str(&format!(in alloc; "\"{bytes}\" ")?)?
             }
+            None => (),
         }
     }
     Ok(text)

@@ -3,4 +3,4 @@ use Rattle.std.proofs.Common.{◌≡◌, take}
 use Rattle.sg_explore.proofs.scripts.copied_args.Given as goal
 
 abbrev pub invariant-each : goal.invariant-each
-invariant-each l = l.copy ≡ take l.arg-index l.args
+invariant-each l = l.copy.items ≡ take l.arg-index l.args

@@ -10,7 +10,6 @@ pub returns-clause-items : goal.returns-clause-items
 returns-clause-items c =
     let brief = c.args.brief.now in
     let item = item_asked c.args.asking.now in
-    let read = ap (λ args. item_of (InBrief brief (map word_of args) c.reply_words.result.now)) c.as_slice-args.ensures
-    ∙ ap (λ words. item_of (InBrief brief (map word_of item.shown.args) words)) c.reply_words.ensures ∙ item_back brief item c.requires.brief in
-    item_added c.self.inside.records.items c.add_brief.new.self.items (InBrief brief (map word_of c.as_slice-args.result.now) c.reply_words.result.now) item c.add_brief.ensures.items read
+    let read = ap (λ words. item_of (InBrief brief (map word_of item.shown.args) words)) c.reply_words.ensures ∙ item_back brief item c.requires.brief in
+    item_added c.self.inside.records.items c.add_brief.new.self.items (InBrief brief (map word_of item.shown.args) c.reply_words.result.now) item c.add_brief.ensures.items read
     ∙ ap (λ v. v.items ++ item ∷ []) c.self.view_is

@@ -9,7 +9,6 @@ pub returns-clause-items : goal.returns-clause-items
 returns-clause-items c =
     let brief = c.args.brief.now in
     let entry = c.args.entry.now in
-    let read = ap (λ args. entry_of (InBrief brief (map word_of args) c.reply_words.result.now)) c.as_slice-args.ensures
-    ∙ ap (λ words. entry_of (InBrief brief (map word_of entry.call.args) words)) c.reply_words.ensures ∙ entry_back brief entry c.requires.brief in
-    entry_added c.self.inside.records.items c.add_brief.new.self.items (InBrief brief (map word_of c.as_slice-args.result.now) c.reply_words.result.now) entry c.add_brief.ensures.items read
+    let read = ap (λ words. entry_of (InBrief brief (map word_of entry.call.args) words)) c.reply_words.ensures ∙ entry_back brief entry c.requires.brief in
+    entry_added c.self.inside.records.items c.add_brief.new.self.items (InBrief brief (map word_of entry.call.args) c.reply_words.result.now) entry c.add_brief.ensures.items read
     ∙ ap (λ v. v.items ++ entry ∷ []) c.self.view_is

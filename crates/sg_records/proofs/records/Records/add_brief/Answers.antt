@@ -17,8 +17,8 @@ invariant_of-self g c =
     let longer : c.push_extra.new.list.items ≡ words ++ args ++ own ++ extra_of brief
     = c.push_extra.ensures.items ∙ ap (λ l. l ++ extra_of brief) (c.push_words.ensures.items ∙ ap (λ l. l ++ own) c.push_args.ensures.items) in
     let head : c.of-head.result ≡ head_of brief (length words) (length args) (length own)
-    = c.of-head.ensures ∙ ap (λ p. head_of brief p (length c.args.args.now) (length own)) (ap length c.as_slice.ensures.value)
-    ∙ ap (λ n. head_of brief (length words) n (length own)) (sym (length-map c.args.args.now word_of)) in
+    = c.of-head.ensures ∙ ap (λ p. head_of brief p c.len.result (length own)) (ap length c.as_slice.ensures.value)
+    ∙ ap (λ n. head_of brief (length words) n (length own)) (c.len.ensures ∙ sym (length-map c.args.args.now word_of)) in
     brief_there words c.push_extra.new.list.items c.self.inside.whole.items c.self.inside.heads.items c.push_reserved.new.self.items c.of-head.result brief args own
     longer c.push_reserved.ensures.items head c.push_extra.ensures.turn c.self.invariant
 
@@ -31,8 +31,8 @@ returns-clause-items g c =
     let longer : c.push_extra.new.list.items ≡ words ++ args ++ own ++ extra_of brief
     = c.push_extra.ensures.items ∙ ap (λ l. l ++ extra_of brief) (c.push_words.ensures.items ∙ ap (λ l. l ++ own) c.push_args.ensures.items) in
     let head : c.of-head.result ≡ head_of brief (length words) (length args) (length own)
-    = c.of-head.ensures ∙ ap (λ p. head_of brief p (length c.args.args.now) (length own)) (ap length c.as_slice.ensures.value)
-    ∙ ap (λ n. head_of brief (length words) n (length own)) (sym (length-map c.args.args.now word_of)) in
+    = c.of-head.ensures ∙ ap (λ p. head_of brief p c.len.result (length own)) (ap length c.as_slice.ensures.value)
+    ∙ ap (λ n. head_of brief (length words) n (length own)) (c.len.ensures ∙ sym (length-map c.args.args.now word_of)) in
     brief_read words c.push_extra.new.list.items c.self.inside.whole.items c.self.inside.heads.items c.push_reserved.new.self.items c.of-head.result brief args own
     longer c.push_reserved.ensures.items head c.push_extra.ensures.turn c.self.invariant
     ∙ ap (λ v. v.items ++ InBrief brief args own ∷ []) c.self.view_is

@@ -1,0 +1,6 @@
+-- The words that are left.
+use Rattle.std.proofs.Common.{length}
+use Rattle.sg_base.proofs.args.+are_words.Given as goal
+
+abbrev pub decreases-are_words : goal.decreases-are_words
+decreases-are_words l = length l.words.now

@@ -1,0 +1,6 @@
+-- The first values are copied.
+use Rattle.std.proofs.Common.{◌≡◌, take}
+use Rattle.sg_base.proofs.args.copied.Given as goal
+
+abbrev pub invariant-loop-value : goal.invariant-loop-value
+invariant-loop-value l = l.items.items ≡ take l.value-index l.values
