@@ -22,13 +22,16 @@ pub use Rattle.std.specs.List.{range_with_len as ascending_from}
 -- ---- the calls of a client
 
 -- the calls of a client's part
-abbrev pub part_of : ℕ → List (ℕ × List ScriptCall) → List ScriptCall
+abbrev pub part_of : {C : Type 0} → ℕ → List (ℕ × List C) → List C
 part_of client [] = []
 part_of client (c ∷ clients) = if c.0 == client then c.1 else part_of client clients
 
 -- all its calls: for client 1 those of the setup come first
+abbrev pub calls_with_setup : {C : Type 0} → List C → List (ℕ × List C) → ℕ → List C
+calls_with_setup setup clients client = (if client == 1 then setup else []) ++ part_of client clients
+
 abbrev pub script_calls : Script → ℕ → List ScriptCall
-script_calls script client = (if client == 1 then script.setup else []) ++ part_of client script.clients
+script_calls script client = calls_with_setup script.setup script.clients client
 
 -- a call of a client with its number, where `$k` is the descriptor that a history gives to the client's k-th call
 abbrev pub resolved_by : Facts → List Entry → ℕ → ℕ → ScriptCall → Call
@@ -47,7 +50,7 @@ call_after facts script history client done = option_map (resolved_by facts hist
 -- ---- how clients end
 
 -- the greatest number of a client that has a part, at least 1
-abbrev pub most_client : List (ℕ × List ScriptCall) → ℕ
+abbrev pub most_client : {C : Type 0} → List (ℕ × List C) → ℕ
 most_client clients = option_map_or (λ c. c.0) (last_or None clients) 1
 
 -- the clients that have a call, ascending

@@ -11,3 +11,4 @@ pub mod Turning
 pub mod Waking
 pub mod Withdrawn
 pub use Rattle.sg_plain.proofs as sg_plain
+pub use Rattle.sg_world.proofs as sg_world

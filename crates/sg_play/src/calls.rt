@@ -5,12 +5,12 @@ ghost use Rattle.sg_facts.specs.declared.entry.Entry.{Entry as IsEntry};
 ghost use Rattle.sg_plain.specs.Calls.{script_calls};
 ghost use Rattle.sg_plain.specs.Playing.Given.{GaveIds};
 ghost use Rattle.sg_plain.specs.Playing.Playable.{IsPlayable};
-ghost use Rattle.sg_play.specs.NextCall.{IsNextCall};
+ghost use Rattle.sg_play.specs.NextCall.{IsNextCall, IsResolved};
 ghost use Rattle.sg_plain.specs.Script.{arg_value, desc_among, id_of_call, value_of, values_of};
 
 use crate::parts::script_call;
 use sg_facts::{Args, Interface, Kind, NoMemory, TryCopy, Value};
-use sg_plain::{Arg, Script};
+use sg_plain::{Arg, Script, ScriptCall};
 use std::alloc::Global;
 
 /// What a client says of its next call.
@@ -37,14 +37,27 @@ pub fn next_call(
     let Some(call) = script_call(script, client, given.len()) else {
         return Ok(None);
     };
+    Ok(Some(resolve(alloc, interface, given, call)?))
+}
+
+/// What a client says of a call that a script gives it, where its calls so far were given these descriptors.
+pub fn resolve(
+    alloc: Global,
+    interface: &Interface,
+    given: &[u64],
+    call: &ScriptCall,
+) -> Result<NextCall, NoMemory>
+    ensures call { (own : List IsEntry) → GaveIds own given.now → IfOk result (IsResolved interface.now.facts own call.now) }
+    ensures words { IfOk result (λ next. AreWords next.args) }
+{
     let kinds = interface.fun(call.fun).kinds;
     let desc = desc_among(given, kinds, call.args.as_slice());
     let args = values_of(alloc, given, kinds, call.args.as_slice())?;
-    Ok(Some(NextCall {
+    Ok(NextCall {
         fun: call.fun,
         desc,
         args,
-    }))
+    })
 }
 
 // The descriptor or parent among arguments, 0 where no parameter is one.

@@ -2,17 +2,18 @@
 ghost use Rattle.std.specs.Ordering.{nat_cmp};
 ghost use Rattle.std.specs.Prelude.{◌≡◌, length, slice_get};
 ghost use Rattle.std.specs.Option.{option_copied};
-ghost use Rattle.sg_plain.specs.Calls.{most_client, part_of, script_calls};
+ghost use Rattle.sg_plain.specs.Calls.{calls_with_setup, most_client, part_of, script_calls};
 ghost use Rattle.sg_plain.specs.Playing.Playable.{AreClients};
 
-use sg_plain::{CallList, Script, ScriptCall};
+use sg_facts::ListOf;
+use sg_plain::{Script, ScriptCall};
 use std::cmp::Ordering;
 
 // The first client.
 const FIRST: u8 = 1;
 
 /// The greatest number of a client that has a part, at least 1.
-pub fn most_client(clients: &[(u8, CallList)]) -> u8
+pub fn most_client<C>(clients: &[(u8, ListOf<C>)]) -> u8
     ensures { result ≡ most_client clients.now }
 {
     match clients {
@@ -26,11 +27,29 @@ pub fn script_call(script: &Script, client: u8, done: usize) -> Option<&ScriptCa
     requires { AreClients 0 script.now.clients }
     ensures { option_copied result ≡ slice_get (script_calls script.now client) done }
 {
-    let part = part_of(script.clients.as_slice(), client);
+    call_with_setup(
+        script.setup.as_slice(),
+        script.clients.as_slice(),
+        client,
+        done,
+    )
+}
+
+/// The call that a client makes when so many of its calls are done, among the calls of a setup, which client 1 makes first, and those of
+/// the clients' parts; None where it has no more.
+pub fn call_with_setup<'a, C>(
+    setup: &'a [C],
+    clients: &'a [(u8, ListOf<C>)],
+    client: u8,
+    done: usize,
+) -> Option<&'a C>
+    requires { AreClients 0 clients.now }
+    ensures { option_copied result ≡ slice_get (calls_with_setup setup.now clients.now client) done }
+{
+    let part = part_of(clients, client);
     if client != FIRST {
         return part.get(done);
     }
-    let setup = script.setup.as_slice();
     if done < setup.len() {
         setup.get(done)
     } else {
@@ -39,7 +58,7 @@ pub fn script_call(script: &Script, client: u8, done: usize) -> Option<&ScriptCa
 }
 
 // The calls of a client's part, which is found by halving.
-fn part_of(clients: &[(u8, CallList)], client: u8) -> &[ScriptCall]
+fn part_of<C>(clients: &[(u8, ListOf<C>)], client: u8) -> &[C]
     requires { AreClients 0 clients.now }
     ensures { result.now ≡ part_of client clients.now }
 {

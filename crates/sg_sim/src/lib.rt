@@ -15,13 +15,13 @@ mod played;
 mod plays;
 mod turn;
 
-pub use given::ids_of;
+pub use given::{Given, ids_of};
 pub use play::Play;
 pub use played::Played;
 pub use plays::play_script;
-pub use sg_discard::discard;
+pub use sg_discard::{Did, World, discard};
 pub use sg_play::{
-    Arg, ArgList, CallList, ClientList, History, NextCall, Phase, Script, ScriptCall, desc_of,
-    most_client, next_call,
+    Arg, ArgList, CallList, ClientList, End, EndList, Ended, History, NextCall, Phase, Script,
+    ScriptCall, call_with_setup, desc_of, most_client, next_call, resolve,
 };
 pub use turn::tell_world;

@@ -6,11 +6,10 @@ use Rattle.sg_facts.specs.Interface.{Declared}
 use Rattle.sg_facts.specs.Limits.{last_client, most_script_calls}
 use Rattle.sg_plain.specs.Calls.{script_calls}
 use Rattle.sg_script.specs.declared.script.Script.{Script}
-use Rattle.sg_script.specs.declared.script.ScriptCall.{ScriptCall}
 use Rattle.sg_plain.specs.Script.{calls_fit}
 
 -- clients stand in ascending numbers above one, up to the greatest that there may be
-abbrev pub AreClients : ℕ → List (ℕ × List ScriptCall) → Type 0
+abbrev pub AreClients : {C : Type 0} → ℕ → List (ℕ × List C) → Type 0
 AreClients above [] = Unit {0}
 AreClients above (c ∷ clients) = (above < c.0) × (c.0 ≤ last_client) × AreClients c.0 clients
 
