@@ -160,8 +160,10 @@ impl<H: Host> Shared<H> {
                 HoldEnd::Short => short = true,
                 HoldEnd::Ended(end) => return end,
             }
-            asked = if waits { asked.saturating_add(1) } else { 0 };
-            pause(rt, asked);
+            if waits {
+                asked = asked.saturating_add(1);
+                pause(rt, asked);
+            }
         }
         unreachable!()
     }

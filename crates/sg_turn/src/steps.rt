@@ -6,6 +6,7 @@ ghost use Rattle.sg_turn.specs.Inside.Places.{is_holding};
 ghost use Rattle.sg_turn.specs.Inside.Steps.{with_state, knowing, knowledge_at};
 ghost use Rattle.sg_turn.specs.declared.view.SeatState.TheVariants.{Idle, Waiting, Served, Holding};
 
+use crate::bells::Bells;
 use crate::kept::Kept;
 use crate::rule::{Count, Draw, Fetch, InTurn, Learn, Look, Serve};
 use crate::view::View;
@@ -23,6 +24,12 @@ const SERVING: usize = 1;
 
 /// The word with the number of holds that were counted.
 const COUNT: usize = 2;
+
+/// So many tickets after the one that is served are among the next: who has one of them stays awake for a while.
+const AWAKE: u64 = 1;
+
+/// How often who is among the next looks before it sleeps all the same.
+const MOST_LOOKS: u32 = 64;
 
 /// The words of a hand-over, and the slot of its value.
 pub type Board<V> = Table<Option<V>, View, Snapshot<V>, InTurn<V>, Global>;
@@ -54,21 +61,46 @@ pub fn draw<R: Wait, V: Kept>(rt: &R, steps: &Steps<V>, place: &mut Place<V>) ->
     unreachable!()
 }
 
-/// Waits until a ticket is served. Between two looks it yields.
-pub fn wait_for<R: Wait, V: Kept>(rt: &R, steps: &Steps<V>, place: &mut Place<V>, ticket: u64)
+/// Waits until a ticket is served. While it is among the next it looks often, and yields between two looks; else it sleeps until its
+/// bell rings.
+pub fn wait_for<R: Wait, V: Kept>(
+    rt: &R,
+    bells: &Bells,
+    steps: &Steps<V>,
+    place: &mut Place<V>,
+    ticket: u64,
+)
     requires table { place.old.table_id ≡ steps.now.table_id }
     requires words { steps.now.table_id.words ≡ 3 }
     requires waits { place.old.me.0.state ≡ Waiting ticket }
     ensures table { place.new.table_id ≡ place.old.table_id }
     ensures me { place.new.me ≡ (with_state place.old.me.0 (Served ticket), place.old.me.1) }
 {
+    let mut looks: u32 = 0;
     for _ in rt.forever() {
-        if steps.load::<Look>(place, SERVING) == ticket {
+        let served = steps.load::<Look>(place, SERVING);
+        if served == ticket {
             return;
         }
-        thread::yield_now();
+        if looks < MOST_LOOKS && ticket.saturating_sub(served) <= AWAKE {
+            looks += 1;
+            thread::yield_now();
+        } else {
+            sleep(rt, bells, steps, ticket);
+        }
     }
     unreachable!()
+}
+
+// Sleeps until a ticket's bell rings, where the ticket isn't served by now. The bell is set before that look: a ticket that is served
+// after it has its bell rung, and the sleep ends.
+fn sleep<R: Wait, V: Kept>(rt: &R, bells: &Bells, steps: &Steps<V>, ticket: u64)
+    requires words { steps.now.table_id.words ≡ 3 }
+{
+    bells.set(ticket);
+    if steps.peek(SERVING) != ticket {
+        bells.sleep(rt, ticket);
+    }
 }
 
 /// Learns the latest face, and takes the slot, in which the value is then.
@@ -95,8 +127,9 @@ pub fn learn<V: Kept>(steps: &Steps<V>, place: &mut Place<V>) -> u64
     steps.load::<Learn>(place, COUNT)
 }
 
-/// Puts the value back in its slot, counts the hold, and serves the next ticket.
-pub fn give_back<V: Kept>(steps: &Steps<V>, place: &mut Place<V>, value: V)
+/// Puts the value back in its slot, counts the hold, and serves the next ticket. Its bell rings then, and that of the ticket that is
+/// among the next from now on.
+pub fn give_back<V: Kept>(bells: &Bells, steps: &Steps<V>, place: &mut Place<V>, value: V)
     requires table { place.old.table_id ≡ steps.now.table_id }
     requires words { steps.now.table_id.words ≡ 3 }
     requires holds { is_holding place.old.me.0.state ≡ true }
@@ -109,5 +142,8 @@ pub fn give_back<V: Kept>(steps: &Steps<V>, place: &mut Place<V>, value: V)
 {
     drop(steps.exchange(place, 0, Some(value)));
     steps.fetch_add::<Count<V>>(place, COUNT, 1);
-    steps.fetch_add::<Serve>(place, SERVING, 1);
+    let served = steps.fetch_add::<Serve>(place, SERVING, 1);
+    let next = served.saturating_add(1);
+    bells.ring(next);
+    bells.ring(next.saturating_add(AWAKE));
 }

@@ -3,6 +3,7 @@ ghost use Rattle.std.specs.Prelude.{◌∷◌, [], ◌≡◌, ◌+◌, ◌≤◌
 ghost use Rattle.sg_turn.specs.Logs.{face_by, OneMore};
 ghost use Rattle.sg_turn.specs.Seats.{HasLearnt, AddsMarks, all_seats, AreAllSeats, AllEndIn, knowledge_of};
 
+use crate::bells::Bells;
 use crate::closing::Closing;
 use crate::dealing::Dealing;
 use crate::kept::Kept;
@@ -18,6 +19,7 @@ use std::sync::Wait;
 #[derive(Drop)]
 pub struct Turn<V: Kept> {
     table: Board<V>,
+    bells: Bells,
 }
 
 impl<V: Kept> Model for Turn<V> {
@@ -64,7 +66,10 @@ impl<V: Kept> Turn<V> {
         requires slots { table.shared.table_id.slots ≡ 1 }
         ensures { result ≡ record { id = table.shared.table_id; start = face_by V.log V.events table.shared.key.value } }
     {
-        Turn { table }
+        Turn {
+            table,
+            bells: Bells::new(),
+        }
     }
 
     /// Draws a ticket for a seat that doesn't hold the value, waits until the ticket is served, and takes the value as it was last
@@ -80,7 +85,7 @@ impl<V: Kept> Turn<V> {
         let steps = &self.table.shared;
         let place = &mut seat.place;
         let ticket = draw(rt, steps, place);
-        wait_for(rt, steps, place, ticket);
+        wait_for(rt, &self.bells, steps, place, ticket);
         fetch(steps, place, ticket);
         let value = steps.exchange(place, 0, None).unwrap();
         Held { value }
@@ -97,7 +102,7 @@ impl<V: Kept> Turn<V> {
         ensures { seat.new ≡ record seat.old { known = seat.old.known + 1; face = face_by V.log V.events held.value; holds = false } }
     {
         let Held { value } = held;
-        give_back(&self.table.shared, &mut seat.place, value);
+        give_back(&self.bells, &self.table.shared, &mut seat.place, value);
     }
 
     /// The number of holds that were counted so far, at least as many as the seat knew. The seat knows the value's face after so many
@@ -135,7 +140,7 @@ impl<V: Kept> Turn<V> {
         requires last { last.last ≡ true }
         ensures { result ≡ record { id = self.id; start = self.start; gathered = knowledge_of last ∷ [] } }
     {
-        let Turn { table } = self;
+        let Turn { table, .. } = self;
         Closing::begin(table, last)
     }
 }
