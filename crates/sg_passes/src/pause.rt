@@ -14,8 +14,8 @@ const DOUBLINGS: u32 = 10;
 // The value of the word by which a thread sleeps, which nobody changes.
 const STILL: u32 = 0;
 
-/// Sleeps for a while, where a call had to wait at so many events one after the other; so who waits long asks seldom: each time after
-/// about as long as it slept in all before.
+/// Sleeps for a while, where a call had to wait at so many of its events; so who waits long asks seldom: each time after about as long as
+/// it slept in all before.
 pub fn pause<R: Wait>(rt: &R, asked: u32) {
     if asked <= AT_ONCE {
         return;

@@ -19,5 +19,7 @@ mod world;
 
 pub use plays::{share, simulate};
 pub use runs::run;
-pub use sg_sim::{Arg, ArgList, CallList, ClientList, Played, Script, ScriptCall, play_script};
+pub use sg_sim::{
+    Arg, ArgList, CallList, ClientList, Play, Played, Script, ScriptCall, play_script,
+};
 pub use sg_stub::Accepted;

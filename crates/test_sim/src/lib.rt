@@ -6,12 +6,15 @@
 //! The tests:
 //! - `again`: a play goes on after a step that wanted memory
 //! - `by_hand`: a script is played at once, and by hand in another order
+//! - `in_threads`: a thread that wants memory gives its call up, and all is played to its end
 #![tactic(auto)]
 
 #[cfg(test)]
 mod again;
 #[cfg(test)]
 mod by_hand;
+#[cfg(test)]
+mod in_threads;
 #[cfg(test)]
 mod ready;
 #[cfg(test)]

@@ -1,7 +1,8 @@
 // The input of a play of locks.
 ghost use Rattle.std.specs.Prelude.{◌≡◌, IfOk};
+ghost use Rattle.sg_edge.specs.Stops.{AscendsAbove};
 ghost use Rattle.sg_lock.specs.LockFacts.{lock_facts};
-ghost use Rattle.sg_sim.specs.sg_plain.Playing.Playable.{IsPlayable};
+ghost use Rattle.sg_shared.specs.sg_sim.sg_plain.Playing.Playable.{IsPlayable};
 
 use sg_facts::{Bytes, Service};
 use sg_input::{Accepted, Input, Script, read_input};
@@ -14,6 +15,7 @@ use test_interfaces::LOCK;
 pub fn ready(alloc: Global, script: &[u8]) -> Result<(Accepted, Script), Fail>
     ensures service { IfOk result (λ r. r.0.facts ≡ lock_facts) }
     ensures playable { IfOk result (λ r. IsPlayable r.0 r.1) }
+    ensures stops { IfOk result (λ r. AscendsAbove 0 r.1.stops) }
 {
     let mut input = Bytes::from_slice(alloc, LOCK)?;
     input.extend_from_slice(script)?;
