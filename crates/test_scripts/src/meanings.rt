@@ -16,9 +16,7 @@ fn script_on(alloc: Global, text: &[u8], script: &[u8]) -> Result<Script, Fail> 
 fn is_number(call: Option<&ScriptCall>, fun: u8, number: u64) -> bool {
     match call {
         Some(call) => {
-            call.fun == fun
-                && call.args.len() == 1
-                && matches!(call.args.get(0), Some(Arg::Number(n)) if *n == number)
+            call.fun == fun && matches!(call.args.as_slice(), [Arg::Number(n)] if *n == number)
         }
         None => false,
     }
@@ -28,9 +26,7 @@ fn is_number(call: Option<&ScriptCall>, fun: u8, number: u64) -> bool {
 fn is_back(call: Option<&ScriptCall>, fun: u8, number: u32) -> bool {
     match call {
         Some(call) => {
-            call.fun == fun
-                && call.args.len() == 1
-                && matches!(call.args.get(0), Some(Arg::Back(n)) if *n == number)
+            call.fun == fun && matches!(call.args.as_slice(), [Arg::Back(n)] if *n == number)
         }
         None => false,
     }
@@ -83,7 +79,7 @@ fn of_texts(rt: HostRuntime) -> Result<(), Fail> {
     };
     let texts = [&b"a b"[..], b""];
     for (at, want) in texts.iter().enumerate() {
-        let text = calls.get(at).and_then(|call| call.args.get(1));
+        let text = calls.get(at).and_then(|call| call.args.as_slice().get(1));
         assert!(rt; matches!(text, Some(Arg::Text(text)) if text.bytes() == *want));
     }
     Ok(())

@@ -1,2 +1,3 @@
+pub mod NoWord
 pub mod Seats
 pub mod Values

@@ -39,11 +39,16 @@ fn kinds_fit(kinds: &[Kind], args: &Args) -> bool
 fn words_fit(kinds: &[Kind], words: &[u64]) -> bool
     ensures { result ≡ kinds_fit kinds.now (map IsWord words.now) }
 {
-    match (kinds, words) {
-        ([], []) => true,
-        ([Kind::Desc | Kind::Parent, more @ ..], _) => words_fit(more, words),
-        ([Kind::Word, more @ ..], [_, others @ ..]) => words_fit(more, others),
-        _ => false,
+    match kinds {
+        [] => words.is_empty(),
+        [kind, more @ ..] => match kind {
+            Kind::Desc | Kind::Parent => words_fit(more, words),
+            Kind::Word => match words {
+                [] => false,
+                [_, others @ ..] => words_fit(more, others),
+            },
+            Kind::Text => false,
+        },
     }
 }
 
