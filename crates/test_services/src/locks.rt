@@ -4,7 +4,7 @@ ghost use Rattle.sg_facts.specs.Object.{empty_object};
 ghost use Rattle.sg_lock.specs.sg_slots.Slots.{object_of};
 ghost use Rattle.sg_lock.specs.LockRow.{lock_body};
 
-use sg_facts::{Code, NoMemory, Outcome, Path, Reply, Service, Stops};
+use sg_facts::{Call, Code, NoMemory, Outcome, Path, Reply, Service, Stops};
 use sg_lock::{Lock, LockService};
 use std::alloc::Global;
 use std::process::Abort;
@@ -37,7 +37,36 @@ fn make(
     }
 }
 
-// Asks for a change of the one lock, which is as told, and tells the descriptor of the reply.
+// Asks for a change of the one lock, which is as told, by a call, and tells the descriptor of the reply.
+fn changed(
+    service: &mut LockService,
+    alloc: Global,
+    stops: &mut Once,
+    call: &Call,
+    lock: Lock,
+) -> Result<u64, Outcome>
+    requires lock { object_of lock_body service.old.slots ≡ object_of lock_body (record { entries = (1, lock) ∷ []; given = 1 }) }
+    requires call { call.now ≡ record { client = call.now.client; seq = 1; fun = call.now.fun; desc = 1; args = [] } }
+    requires client_first { 1 ≤ call.now.client }
+    requires client_last { call.now.client ≤ 64 }
+    requires fun_first { 2 ≤ call.now.fun }
+    requires fun_last { call.now.fun ≤ 4 }
+    ensures { OnOk result (call.now.fun < 4 → object_of lock_body service.new.slots
+        ≡ object_of lock_body (record { entries = (1, record { creator = lock.creator; owner = if call.now.fun == 2 then call.now.client else 0 }) ∷ []; given = 1 })) }
+{
+    match ask(service, alloc, stops, call) {
+        Outcome::Replied { reply, patch } => match reply {
+            Reply::Ok(good) => Ok(good.desc),
+            refused => Err(Outcome::Replied {
+                reply: refused,
+                patch,
+            }),
+        },
+        other => Err(other),
+    }
+}
+
+// The same by the call of a function, by a client.
 fn change(
     service: &mut LockService,
     alloc: Global,
@@ -54,17 +83,7 @@ fn change(
     ensures { OnOk result (fun < 4 → object_of lock_body service.new.slots
         ≡ object_of lock_body (record { entries = (1, record { creator = lock.creator; owner = if fun == 2 then client else 0 }) ∷ []; given = 1 })) }
 {
-    let call = call(alloc, client, fun, 1);
-    match ask(service, alloc, stops, &call) {
-        Outcome::Replied { reply, patch } => match reply {
-            Reply::Ok(good) => Ok(good.desc),
-            refused => Err(Outcome::Replied {
-                reply: refused,
-                patch,
-            }),
-        },
-        other => Err(other),
-    }
+    changed(service, alloc, stops, &call(alloc, client, fun, 1), lock)
 }
 
 // Asks for what changes nothing: the refusal of a call on the one lock, which is as told, or None where the caller
