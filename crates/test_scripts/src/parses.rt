@@ -105,12 +105,12 @@ fn parts_keep_what_is_spelt_and_where(rt: HostRuntime) -> Result<(), Fail> {
     };
     assert!(rt; *at == 1 && *place == 33);
     let call = calls.get(0).ok_or("no call")?;
-    let [
-        WrittenArg::Text(first),
-        WrittenArg::Back(second),
-        WrittenArg::Number(third),
-    ] = call.args.as_slice()
-    else {
+    let args = call.args.as_slice();
+    let (
+        Some(WrittenArg::Text(first)),
+        Some(WrittenArg::Back(second)),
+        Some(WrittenArg::Number(third)),
+    ) = (args.get(0), args.get(1), args.get(2)) else {
         return Err("other arguments")?;
     };
     try_spelt(&rt, &[number, &call.name], &[(b"64", 8), (b"f", 13)]);
