@@ -6,7 +6,7 @@ use Rattle.sg_facts.specs.declared.trace.Item.{Item}
 use Rattle.sg_facts.specs.Trace.{Run}
 use Rattle.sg_plain.specs.sg_script.declared.script.Arg.TheVariants.{Number, Back}
 use Rattle.sg_plain.specs.sg_script.declared.script.Script.{Script}
-use Rattle.test_histories.specs.Written.{entry, ok, ok_at}
+use Rattle.test_recovery.specs.test_histories.Written.{entry, ok, ok_at}
 use Rattle.test_plays.specs.LockPlays.{four_lock_calls, made}
 use Rattle.test_recovery.specs.Written.{bare_call, boot, call_with, called, replied, word}
 

@@ -1,7 +1,7 @@
 // Plays of locks.
 ghost use Rattle.sg_facts.specs.Laws.{whole};
-ghost use Rattle.test_histories.specs.sg_lock.LockFacts.{lock_facts};
-ghost use Rattle.test_histories.specs.sg_lock.LockTable.{lock_table};
+ghost use Rattle.test_recovery.specs.test_histories.sg_lock.LockFacts.{lock_facts};
+ghost use Rattle.test_recovery.specs.test_histories.sg_lock.LockTable.{lock_table};
 ghost use Rattle.sg_plain.specs.Calls.{AreEnds};
 ghost use Rattle.test_plays.specs.LockPlays.{both_done, four_lock_calls, four_lock_calls_history, own_backs, own_backs_history, wait_and_wake, wait_and_wake_history, second_blocked, second_first, second_first_history, stays_blocked, stays_blocked_history};
 ghost use Rattle.sg_plain.specs.Inside.Turns.{IsPlainPlay};

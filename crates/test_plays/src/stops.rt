@@ -1,10 +1,10 @@
 // What plays with stops promise.
 ghost use Rattle.std.specs.Prelude.{◌≡◌, [], false, true};
-ghost use Rattle.test_histories.specs.sg_event.EventFacts.{event_facts};
-ghost use Rattle.test_histories.specs.sg_event.EventTable.{event_table};
+ghost use Rattle.test_recovery.specs.test_histories.sg_event.EventFacts.{event_facts};
+ghost use Rattle.test_recovery.specs.test_histories.sg_event.EventTable.{event_table};
 ghost use Rattle.sg_facts.specs.Laws.{whole};
-ghost use Rattle.test_histories.specs.sg_lock.LockFacts.{lock_facts};
-ghost use Rattle.test_histories.specs.sg_lock.LockTable.{lock_table};
+ghost use Rattle.test_recovery.specs.test_histories.sg_lock.LockFacts.{lock_facts};
+ghost use Rattle.test_recovery.specs.test_histories.sg_lock.LockTable.{lock_table};
 ghost use Rattle.sg_plain.specs.Calls.{AreEnds};
 ghost use Rattle.sg_plain.specs.Inside.Turns.{IsPlainPlay};
 ghost use Rattle.sg_plain.specs.Inside.Kept.{somebody_waits};

@@ -7,3 +7,4 @@ pub mod RamfsRuns
 pub mod SchedRuns
 pub mod StrictRuns
 pub mod Written
+pub use Rattle.test_histories.specs as test_histories

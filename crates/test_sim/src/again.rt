@@ -1,7 +1,7 @@
 // A play goes on after a step that wanted memory.
 ghost use Rattle.std.specs.Prelude.{◌≡◌};
 ghost use Rattle.sg_lock.specs.LockFacts.{lock_facts};
-ghost use Rattle.sg_shared.specs.sg_sim.sg_plain.Playing.Playable.{IsPlayable};
+ghost use Rattle.sg_sim.specs.sg_plain.Playing.Playable.{IsPlayable};
 
 use crate::ready::ready;
 use crate::scarce::Scarce;
@@ -9,7 +9,7 @@ use sg_edge::Never;
 use sg_facts::{Bytes, NoMemory};
 use sg_input::{Accepted, Script, compile};
 use sg_report::{EndList, Ended, text};
-use sg_shared::Play;
+use sg_sim::Play;
 use std::alloc::Global;
 use std::test::Fail;
 

@@ -1,7 +1,7 @@
 // A script is played at once, and by hand in another order than the play without stops has.
 ghost use Rattle.std.specs.Prelude.{◌≡◌};
 ghost use Rattle.sg_lock.specs.LockFacts.{lock_facts};
-ghost use Rattle.sg_shared.specs.sg_sim.sg_plain.Playing.Playable.{IsPlayable};
+ghost use Rattle.sg_sim.specs.sg_plain.Playing.Playable.{IsPlayable};
 
 use crate::ready::ready;
 use sg_edge::Never;
@@ -9,7 +9,7 @@ use sg_facts::{Bytes, NoMemory};
 use sg_input::{Accepted, Script, compile};
 use sg_lock::LockService;
 use sg_report::text;
-use sg_shared::{Play, play_script};
+use sg_sim::{Play, play_script};
 use std::alloc::Global;
 use std::test::Fail;
 

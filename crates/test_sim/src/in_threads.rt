@@ -2,7 +2,7 @@
 ghost use Rattle.std.specs.Prelude.{◌≡◌};
 ghost use Rattle.sg_edge.specs.Stops.{AscendsAbove};
 ghost use Rattle.sg_lock.specs.LockFacts.{lock_facts};
-ghost use Rattle.sg_shared.specs.sg_sim.sg_plain.Playing.Playable.{IsPlayable};
+ghost use Rattle.sg_sim.specs.sg_plain.Playing.Playable.{IsPlayable};
 
 use crate::ready::ready;
 use crate::scarce::Scarce;

@@ -2,7 +2,7 @@
 ghost use Rattle.std.specs.Prelude.{◌≡◌, IfOk};
 ghost use Rattle.sg_edge.specs.Stops.{AscendsAbove};
 ghost use Rattle.sg_lock.specs.LockFacts.{lock_facts};
-ghost use Rattle.sg_shared.specs.sg_sim.sg_plain.Playing.Playable.{IsPlayable};
+ghost use Rattle.sg_sim.specs.sg_plain.Playing.Playable.{IsPlayable};
 
 use sg_facts::{Bytes, Service};
 use sg_input::{Accepted, Input, Script, read_input};

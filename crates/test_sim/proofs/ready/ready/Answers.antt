@@ -2,7 +2,7 @@
 use Rattle.std.proofs.Common.{◌∷◌, [], map, subst}
 use Rattle.sg_facts.specs.Facts.{facts_of}
 use Rattle.sg_input.specs.Inputs.{IsInputOf, IsReady}
-use Rattle.sg_shared.proofs.sg_sim.sg_plain.Flawless.Flawless.{script_playable, script_stops}
+use Rattle.sg_sim.proofs.sg_plain.Flawless.Flawless.{script_playable, script_stops}
 use Rattle.test_sim.proofs.ready.ready.Goals as goal
 
 pub returns-in-Ready-clause-playable : goal.returns-in-Ready-clause-playable
