@@ -6,7 +6,7 @@
 //! The tests:
 //! - `again`: a play goes on after a step that wanted memory
 //! - `by_hand`: a script is played at once, and by hand in another order
-//! - `in_threads`: a thread that wants memory gives its call up, and all is played to its end
+//! - `in_threads`: a thread whose call wants memory gives it up, and the run ends in want of memory
 #![tactic(auto)]
 
 #[cfg(test)]
