@@ -1,4 +1,4 @@
-// A call of words in brief.
+// A call of words in brief, and which kind of record one is.
 use sg_base::Code;
 
 /// Why a call was made.
@@ -23,6 +23,26 @@ pub enum Gave {
     Stopped,
     /// There was no memory.
     NoMemory,
+}
+
+/// How a call ended, without what it gave.
+#[derive(Clone, Copy, Debug, PartialEq, Eq)]
+pub enum Ended {
+    Replied,
+    Blocks,
+    Stopped,
+    NoMemory,
+}
+
+/// Which kind of record one is: in brief why its call was made and how it ended, without any of its words.
+#[derive(Clone, Copy, Debug, PartialEq, Eq)]
+pub enum Kind {
+    /// Its own client's call.
+    Own(Ended),
+    /// A walk's call.
+    Walk(Ended),
+    /// It is kept whole.
+    Whole,
 }
 
 /// A call whose arguments are all words, why it was made and what it gave. The words of its arguments and of its reply stand beside it.

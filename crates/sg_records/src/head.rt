@@ -1,9 +1,10 @@
 // What is kept of a record beside its words.
-ghost use Rattle.std.specs.Prelude.{◌≡◌, slice_index};
+ghost use Rattle.std.specs.Prelude.{◌≡◌, ℕ, List, slice_index};
 ghost use Rattle.sg_records.specs.Inside.Heads.{args_in, brief_at, extra_count, form_of, gave_form_of, gave_in, head_of, part, record_at, walk_count, why_in, words_in};
+ghost use Rattle.sg_records.specs.Kinds.{ended_by, kind_of};
 ghost use Rattle.sg_records.specs.Lent.{record_in};
 
-use crate::{Brief, Gave, Lent, LentBrief, Why};
+use crate::{Brief, Ended, Gave, Kind, Lent, LentBrief, Why};
 use sg_base::Code;
 
 /// How a record is kept: whole, or in brief as the call of its own client, or as the call of this place in a walk.
@@ -98,6 +99,20 @@ impl Head {
         }
     }
 
+    /// Which kind of record this head's is. It reads none of the words.
+    pub(crate) fn kind<W>(&self, whole: &[W]) -> Kind
+        ensures { (words : List ℕ) → result ≡ kind_of (record_at words whole.now self.now) }
+    {
+        match self.form {
+            Form::Walk(_) => Kind::Walk(ended(&self.gave)),
+            Form::Own => Kind::Own(ended(&self.gave)),
+            Form::Whole => match whole.get(self.place as usize) {
+                Some(_) => Kind::Whole,
+                None => Kind::Own(ended(&self.gave)),
+            },
+        }
+    }
+
     // The call in brief of this head, lent.
     fn brief<'a>(&self, words: &'a [u64]) -> LentBrief<'a>
         ensures brief { result.brief ≡ brief_at words.now self.now }
@@ -150,6 +165,18 @@ fn gave_form_of(gave: &Gave) -> GaveForm
         Gave::Blocks => GaveForm::Blocks,
         Gave::Stopped => GaveForm::Stopped,
         Gave::NoMemory => GaveForm::NoMemory,
+    }
+}
+
+// How a call ended.
+fn ended(gave: &GaveForm) -> Ended
+    ensures { (desc : ℕ) → result ≡ ended_by (gave_in gave.now desc) }
+{
+    match gave {
+        GaveForm::Good | GaveForm::Named | GaveForm::Refused(_) => Ended::Replied,
+        GaveForm::Blocks => Ended::Blocks,
+        GaveForm::Stopped => Ended::Stopped,
+        GaveForm::NoMemory => Ended::NoMemory,
     }
 }
 

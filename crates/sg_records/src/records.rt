@@ -3,11 +3,12 @@ ghost use Rattle.std.specs.Prelude.{◌≡◌, ◌↔◌, ◌+◌, ◌*◌, ◌<
 ghost use Rattle.std.specs.Option.{option_map};
 ghost use Rattle.sg_records.specs.Inside.Heads.{TurnFits, desc_words, extra_of, walk_words};
 ghost use Rattle.sg_records.specs.Inside.Rooms.{spare_of};
+ghost use Rattle.sg_records.specs.Kinds.{kind_of};
 ghost use Rattle.sg_records.specs.Lent.{record_in};
 ghost use Rattle.sg_records.specs.Records.{InBrief, Whole, most_args, most_reply_words, word_of};
 
 use crate::head::Head;
-use crate::{Brief, Gave, Lent, Why};
+use crate::{Brief, Gave, Kind, Lent, Why};
 use sg_base::{Args, LentArgs, NoMemory, TryCopy, Value};
 use std::alloc::Global;
 use std::marker::Model;
@@ -128,6 +129,16 @@ impl<W> Records<W> {
     {
         match self.heads.get(at) {
             Some(head) => Some(head.lent(self.words.as_slice(), self.whole.as_slice())),
+            None => None,
+        }
+    }
+
+    /// Which kind the record at a place is, counted from 0; None exactly where `at` isn't below the length. It reads no word of it.
+    pub fn kind(&self, at: usize) -> Option<Kind>
+        ensures { result ≡ option_map kind_of (slice_get self.now.items at) }
+    {
+        match self.heads.get(at) {
+            Some(head) => Some(head.kind(self.whole.as_slice())),
             None => None,
         }
     }
