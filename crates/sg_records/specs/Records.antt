@@ -58,6 +58,11 @@ pub record IsBriefCall (call : Call) : Type 0 where
   pub few : length call.args ≤ most_args
   pub words : map Word (map word_of call.args) ≡ call.args
 
+-- a reply can be kept in brief: it has no byte, and few words
+abbrev pub FitsBrief : Reply → Type 0
+FitsBrief (Ok good) = (good.bytes ≡ []) × (length good.words ≤ most_reply_words)
+FitsBrief (Refused code) = Unit {0}
+
 -- this is what a reply gave, in brief
 pub record IsBriefReply (gave : Gave) (reply : Reply) : Type 0 where
   pub few : length (words_of reply) ≤ most_reply_words

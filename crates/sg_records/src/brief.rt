@@ -25,22 +25,22 @@ pub enum Gave {
     NoMemory,
 }
 
-/// How a call ended, without what it gave.
+/// Of which kind is what a call gave.
 #[derive(Clone, Copy, Debug, PartialEq, Eq)]
-pub enum Ended {
+pub enum GaveKind {
     Replied,
     Blocks,
     Stopped,
     NoMemory,
 }
 
-/// Which kind of record one is: in brief why its call was made and how it ended, without any of its words.
+/// Of which kind a record is: in brief, why its call was made and of which kind is what it gave, and no word of it; or whole.
 #[derive(Clone, Copy, Debug, PartialEq, Eq)]
-pub enum Kind {
+pub enum RecordKind {
     /// Its own client's call.
-    Own(Ended),
+    Own(GaveKind),
     /// A walk's call.
-    Walk(Ended),
+    Walk(GaveKind),
     /// It is kept whole.
     Whole,
 }

@@ -1,10 +1,10 @@
 // What is kept of a record beside its words.
 ghost use Rattle.std.specs.Prelude.{◌≡◌, ℕ, List, slice_index};
 ghost use Rattle.sg_records.specs.Inside.Heads.{args_in, brief_at, extra_count, form_of, gave_form_of, gave_in, head_of, part, record_at, walk_count, why_in, words_in};
-ghost use Rattle.sg_records.specs.Kinds.{ended_by, kind_of};
+ghost use Rattle.sg_records.specs.Kinds.{gave_kind, kind_of};
 ghost use Rattle.sg_records.specs.Lent.{record_in};
 
-use crate::{Brief, Ended, Gave, Kind, Lent, LentBrief, Why};
+use crate::{Brief, Gave, GaveKind, Lent, LentBrief, RecordKind, Why};
 use sg_base::Code;
 
 /// How a record is kept: whole, or in brief as the call of its own client, or as the call of this place in a walk.
@@ -99,16 +99,16 @@ impl Head {
         }
     }
 
-    /// Which kind of record this head's is. It reads none of the words.
-    pub(crate) fn kind<W>(&self, whole: &[W]) -> Kind
+    /// Of which kind the record of this head is. It reads none of the words.
+    pub(crate) fn kind<W>(&self, whole: &[W]) -> RecordKind
         ensures { (words : List ℕ) → result ≡ kind_of (record_at words whole.now self.now) }
     {
         match self.form {
-            Form::Walk(_) => Kind::Walk(ended(&self.gave)),
-            Form::Own => Kind::Own(ended(&self.gave)),
+            Form::Walk(_) => RecordKind::Walk(gave_kind(&self.gave)),
+            Form::Own => RecordKind::Own(gave_kind(&self.gave)),
             Form::Whole => match whole.get(self.place as usize) {
-                Some(_) => Kind::Whole,
-                None => Kind::Own(ended(&self.gave)),
+                Some(_) => RecordKind::Whole,
+                None => RecordKind::Own(gave_kind(&self.gave)),
             },
         }
     }
@@ -168,15 +168,15 @@ fn gave_form_of(gave: &Gave) -> GaveForm
     }
 }
 
-// How a call ended.
-fn ended(gave: &GaveForm) -> Ended
-    ensures { (desc : ℕ) → result ≡ ended_by (gave_in gave.now desc) }
+// Of which kind is what a call gave.
+fn gave_kind(gave: &GaveForm) -> GaveKind
+    ensures { (desc : ℕ) → result ≡ gave_kind (gave_in gave.now desc) }
 {
     match gave {
-        GaveForm::Good | GaveForm::Named | GaveForm::Refused(_) => Ended::Replied,
-        GaveForm::Blocks => Ended::Blocks,
-        GaveForm::Stopped => Ended::Stopped,
-        GaveForm::NoMemory => Ended::NoMemory,
+        GaveForm::Good | GaveForm::Named | GaveForm::Refused(_) => GaveKind::Replied,
+        GaveForm::Blocks => GaveKind::Blocks,
+        GaveForm::Stopped => GaveKind::Stopped,
+        GaveForm::NoMemory => GaveKind::NoMemory,
     }
 }
 

@@ -1,7 +1,7 @@
 // Which calls and replies can be kept in brief.
-ghost use Rattle.std.specs.Prelude.{◌≡◌, ◌≤◌, IfSome, IsTrue, length, map};
+ghost use Rattle.std.specs.Prelude.{◌≡◌, ◌↔◌, IfSome, IsSome, IsTrue, map};
 ghost use Rattle.sg_base.specs.declared.value.Value.TheVariants.{Word};
-ghost use Rattle.sg_records.specs.Records.{IsBriefCall, IsBriefReply, word_of, words_of};
+ghost use Rattle.sg_records.specs.Records.{FitsBrief, IsBriefCall, IsBriefReply, word_of, words_of};
 
 use crate::Gave;
 use crate::records::{MOST_ARGS, MOST_REPLY_WORDS};
@@ -9,14 +9,15 @@ use sg_base::{Args, Call, LentArgs, Reply, Value};
 
 /// Whether a call can be kept in brief: it has at most 4 arguments, all of them words.
 pub fn is_brief_call(call: &Call) -> bool
-    ensures { IsTrue result → IsBriefCall call.now }
+    ensures { IsTrue result ↔ IsBriefCall call.now }
 {
     call.args.len() <= MOST_ARGS && are_words(&call.args)
 }
 
-/// What a reply gives, in brief; None for one with bytes or with more than 4 words.
+/// What a reply gives, in brief; None exactly for one with bytes or with more than 4 words.
 pub fn gave_of(reply: &Reply) -> Option<Gave>
-    ensures { IfSome result (λ gave. IsBriefReply gave reply.now) }
+    ensures gave { IfSome result (λ gave. IsBriefReply gave reply.now) }
+    ensures fits { IsSome result ↔ FitsBrief reply.now }
 {
     match reply {
         Reply::Ok(good) => {
@@ -42,7 +43,7 @@ pub fn reply_words(reply: &Reply) -> &[u64]
 
 // Whether all arguments are words.
 fn are_words(args: &Args) -> bool
-    ensures { IsTrue result → map Word (map word_of args.now) ≡ args.now }
+    ensures { IsTrue result ↔ (map Word (map word_of args.now) ≡ args.now) }
 {
     match args.lent() {
         LentArgs::Words(_) => true,
@@ -52,7 +53,7 @@ fn are_words(args: &Args) -> bool
 
 // Whether all values are words.
 fn are_word_values(values: &[Value]) -> bool
-    ensures { IsTrue result → map Word (map word_of values.now) ≡ values.now }
+    ensures { IsTrue result ↔ (map Word (map word_of values.now) ≡ values.now) }
 {
     match values {
         [] => true,

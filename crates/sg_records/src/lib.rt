@@ -1,6 +1,6 @@
 //! Calls with what they gave, kept in few bytes.
 //!
-//! - `brief`: a call of words in brief (`Brief`, `Why`, `Gave`), and which kind of record one is (`Kind`, `Ended`)
+//! - `brief`: a call of words in brief (`Brief`, `Why`, `Gave`), and of which kind a record is (`RecordKind`, `GaveKind`)
 //! - `lent`: calls, replies and records, lent (`LentCall`, `LentReply`, `LentGood`, `LentBrief`, `Lent`)
 //! - `in_brief`: which calls and replies can be kept in brief (`is_brief_call`, `gave_of`, `reply_words`)
 //! - `head`: what is kept of a record beside its words
@@ -17,7 +17,7 @@ mod lent;
 mod records;
 mod same;
 
-pub use brief::{Brief, Ended, Gave, Kind, Why};
+pub use brief::{Brief, Gave, GaveKind, RecordKind, Why};
 pub use in_brief::{gave_of, is_brief_call, reply_words};
 pub use lent::{Lent, LentBrief, LentCall, LentGood, LentReply};
 pub use records::{MOST_ARGS, MOST_REPLY_WORDS, Records};

@@ -8,7 +8,7 @@ ghost use Rattle.sg_records.specs.Lent.{record_in};
 ghost use Rattle.sg_records.specs.Records.{InBrief, Whole, most_args, most_reply_words, word_of};
 
 use crate::head::Head;
-use crate::{Brief, Gave, Kind, Lent, Why};
+use crate::{Brief, Gave, Lent, RecordKind, Why};
 use sg_base::{Args, LentArgs, NoMemory, TryCopy, Value};
 use std::alloc::Global;
 use std::marker::Model;
@@ -133,8 +133,8 @@ impl<W> Records<W> {
         }
     }
 
-    /// Which kind the record at a place is, counted from 0; None exactly where `at` isn't below the length. It reads no word of it.
-    pub fn kind(&self, at: usize) -> Option<Kind>
+    /// Of which kind the record at a place is, counted from 0; None exactly where `at` isn't below the length. It reads no word of it.
+    pub fn kind(&self, at: usize) -> Option<RecordKind>
         ensures { result ≡ option_map kind_of (slice_get self.now.items at) }
     {
         match self.heads.get(at) {
