@@ -9,6 +9,7 @@ pub mod Held
 pub mod Inside
 pub mod Interface
 pub mod Invoke
+pub mod ItemKinds
 pub mod Kinds
 pub mod Laws
 pub mod Legal

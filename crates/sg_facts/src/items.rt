@@ -2,13 +2,14 @@
 ghost use Rattle.std.specs.Prelude.{◌≡◌, ◌↔◌, ◌+◌, ◌<◌, ◌≤◌, [], ◌∷◌, ◌++◌, None, Some, length, IsTrue, IsOk, IfOk, IfSome, OnOk, slice_get};
 ghost use Rattle.std.specs.Option.{option_map};
 ghost use Rattle.sg_facts.specs.Inside.Items.{IsBriefItem, IsBriefOutcome, reply_words, tag_of};
+ghost use Rattle.sg_facts.specs.ItemKinds.{item_kind};
 ghost use Rattle.sg_facts.specs.Lent.{item_asked, item_in};
 ghost use Rattle.sg_facts.specs.declared.outcome.Outcome.TheVariants.{Replied};
 
 use crate::lent::LentItem;
-use crate::{Item, Outcome, Tag};
+use crate::{Item, ItemKind, Outcome, Tag, TagKind};
 use sg_records::{
-    Brief, Call, Gave, NoMemory, Records, Reply, Why, gave_of, is_brief_call,
+    Brief, Call, Gave, NoMemory, RecordKind, Records, Reply, Why, gave_of, is_brief_call,
     reply_words as words_of_reply,
 };
 use std::alloc::Global;
@@ -130,6 +131,24 @@ impl ItemList {
         match self.get(at) {
             Some(item) => item,
             None => unreachable!(),
+        }
+    }
+
+    /// Of which kind the item at a place that there is is, counted from 0. Of an item that is kept in brief it reads no word.
+    pub fn kind(&self, at: usize) -> ItemKind
+        requires { at < length self.now.items }
+        ensures { option_map item_kind (slice_get self.now.items at) ≡ Some result }
+    {
+        match self.records.kind(at) {
+            Some(RecordKind::Own(gave)) => ItemKind {
+                tag: TagKind::Client,
+                gave,
+            },
+            Some(RecordKind::Walk(gave)) => ItemKind {
+                tag: TagKind::Walk,
+                gave,
+            },
+            _ => self.at(at).kind(),
         }
     }
 

@@ -7,7 +7,8 @@
 //! - `outcome`: what asking a service gives (`Outcome`, `Patch`)
 //! - `path`: the path of a file as a key (`FilePath`)
 //! - `trace`: what was done to a service, boot by boot (`Trace`, `BootLog`, `Item`, `Tag`)
-//! - `items`: the items of one boot, in few bytes (`ItemList`), and an asking by its parts (`Asking`); `lent`: items, lent (`LentItem`, `LentTag`, `LentOutcome`)
+//! - `items`: the items of one boot, in few bytes (`ItemList`), and an asking by its parts (`Asking`); `lent`: items, lent (`LentItem`, `LentTag`, `LentOutcome`);
+//!   `kinds`: of which kinds they are (`ItemKind`, `TagKind`)
 //! - `tables`: an interface with its walks (`Tables`, `WalkLine`)
 //! - `walk`: the functions whose calls rebuild a descriptor (`Walk`)
 //! - `service`: the trait `Service`
@@ -24,6 +25,7 @@
 mod entry;
 mod interface;
 mod items;
+mod kinds;
 mod laws;
 mod lent;
 mod limits;
@@ -40,6 +42,7 @@ mod words;
 pub use entry::Entry;
 pub use interface::Interface;
 pub use items::{Asking, ItemList};
+pub use kinds::{ItemKind, TagKind};
 pub use laws::legal_from_the_front;
 pub use lent::{LentItem, LentOutcome, LentTag};
 pub use limits::{
@@ -50,7 +53,7 @@ pub use path::FilePath;
 pub use row::{Fields, FieldsRoom, Row};
 pub use service::Service;
 pub use sg_records::{
-    Args, Brief, Bytes, Call, Code, Gave, Good, IdList, Lent, LentArgs, LentBrief, LentCall,
+    Args, Brief, Bytes, Call, Code, Gave, GaveKind, Good, IdList, Lent, LentArgs, LentBrief, LentCall,
     LentGood, LentReply, LentValue, ListOf, NoMemory, PairList, Path, Point, PointList, Records,
     Reply, ReplyRoom, RoomyList, SpareList, SpareReply, Stops, Text, TextFault, TextRoom, TryCopy,
     Value, Why, Words, gave_of, is_brief_call, is_text_byte, reply_words,

@@ -4,4 +4,4 @@ use Rattle.sg_facts.proofs.BriefItems.{reply_in_brief}
 use Rattle.sg_facts.proofs.items.given_reply.Goals as goal
 
 pub returns : goal.returns
-returns c = IfSome_then c.gave_of.result c.gave_of.ensures (λ gave is. reply_in_brief gave c.args.reply.now is)
+returns c = IfSome_then c.gave_of.result c.gave_of.ensures.gave (λ gave is. reply_in_brief gave c.args.reply.now is)
