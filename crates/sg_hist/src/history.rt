@@ -1,12 +1,14 @@
 // The calls that were done.
-ghost use Rattle.std.specs.Prelude.{◌≡◌, ◌↔◌, ◌+◌, ◌<◌, ◌≤◌, [], ◌∷◌, ◌++◌, Some, length, IsTrue, IsOk, IfOk, IfSome, OnOk, OnErr, slice_get};
+ghost use Rattle.std.specs.Prelude.{◌≡◌, ◌↔◌, ◌+◌, ◌<◌, ◌≤◌, [], ◌∷◌, ◌++◌, Some, length, IsFalse, IsSome, IsTrue, IsOk, IfOk, IfSome, OnOk, OnErr, slice_get};
 ghost use Rattle.std.specs.Option.{option_map};
 ghost use Rattle.sg_hist.specs.Clients.{calls_of};
 ghost use Rattle.sg_hist.specs.Inside.Entries.{IsBriefEntry};
-ghost use Rattle.sg_hist.specs.Lent.{entry_in};
+ghost use Rattle.sg_hist.specs.Lent.{IsBriefly, entry_in};
 
 use crate::lent::LentEntry;
-use sg_facts::{Brief, Entry, NoMemory, Records, Why, gave_of, is_brief_call, reply_words};
+use sg_facts::{
+    Brief, Call, Entry, NoMemory, Records, Reply, Why, gave_of, is_brief_call, reply_words,
+};
 use std::alloc::Global;
 use std::marker::Model;
 
@@ -56,9 +58,27 @@ impl History {
         ensures items { self.new.items ≡ self.old.items ++ entry ∷ [] }
         ensures room { self.old.room ≤ self.new.room + 1 }
     {
-        match in_brief(&entry) {
-            Some(brief) => self.add_brief(&brief, &entry),
-            None => self.add_whole(entry),
+        if !self.add_lent(&entry.call, &entry.reply) {
+            self.add_whole(entry);
+        }
+    }
+
+    /// Adds the entry of a call and its reply at the end, into the room that there is, where they can be kept in brief: a call of at most
+    /// 4 arguments, all of them words, and a reply of at most 4 words without a byte. Answers whether it did; where it didn't, nothing
+    /// changed.
+    pub fn add_lent(&mut self, call: &Call, reply: &Reply) -> bool
+        requires { 0 < self.old.room }
+        ensures fits { IsTrue result ↔ IsBriefly call.now reply.now }
+        ensures items { IsTrue result → self.new.items ≡ self.old.items ++ record { call = call.now; reply = reply.now } ∷ [] }
+        ensures room { self.old.room ≤ self.new.room + 1 }
+        ensures kept { IsFalse result → self.new ≡ self.old }
+    {
+        match in_brief(call, reply) {
+            Some(brief) => {
+                self.add_brief(&brief, call, reply);
+                true
+            }
+            None => false,
         }
     }
 
@@ -72,15 +92,15 @@ impl History {
         Ok(())
     }
 
-    // Adds an entry at the end in brief.
-    fn add_brief(&mut self, brief: &Brief, entry: &Entry)
+    // Adds the entry of a call and its reply at the end in brief.
+    fn add_brief(&mut self, brief: &Brief, call: &Call, reply: &Reply)
         requires room { 0 < self.old.room }
-        requires brief { IsBriefEntry brief.now entry.now }
-        ensures items { self.new.items ≡ self.old.items ++ entry.now ∷ [] }
+        requires brief { IsBriefEntry brief.now (record { call = call.now; reply = reply.now }) }
+        ensures items { self.new.items ≡ self.old.items ++ record { call = call.now; reply = reply.now } ∷ [] }
         ensures room { self.old.room ≤ self.new.room + 1 }
     {
         self.records
-            .add_brief(brief, &entry.call.args, reply_words(&entry.reply));
+            .add_brief(brief, &call.args, reply_words(reply));
     }
 
     // Adds an entry at the end as it is.
@@ -177,21 +197,22 @@ impl History {
     }
 }
 
-// An entry in brief, where it can be kept so.
-fn in_brief(entry: &Entry) -> Option<Brief>
-    ensures { IfSome result (λ brief. IsBriefEntry brief entry.now) }
+// The entry of a call and its reply in brief, exactly where it can be kept so.
+fn in_brief(call: &Call, reply: &Reply) -> Option<Brief>
+    ensures brief { IfSome result (λ brief. IsBriefEntry brief (record { call = call.now; reply = reply.now })) }
+    ensures fits { IsSome result ↔ IsBriefly call.now reply.now }
 {
-    let gave = gave_of(&entry.reply)?;
-    if !is_brief_call(&entry.call) {
+    let gave = gave_of(reply)?;
+    if !is_brief_call(call) {
         return None;
     }
     Some(Brief {
         points: 0,
         real: 0,
-        desc: entry.call.desc,
-        client: entry.call.client,
-        seq: entry.call.seq,
-        fun: entry.call.fun,
+        desc: call.desc,
+        client: call.client,
+        seq: call.seq,
+        fun: call.fun,
         why: Why::Own,
         gave,
     })
