@@ -1,2 +1,3 @@
 pub mod Boots
 pub mod Nexts
+pub mod ReplayKinds

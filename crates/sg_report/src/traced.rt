@@ -171,7 +171,7 @@ fn replays_after(before: u64, items: &ItemList) -> u64
 {
     let mut count = before;
     'items: for at in 0..items.len() {
-        if is_replay(&items.at(at)) {
+        if items.kind(at).is_replay() {
             count = count.saturating_add(1);
         }
     }
