@@ -153,6 +153,19 @@ impl Clients {
         self.seats[usize::from(client) - 1].give(reply)
     }
 
+    /// A client's call, whose number is one of 32 bits, is answered, and its reply is to be handed over, where its entry was noted by loan.
+    /// It takes no memory.
+    pub fn answer(&mut self, client: u8, reply: &Reply)
+        requires client { IsClient (length self.old) client }
+        requires offers { is_offered (seat_in self.old client).phase ≡ true }
+        requires fits { FitsReplyRoom reply.now }
+        ensures number { (seat_in self.old client).call.seq < 2 ^ 32 }
+        ensures seats { let s = seat_in self.old client in self.new ≡ slice_set self.old (client - 1) (record s { phase = Receipted; seq = s.call.seq; reply = reply.now }) }
+    {
+        self.waiting = self.waiting_without(client);
+        self.seats[usize::from(client) - 1].answer(reply);
+    }
+
     /// A client's call is answered by the reply that it holds, which is handed over at once; the entry's number is one of 32 bits. It
     /// takes no memory.
     pub fn give_back(&mut self, alloc: Global, client: u8) -> Returned

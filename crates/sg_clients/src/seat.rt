@@ -223,6 +223,18 @@ impl ClientSeat {
         }
     }
 
+    /// Gets a reply that is to be handed over, where its entry was noted by loan.
+    pub(crate) fn answer(&mut self, reply: &Reply)
+        requires offers { is_offered self.old.phase ≡ true }
+        requires fits { FitsReplyRoom reply.now }
+        ensures number { self.old.call.seq < 2 ^ 32 }
+        ensures seat { self.new ≡ record self.old { phase = Receipted; seq = self.old.call.seq; reply = reply.now } }
+    {
+        self.phase = Phase::Receipted;
+        self.seq = number_of(&self.call);
+        self.reply = self.spare.answer.fill(reply);
+    }
+
     /// Gives the reply that it holds.
     pub(crate) fn give_back(&mut self, alloc: Global) -> Returned
         requires { is_offered self.old.phase ≡ true }
@@ -287,6 +299,13 @@ impl ClientSeat {
             phases: self.spare.phases.take(),
         }
     }
+}
+
+// The number of a call.
+fn number_of(call: &Call) -> u32
+    ensures { result ≡ call.now.seq }
+{
+    call.seq
 }
 
 // The copy of a call, which is given away.

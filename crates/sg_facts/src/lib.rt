@@ -53,10 +53,10 @@ pub use path::FilePath;
 pub use row::{Fields, FieldsRoom, Row};
 pub use service::Service;
 pub use sg_records::{
-    Args, Brief, Bytes, Call, Code, Gave, GaveKind, Good, IdList, Lent, LentArgs, LentBrief, LentCall,
-    LentGood, LentReply, LentValue, ListOf, NoMemory, PairList, Path, Point, PointList, Records,
-    Reply, ReplyRoom, RoomyList, SpareList, SpareReply, Stops, Text, TextFault, TextRoom, TryCopy,
-    Value, Why, Words, gave_of, is_brief_call, is_text_byte, reply_words,
+    Args, Brief, Bytes, Call, Code, Gave, GaveKind, Good, IdList, Lent, LentArgs, LentBrief,
+    LentCall, LentGood, LentReply, LentValue, ListOf, NoMemory, PairList, Path, Point, PointList,
+    Records, Reply, ReplyRoom, RoomyList, SpareList, SpareReply, Stops, Text, TextFault, TextRoom,
+    TryCopy, Value, Why, Words, gave_of, is_brief_call, is_text_byte, reply_words,
 };
 pub use shape::{Effect, FieldShape, FunShape, Kind, Leaves, Parents, Shape};
 pub use tables::{Tables, WalkLine, WalkList};

@@ -1,0 +1,20 @@
+-- The client no longer waits.
+use Rattle.std.proofs.Common.{ap, subst, ◌<◌, ◌^◌}
+use Rattle.sg_seat.specs.WorldView.{is_blocked_phase}
+use Rattle.sg_seat.specs.declared.phase.Phase.TheVariants.{Receipted}
+use Rattle.sg_clients.proofs.Seats.{Reads, is_changed, is_read}
+use Rattle.sg_clients.proofs.Waking.{rests}
+use Rattle.sg_clients.proofs.clients.Clients.answer.Goals as goal
+
+-- the seat that is read is the client's
+reads : (c : goal.After-self-2-1) → Reads c.self.inside.seats.items c.args.self.now c.from.result c.args.client c.index_mut.result.now
+reads c = record { same = c.self.view_is; is = c.from.ensures; first = c.requires.client.0; last = c.requires.client.1; read = c.index_mut.ensures.value }
+
+pub invariant_of-self : goal.invariant_of-self
+invariant_of-self c = rests (reads c) c.waiting_without-self-inside.result c.answer.new.self c.waiting_without-self-inside.ensures.others (ap (λ s. is_blocked_phase s.phase) c.answer.ensures.seat)
+
+pub returns-clause-number : goal.returns-clause-number
+returns-clause-number c = subst (λ s. s.call.seq < 2 ^ 32) (is_read (reads c)) c.answer.ensures.number
+
+pub returns-clause-seats : goal.returns-clause-seats
+returns-clause-seats c = is_changed (reads c) (λ s. record s { phase = Receipted; seq = s.call.seq; reply = c.args.reply.now }) c.answer.new.self c.answer.ensures.seat
