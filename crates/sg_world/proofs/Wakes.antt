@@ -1,7 +1,7 @@
 -- Whoever an answered call wakes is found by the rows that are left after it.
-use Rattle.std.proofs.Common.{Bool, List, [], ap, arith, cond, false, filter, inl, inr, map, not, refl, subst, suc, sym, true, zero, ℕ, ◌&&◌, ◌++◌, ◌==◌, ◌||◌, ◌∙◌, ◌∷◌, ◌≡◌, ◌<◌}
+use Rattle.std.proofs.Common.{Bool, List, [], ap, arith, cond, false, filter, inl, inr, map, not, refl, subst, suc, sym, true, zero, ℕ, length, ◌&&◌, ◌++◌, ◌-◌, ◌≤◌, ◌==◌, ◌||◌, ◌∙◌, ◌∷◌, ◌≡◌, ◌<◌}
 use Rattle.std.specs.List.{list_any}
-use Rattle.std.specs.Prelude.{nat_lt}
+use Rattle.std.specs.Prelude.{nat_lt, slice_set}
 use Rattle.std.proofs.lemmas.Bool.Decides.{eqb_tells, nat_tests}
 use Rattle.sg_clients.specs.sg_seat.declared.phase.Phase.TheVariants.{Asked}
 use Rattle.sg_facts.specs.sg_base.Lists.{Each}
@@ -20,9 +20,10 @@ use Rattle.sg_facts.specs.declared.row.Row.{Row}
 use Rattle.sg_world_laws.specs.sg_recovery_laws.Midway.Progress.{IsNone}
 use Rattle.sg_world_laws.proofs.sg_recovery_laws.Objects.Guarded.{acts, keeps}
 use Rattle.sg_world_laws.proofs.sg_recovery_laws.Lists.{each_map}
-use Rattle.sg_clients.specs.sg_seat.WorldView.{Seat, is_blocked_phase, wakes_seat, woken_seat}
+use Rattle.sg_clients.specs.sg_seat.WorldView.{Seat, is_blocked_phase, seat_in, wakes_seat, woken_seat}
+use Rattle.sg_world_laws.proofs.sg_seat.Lines.{seat_here}
 use Rattle.sg_facts.proofs.Replaying.Found.{other_test, same_test}
-use Rattle.sg_world.specs.Inside.Waiting.{WaitOnLive}
+use Rattle.sg_world.specs.Inside.Waiting.{WaitOnLive, refuses}
 
 -- ---- seats that are woken
 
@@ -238,3 +239,20 @@ woken_by facts rows tracked call reply seats between later good is now waits one
 -- a refusal wakes nobody
 pub refusal_wakes : (facts : Facts) (rows : List Row) (call : Call) (reply : Reply) (seats : List Seat) (code : Code) → reply ≡ Refused code → seats ≡ map (woken_seat (wakes_seat facts rows call reply)) seats
 refusal_wakes facts rows call reply seats code is = subst (λ r. seats ≡ map (woken_seat (wakes_seat facts rows call r)) seats) (sym is) (sym (woken_none seats))
+
+-- where a reply refuses, it wakes nobody
+pub refused_wakes : (facts : Facts) (rows : List Row) (call : Call) (reply : Reply) (seats : List Seat) → refuses reply ≡ true → seats ≡ map (woken_seat (wakes_seat facts rows call reply)) seats
+refused_wakes facts rows call (Ok good) seats is = absurd (cc is)
+refused_wakes facts rows call (Refused code) seats is = refusal_wakes facts rows call (Refused code) seats code refl
+
+-- a reply that doesn't refuse is an Ok
+pub answered_ok : (reply : Reply) → refuses reply ≡ false → (good : Good) × (reply ≡ Ok good)
+answered_ok (Ok good) is = (good, refl)
+answered_ok (Refused code) is = absurd (cc is)
+
+pub refuses_so : (reply : Reply) (code : Code) → reply ≡ Refused code → refuses reply ≡ true
+refuses_so reply code is = ap refuses is
+
+-- the client's last call is the same where its seat was set, and not its call
+pub same_call : (seats later : List Seat) (client : ℕ) (new : Seat) (got : Call) → 1 ≤ client → client ≤ length seats → later ≡ slice_set seats (client - 1) new → got ≡ (seat_in later client).call → got ≡ new.call
+same_call seats later client new got first last set is = is ∙ ap (λ l. (seat_in l client).call) set ∙ ap (λ s. s.call) (seat_here seats client new first last)

@@ -1,12 +1,14 @@
 // A client's call that needs nothing any more reaches the service.
-ghost use Rattle.std.specs.Prelude.{◌≡◌, ◌≤◌, ℕ, false, true, None, IsSome, IfOk, OnErr, length};
+ghost use Rattle.std.specs.Prelude.{◌≡◌, ◌<◌, ◌≤◌, ◌+◌, ◌-◌, ◌^◌, ◌++◌, ◌∷◌, [], ℕ, false, true, None, IsSome, IfOk, OnErr, length, slice_set};
 ghost use Rattle.sg_clients.specs.Clients.{IsClient};
 ghost use Rattle.std.specs.declared.option.Option.{Option as IsOption};
 ghost use Rattle.sg_facts.specs.sg_base.Stops.{asked_after};
 ghost use Rattle.sg_facts.specs.Facts.{is_visible};
 ghost use Rattle.sg_facts.specs.declared.outcome.Patch.{Patch as IsPatch};
 ghost use Rattle.sg_replay.specs.Missing.{missing};
-ghost use Rattle.sg_clients.specs.sg_seat.WorldView.{seat_in, with_points};
+ghost use Rattle.sg_clients.specs.sg_seat.WorldView.{is_offered, seat_in, with_points};
+ghost use Rattle.sg_clients.specs.sg_seat.declared.phase.Phase.TheVariants.{Receipted};
+ghost use Rattle.sg_facts.specs.sg_base.Reply.{FitsReplyRoom};
 ghost use Rattle.sg_world.specs.Due.{needs_in};
 ghost use Rattle.sg_world.specs.Inners.{IsInOrder, KeepsRest, view_in};
 ghost use Rattle.sg_world.specs.Inside.Served.{HasServed, view_with};
@@ -15,9 +17,10 @@ ghost use Rattle.sg_world.specs.Worlded.{setting_of};
 
 use crate::did::Did;
 use crate::inner::Inner;
-use crate::waking::wake;
-use sg_clients::{Mark, MarkKind};
+use crate::waking::wake_by;
+use sg_clients::{Clients, Mark, MarkKind};
 use sg_facts::{NoMemory, Outcome, Patch, Path, Point, Reply, Service, Stops};
+use sg_replay::History;
 use std::alloc::Global;
 
 impl<S: Service, T: Stops> Inner<S, T> {
@@ -97,10 +100,12 @@ impl<S: Service, T: Stops> Inner<S, T> {
             → Commits z (with_points (view_with s.before self.old) asked) client (view_in self.new) }
         ensures rest { KeepsRest T.plan self.old self.new }
     {
-        let entry = self.clients.give(client, &reply);
-        self.engine.commit(&entry.call, reply, patch);
-        wake(&mut self.clients, &self.engine, &entry);
-        self.history.add(entry);
+        let is_refusal = matches!(reply, Reply::Refused(_));
+        enter(&mut self.clients, &mut self.history, client, &reply);
+        let call = self.clients.call(client);
+        let (fun, desc) = (call.fun, call.desc);
+        self.engine.commit(call, reply, patch);
+        wake_by(&mut self.clients, &self.engine, fun, desc, is_refusal);
         self.marks.add(Mark {
             client,
             kind: MarkKind::Entry,
@@ -121,5 +126,24 @@ impl<S: Service, T: Stops> Inner<S, T> {
     {
         let boot = self.engine.boot_number();
         self.clients.hold(client, boot, reply);
+    }
+}
+
+// A client's call is answered: its entry comes into the history, and its reply is to be handed over. It takes no memory.
+fn enter(clients: &mut Clients, history: &mut History, client: u8, reply: &Reply)
+    requires client { IsClient (length clients.old) client }
+    requires offers { is_offered (seat_in clients.old client).phase ≡ true }
+    requires fits { FitsReplyRoom reply.now }
+    requires room { 0 < history.old.room }
+    ensures number { (seat_in clients.old client).call.seq < 2 ^ 32 }
+    ensures history { history.new.items ≡ history.old.items ++ record { call = (seat_in clients.old client).call; reply = reply.now } ∷ [] }
+    ensures room { history.old.room ≤ history.new.room + 1 }
+    ensures seats { let s = seat_in clients.old client in clients.new ≡ slice_set clients.old (client - 1) (record s { phase = Receipted; seq = s.call.seq; reply = reply.now }) }
+{
+    if history.add_lent(clients.call(client), reply) {
+        clients.answer(client, reply);
+    } else {
+        let entry = clients.give(client, reply);
+        history.add(entry);
     }
 }

@@ -2,9 +2,11 @@
 ghost use Rattle.std.specs.Prelude.{◌≡◌, ◌&&◌, List, map, nat_lt, not};
 ghost use Rattle.sg_facts.specs.Track.{is_live};
 ghost use Rattle.sg_facts.specs.Inside.Rows.{track};
+ghost use Rattle.sg_facts.specs.sg_base.declared.call.Call.{Call as IsCall};
+ghost use Rattle.sg_facts.specs.sg_base.declared.reply.Reply.{Reply as IsReply};
 ghost use Rattle.sg_clients.specs.sg_seat.WorldView.{wakes_seat, woken_seat};
 ghost use Rattle.sg_facts.specs.declared.row.Row.{Row as IsRow};
-ghost use Rattle.sg_world.specs.Inside.Waiting.{WaitOnLive};
+ghost use Rattle.sg_world.specs.Inside.Waiting.{WaitOnLive, refuses};
 
 use sg_clients::Clients;
 use sg_facts::{Entry, Reply, Service};
@@ -16,13 +18,30 @@ pub(crate) fn wake<S: Service>(clients: &mut Clients, engine: &Engine<S>, entry:
         (rows : List IsRow) → engine.now.tracked.rows ≡ track facts rows entry.now.call entry.now.reply → WaitOnLive facts rows entry.now.call clients.old
         → clients.new ≡ map (woken_seat (wakes_seat facts rows entry.now.call entry.now.reply)) clients.old }
 {
-    let interface = engine.interface();
-    let fun = interface.fun(entry.call.fun);
-    if matches!(entry.reply, Reply::Refused(_)) {
+    let is_refusal = matches!(entry.reply, Reply::Refused(_));
+    wake_by(clients, engine, entry.call.fun, entry.call.desc, is_refusal);
+}
+
+/// The same, by the function and the descriptor of the call, and by whether it was refused.
+pub(crate) fn wake_by<S: Service>(
+    clients: &mut Clients,
+    engine: &Engine<S>,
+    fun: u8,
+    desc: u64,
+    is_refusal: bool,
+)
+    ensures { let facts = engine.now.tables.iface.facts in
+        (rows : List IsRow) (call : IsCall) (reply : IsReply) → call.fun ≡ fun → call.desc ≡ desc → refuses reply ≡ is_refusal
+        → engine.now.tracked.rows ≡ track facts rows call reply → WaitOnLive facts rows call clients.old
+        → clients.new ≡ map (woken_seat (wakes_seat facts rows call reply)) clients.old }
+{
+    if is_refusal {
         return;
     }
+    let interface = engine.interface();
+    let fun = interface.fun(fun);
     if fun.wakes() || fun.is_terminal() {
-        clients.wake(entry.call.desc);
+        clients.wake(desc);
     }
     if fun.is_terminal() && interface.shape.subtree {
         clients.wake_where(

@@ -3,7 +3,7 @@ use Rattle.std.proofs.Common.{is_some, ap, sym, not, ◌∙◌, ◌&&◌}
 use Rattle.sg_facts.specs.Track.{is_live}
 use Rattle.sg_replay.proofs.Committed.{copied_some, row_live}
 use Rattle.sg_world.proofs.Wakes.{above_none, flip}
-use Rattle.sg_world.proofs.waking.fn.wake.wake_where.Goals as goal
+use Rattle.sg_world.proofs.waking.fn.wake_by.wake_where.Goals as goal
 
 pub returns-then-desc-gt0 : goal.returns-then-desc-gt0
 returns-then-desc-gt0 g c =
