@@ -1,0 +1,9 @@
+pub mod Beginning
+pub mod Calling
+pub mod Ending
+pub mod Keeping
+pub mod Member
+pub mod Merging
+pub mod Own
+pub mod Running
+pub mod Stepping

@@ -1,0 +1,7 @@
+pub mod Calls
+pub mod Ends
+pub mod Inside
+pub mod Merged
+pub mod Playable
+pub mod Played
+pub mod Playing

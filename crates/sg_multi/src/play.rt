@@ -1,0 +1,221 @@
+// A play over several services: whose turn it is, and the play to its end.
+ghost use Rattle.std.specs.Prelude.{◌≡◌, ◌≤◌, [], IfOk, OnOk, length, map};
+ghost use Rattle.sg_facts.specs.sg_base.Lists.{Each};
+ghost use Rattle.sg_members.specs.sg_load.Services.{facts_by};
+ghost use Rattle.sg_members.specs.sg_sim.sg_plain.Calls.{most_client};
+ghost use Rattle.sg_members.specs.sg_sim.sg_script.Scripts.{most_members};
+ghost use Rattle.sg_multi.specs.Inside.Beginning.{AreNewMembers};
+ghost use Rattle.sg_multi.specs.Inside.Ended.{AreEndedMembers, IsEndedMember};
+ghost use Rattle.sg_multi.specs.Inside.Turns.{KeepsRunning, NobodyGoesNow, SameMembers};
+ghost use Rattle.sg_multi.specs.Playable.{IsMultiPlayable};
+ghost use Rattle.sg_multi.specs.Played.{IsMultiPlayed, stubs_by, stubs_in};
+
+use crate::ended::{EndedList, MemberList, MultiEnd, MultiEnded};
+use crate::ends::{ends_at, ends_of};
+use crate::running::Running;
+use crate::whose::next_turn;
+use sg_facts::{NoMemory, RoomyList, Tables, TryCopy, WalkList};
+use sg_members::{AtPoints, Ended, Given, Member, Members, ServiceKind, most_client};
+use sg_script::MultiScript;
+use std::alloc::Global;
+use std::marker::Model;
+
+/// The greatest number of turns of a play. Each turn adds to the trace or to the history of a world, so that a play of more turns wants
+/// memory.
+const MOST_TURNS: u64 = u64::MAX;
+
+/// The tables of a member, and the service that they are for.
+#[derive(Debug, Drop)]
+pub struct MemberTables {
+    pub service: ServiceKind,
+    pub tables: Tables,
+}
+
+/// A play of a script over several services: its clients make their calls, turn by turn, each call on its member, whose service may stop.
+/// A client has one call at a time over all members. Contracts see it as plain data.
+#[derive(Debug, Drop)]
+pub struct MultiPlay {
+    running: Running,
+    script: MultiScript,
+}
+
+impl Model for MultiPlay {
+    ghost use Rattle.sg_multi.specs.Inside.Turns.{KeepsRunning};
+    ghost use Rattle.sg_multi.specs.Playing.{MultiPlaying};
+
+    ghost Value = { MultiPlaying };
+
+    ghost view = { λ p. record { members = p.running.members; script = p.script; passed = p.running.passed; last = p.running.last } };
+
+    ghost invariant = { λ p. KeepsRunning p.script p.running };
+}
+
+impl MultiPlay {
+    /// The play of a script for members with these tables, which are copied. Nothing was done in it.
+    pub fn new(
+        alloc: Global,
+        members: &[MemberTables],
+        script: MultiScript,
+    ) -> Result<MultiPlay, NoMemory>
+        requires services { Each (λ t. t.tables.iface.facts ≡ facts_by t.service) members.now }
+        requires playable { IsMultiPlayable (map (λ t. t.tables.iface) members.now) script }
+        ensures members { IfOk result (λ p. map stubs_in p.members ≡ map stubs_by members.now) }
+        ensures script { IfOk result (λ p. p.script ≡ script) }
+        ensures passed { IfOk result (λ p. p.passed ≡ 0) }
+        ensures last { IfOk result (λ p. p.last ≡ 0) }
+    {
+        let clients = most_client(script.clients.as_slice());
+        let given = Given::new(alloc, clients)?;
+        let members = members_of(alloc, members, &script, clients)?;
+        Ok(MultiPlay {
+            running: Running {
+                members,
+                given,
+                order: RoomyList::new(alloc),
+                passed: 0,
+                last: 0,
+            },
+            script,
+        })
+    }
+
+    /// Plays all that is left, to the end: until no client can take a turn. `NoMemory` also where a step of some world wanted memory.
+    pub fn play(&mut self, alloc: Global) -> Result<MultiEnded, NoMemory>
+        ensures played { IfOk result (IsMultiPlayed (map stubs_in self.old.members) self.old.script) }
+        ensures members { SameMembers self.old.members self.new.members }
+        ensures script { self.new.script ≡ self.old.script }
+    {
+        come_to_end(alloc, &mut self.running, &self.script)?;
+        ended(alloc, &self.running, &self.script)
+    }
+
+    /// Ends the play where it stands.
+    pub fn abandon(self) {
+        self.running.members.abandon();
+    }
+}
+
+// The worlds of members in which nothing was done, with clients from 1 to so many, which stop where the script says.
+fn members_of(
+    alloc: Global,
+    tables: &[MemberTables],
+    script: &MultiScript,
+    clients: u8,
+) -> Result<Members, NoMemory>
+    requires services { Each (λ t. t.tables.iface.facts ≡ facts_by t.service) tables.now }
+    requires playable { IsMultiPlayable (map (λ t. t.tables.iface) tables.now) script.now }
+    requires clients { clients ≡ most_client script.now.clients }
+    ensures { IfOk result (AreNewMembers tables.now script.now.stops clients) }
+{
+    let mut members = Members::new(alloc);
+    match add_members(alloc, &mut members, tables, script, clients) {
+        Ok(()) => Ok(members),
+        Err(NoMemory) => {
+            members.abandon();
+            Err(NoMemory)
+        }
+    }
+}
+
+// Adds all of them to none.
+fn add_members(
+    alloc: Global,
+    members: &mut Members,
+    tables: &[MemberTables],
+    script: &MultiScript,
+    clients: u8,
+) -> Result<(), NoMemory>
+    requires none { members.old ≡ [] }
+    requires services { Each (λ t. t.tables.iface.facts ≡ facts_by t.service) tables.now }
+    requires playable { IsMultiPlayable (map (λ t. t.tables.iface) tables.now) script.now }
+    requires clients { clients ≡ most_client script.now.clients }
+    ensures { OnOk result (AreNewMembers tables.now script.now.stops clients members.new) }
+{
+    'tables: for place in 0..tables.len() {
+        let its = &tables[place];
+        let stops = AtPoints::new(script.stops.as_slice()[place].copy(alloc)?);
+        members.add(
+            alloc,
+            its.service,
+            copied(alloc, &its.tables)?,
+            clients,
+            stops,
+        )?;
+    }
+    Ok(())
+}
+
+// Equal tables.
+fn copied(alloc: Global, tables: &Tables) -> Result<Tables, NoMemory>
+    ensures { IfOk result (λ copy. copy ≡ tables.now) }
+{
+    let interface = tables.interface().copy(alloc)?;
+    let walks = WalkList::from_slice(alloc, tables.lines())?;
+    Ok(Tables::new(interface, walks))
+}
+
+// Plays turn by turn until no client can take one.
+fn come_to_end(alloc: Global, running: &mut Running, script: &MultiScript) -> Result<(), NoMemory>
+    requires keeps { KeepsRunning script.now running.old }
+    ensures keeps { KeepsRunning script.now running.new }
+    ensures same { SameMembers running.old.members running.new.members }
+    ensures over { OnOk result (NobodyGoesNow script.now running.new) }
+{
+    'turns: for _ in 0..MOST_TURNS {
+        let Some(turn) = next_turn(running, script) else {
+            return Ok(());
+        };
+        running.take_turn(alloc, script, turn.client)?;
+        running.passed = turn.passed;
+        running.last = turn.client;
+    }
+    Err(NoMemory)
+}
+
+// What a play came to, where nobody can take a turn.
+fn ended(alloc: Global, running: &Running, script: &MultiScript) -> Result<MultiEnded, NoMemory>
+    requires keeps { KeepsRunning script.now running.now }
+    requires over { NobodyGoesNow script.now running.now }
+    ensures { IfOk result (IsMultiPlayed (map stubs_in running.now.members) script.now) }
+{
+    let ends = ends_of(alloc, running, script)?;
+    let members = ended_members(alloc, running.members.as_slice(), ends.as_slice())?;
+    let order = MemberList::from_slice(alloc, running.order.as_slice())?;
+    Ok(MultiEnded::new(order, members, ends))
+}
+
+// What the runs of members came to, whose clients ended so.
+fn ended_members(
+    alloc: Global,
+    members: &[Member],
+    ends: &[(u8, MultiEnd)],
+) -> Result<EndedList, NoMemory>
+    requires { length members.now ≤ most_members }
+    ensures { IfOk result (AreEndedMembers members.now ends.now) }
+{
+    let mut ended = EndedList::new(alloc);
+    let mut number: u8 = 0;
+    'members: for member in members {
+        number += 1;
+        ended.push(ended_member(alloc, member, number, ends)?)?;
+    }
+    Ok(ended)
+}
+
+// What the run of the member of a number came to, from 1, where the clients ended so. `NoMemory` also where a step of its world wanted
+// memory.
+fn ended_member(
+    alloc: Global,
+    member: &Member,
+    number: u8,
+    ends: &[(u8, MultiEnd)],
+) -> Result<Ended, NoMemory>
+    ensures { IfOk result (IsEndedMember ends.now number member.now) }
+{
+    if member.refused() > 0 {
+        return Err(NoMemory);
+    }
+    member.tell();
+    let known = ends_at(alloc, number, ends)?;
+    member.ended(alloc, known)
+}

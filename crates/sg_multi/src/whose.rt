@@ -1,0 +1,94 @@
+// Whose turn it is.
+ghost use Rattle.std.specs.Prelude.{◌≡◌, ◌≤◌, ◌<◌, IfSome, None, true};
+ghost use Rattle.sg_members.specs.sg_sim.sg_plain.Calls.{most_client};
+ghost use Rattle.sg_multi.specs.Inside.Turns.{KeepsRunning, NobodyGoesNow, NoneBehind, is_at_setup};
+
+use crate::running::Running;
+use sg_members::most_client;
+use sg_script::MultiScript;
+
+/// The first client, which makes the calls of the setup.
+const FIRST: u8 = 1;
+
+/// A turn that is to be taken: its client, and how many turns of the schedule are after it.
+#[derive(Clone, Copy, Debug)]
+pub(crate) struct Turn {
+    pub(crate) client: u8,
+    pub(crate) passed: usize,
+}
+
+/// Whose turn it is: client 1's until the setup is done, then who the schedule says and can, then who is next and can; None only where
+/// nobody can.
+pub(crate) fn next_turn(running: &Running, script: &MultiScript) -> Option<Turn>
+    requires keeps { KeepsRunning script.now running.now }
+    ensures first { IfSome result (λ turn. 1 ≤ turn.client) }
+    ensures last { IfSome result (λ turn. turn.client ≤ most_client script.now.clients) }
+    ensures setup { IfSome result (λ turn. is_at_setup script.now running.now ≡ true → turn.client ≡ 1) }
+    ensures over { result ≡ None → NobodyGoesNow script.now running.now }
+{
+    if running.is_setting_up(script) {
+        return Some(Turn {
+            client: FIRST,
+            passed: running.passed,
+        });
+    }
+    match next_scheduled(running, script) {
+        Some(turn) => Some(turn),
+        None => next_in_circle(running, script),
+    }
+}
+
+// The next turn of the schedule whose client can take it.
+fn next_scheduled(running: &Running, script: &MultiScript) -> Option<Turn>
+    requires keeps { KeepsRunning script.now running.now }
+    ensures first { IfSome result (λ turn. 1 ≤ turn.client) }
+    ensures last { IfSome result (λ turn. turn.client ≤ most_client script.now.clients) }
+{
+    let schedule = script.schedule.as_slice();
+    let clients = most_client(script.clients.as_slice());
+    for at in running.passed..schedule.len() {
+        let client = schedule[at];
+        if client >= FIRST && client <= clients && running.can_go(script, client) {
+            return Some(Turn {
+                client,
+                passed: at + 1,
+            });
+        }
+    }
+    None
+}
+
+// The turn of the next client that can take one: in ascending numbers after the client of the last turn, and then from 1 on. The schedule
+// is over then.
+fn next_in_circle(running: &Running, script: &MultiScript) -> Option<Turn>
+    requires keeps { KeepsRunning script.now running.now }
+    ensures first { IfSome result (λ turn. 1 ≤ turn.client) }
+    ensures last { IfSome result (λ turn. turn.client ≤ most_client script.now.clients) }
+    ensures over { result ≡ None → NobodyGoesNow script.now running.now }
+{
+    let passed = script.schedule.len();
+    let clients = most_client(script.clients.as_slice());
+    if let Some(client) = next_behind(running, script, running.last, clients) {
+        return Some(Turn { client, passed });
+    }
+    match next_behind(running, script, 0, running.last) {
+        Some(client) => Some(Turn { client, passed }),
+        None => None,
+    }
+}
+
+// The first client after one, and up to another, that can take a turn.
+fn next_behind(running: &Running, script: &MultiScript, behind: u8, last: u8) -> Option<u8>
+    requires keeps { KeepsRunning script.now running.now }
+    requires last { last ≤ most_client script.now.clients }
+    ensures first { IfSome result (λ client. 1 ≤ client) }
+    ensures last { IfSome result (λ client. client ≤ last) }
+    ensures none { result ≡ None → NoneBehind script.now running.now behind last }
+{
+    'clients: for before in behind..last {
+        if running.can_go(script, before + 1) {
+            return Some(before + 1);
+        }
+    }
+    None
+}
