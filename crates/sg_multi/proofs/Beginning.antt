@@ -1,12 +1,11 @@
 -- Where a play over several services begins.
-use Rattle.std.proofs.Common.{◌≡◌, ◌≢◌, ℕ, zero, suc, ◌+◌, ◌-◌, ◌<◌, ◌≤◌, true, false, List, [], ◌∷◌, Some, length, map, take, replicate, refl, sym, ◌∙◌, ap, subst, arith}
+use Rattle.std.proofs.Common.{◌≡◌, ℕ, zero, suc, ◌-◌, ◌≤◌, true, List, [], ◌∷◌, Some, length, map, take, replicate, refl, sym, ◌∙◌, ap, subst, arith}
 use Rattle.std.specs.Prelude.{slice_get, unwrap_or}
 use Rattle.std.proofs.lemmas.List.{length-replicate}
 use Rattle.sg_facts.specs.sg_base.Lists.{Each}
 use Rattle.sg_facts.specs.Interface.{Declared}
 use Rattle.sg_facts.specs.Limits.{last_client}
 use Rattle.sg_facts.specs.Tables.{Compiled}
-use Rattle.sg_facts.specs.declared.entry.Entry.{Entry}
 use Rattle.sg_members.proofs.sg_sim.Beginning.{new_seat}
 use Rattle.sg_members.specs.Members.{kind_in, setting_by, setting_in, view_in, world_in}
 use Rattle.sg_members.specs.declared.member.Member.{Member}
@@ -15,15 +14,13 @@ use Rattle.sg_members.specs.sg_load.declared.kind.ServiceKind.{ServiceKind}
 use Rattle.sg_members.specs.sg_load.declared.kind.ServiceKind.TheVariants.{Locks, Events, Pages, Files, Threads, Timers}
 use Rattle.sg_members.specs.sg_sim.sg_plain.Calls.{most_client}
 use Rattle.sg_members.specs.sg_sim.sg_plain.Playing.Callers.{is_receipted}
-use Rattle.sg_members.specs.sg_sim.sg_plain.Playing.Given.{GaveIds, given_in}
 use Rattle.sg_members.specs.sg_sim.sg_plain.Playing.Playable.{AreClients}
 use Rattle.sg_members.specs.sg_sim.sg_play.Waking.Waking.{no_query_waits}
 use Rattle.sg_members.specs.sg_sim.sg_script.declared.multi.MultiCall.{MultiCall}
 use Rattle.sg_members.specs.sg_sim.sg_script.declared.multi.MultiScript.{MultiScript}
 use Rattle.sg_members.specs.sg_sim.sg_seat.WorldView.{Seat, WorldView, is_offered, new_world, no_seat, seat_of}
-use Rattle.sg_multi.specs.Inside.Beginning.{AreNewMembers}
+use Rattle.sg_multi.specs.Beginning.{AreNewMembers}
 use Rattle.sg_multi.specs.Inside.Keeps.{IsMultiCaller, KeepsMulti, all_of_first, interfaces_of}
-use Rattle.sg_multi.specs.Merged.{Merges, MultiEntry, entries_in}
 use Rattle.sg_multi.specs.Playable.{IsMultiPlayable}
 use Rattle.sg_multi.specs.Played.{stubs_by, stubs_in}
 use Rattle.sg_multi.specs.declared.play.MemberTables.{MemberTables}
@@ -34,12 +31,12 @@ use Rattle.sg_multi.proofs.Member.{member_new}
 use Rattle.sg_multi.proofs.Merging.{at_mapped, shown_alike, there_is, there_within}
 
 -- there is a first client, and no more than there may be
-first_client : (above : ℕ) (clients : List (ℕ × List MultiCall)) → AreClients above clients → 1 ≤ most_client clients
+pub first_client : (above : ℕ) (clients : List (ℕ × List MultiCall)) → AreClients above clients → 1 ≤ most_client clients
 first_client above [] are = omega arith
 first_client above (c ∷ []) are = omega (arith, are.0)
 first_client above (c ∷ d ∷ clients) are = first_client c.0 (d ∷ clients) are.2
 
-last_within : (above : ℕ) (clients : List (ℕ × List MultiCall)) → AreClients above clients → most_client clients ≤ last_client
+pub last_within : (above : ℕ) (clients : List (ℕ × List MultiCall)) → AreClients above clients → most_client clients ≤ last_client
 last_within above [] are = omega arith
 last_within above (c ∷ []) are = are.1
 last_within above (c ∷ d ∷ clients) are = last_within c.0 (d ∷ clients) are.2

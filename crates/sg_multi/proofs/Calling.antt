@@ -1,24 +1,20 @@
 -- A client's calls over several members, where an entry is made and where a reply is handed over.
-use Rattle.std.proofs.Common.{◌≡◌, ◌≢◌, ◌⊎◌, ℕ, zero, suc, ◌+◌, ◌-◌, ◌<◌, ◌≤◌, true, false, List, [], ◌∷◌, ◌++◌, Some, None, length, map, take, refl, sym, ◌∙◌, ap, subst, inl, inr, arith, length-append}
+use Rattle.std.proofs.Common.{◌≡◌, ◌≢◌, ℕ, zero, suc, ◌+◌, ◌-◌, ◌≤◌, true, false, List, [], ◌∷◌, ◌++◌, Some, length, map, take, refl, sym, ◌∙◌, ap, subst, arith, length-append}
 use Rattle.std.specs.Prelude.{slice_get}
 use Rattle.std.proofs.lemmas.List.{map-append}
 use Rattle.sg_facts.specs.sg_base.declared.call.Call.{Call}
 use Rattle.sg_facts.specs.declared.entry.Entry.{Entry}
-use Rattle.sg_facts.specs.Facts.{Facts}
 use Rattle.sg_facts.specs.Interface.{Declared}
 use Rattle.sg_members.proofs.sg_sim.sg_play.sg_plain.Playing.Resolving.{resolved_more, resolved_on}
-use Rattle.sg_members.specs.sg_sim.sg_plain.Calls.{resolved_by}
 use Rattle.sg_members.specs.sg_sim.sg_plain.Playing.Callers.{is_receipted}
 use Rattle.sg_members.specs.sg_sim.sg_plain.Playing.Given.{GaveIds}
 use Rattle.sg_members.specs.sg_sim.sg_plain.Script.{call_fits}
-use Rattle.sg_members.specs.sg_sim.sg_play.sg_hist.Clients.{calls_of}
 use Rattle.sg_members.specs.sg_sim.sg_play.sg_hist.Inside.Reads.{desc_of}
 use Rattle.sg_members.specs.sg_sim.sg_script.declared.multi.MultiCall.{MultiCall}
 use Rattle.sg_members.specs.sg_sim.sg_script.declared.multi.MultiScript.{MultiScript}
-use Rattle.sg_members.specs.sg_sim.sg_script.declared.script.ScriptCall.{ScriptCall}
 use Rattle.sg_members.specs.sg_sim.sg_seat.WorldView.{Seat, is_offered}
 use Rattle.sg_multi.specs.Calls.{AreFirstMultiCalls, IsCallOf, multi_calls}
-use Rattle.sg_multi.specs.Inside.Callers.{HasReceipt, IsSeatOf, Offers}
+use Rattle.sg_multi.specs.Inside.Callers.{IsSeatOf}
 use Rattle.sg_multi.specs.Merged.{MultiEntry, entries_in, own_in}
 use Rattle.sg_multi.specs.Playable.{AllFit, FitsMember}
 use Rattle.sg_multi.proofs.Merging.{calls_in, entries_more, length_mapped}

@@ -1,17 +1,15 @@
 -- What a play over several services promises, where nobody can take a turn.
-use Rattle.std.proofs.Common.{◌≡◌, ◌≢◌, ◌⊎◌, ℕ, zero, suc, ◌+◌, ◌-◌, ◌<◌, ◌≤◌, Bool, true, false, cond, not, List, [], ◌∷◌, ◌++◌, Some, None, filter, flat_map, length, map, refl, sym, ◌∙◌, ap, subst, inl, inr, arith, append-nil, append_assoc}
+use Rattle.std.proofs.Common.{◌≡◌, ◌≢◌, ℕ, zero, suc, ◌+◌, ◌-◌, ◌<◌, ◌≤◌, Bool, true, false, cond, not, List, [], ◌∷◌, ◌++◌, Some, None, filter, flat_map, length, map, refl, sym, ◌∙◌, ap, subst, arith, append-nil, append_assoc}
 use Rattle.std.specs.Prelude.{◌==◌, ◌&&◌, ◌||◌, nat_le, nat_lt, slice_get, unwrap_or}
 use Rattle.std.specs.List.{list_all, list_any}
 use Rattle.std.specs.Option.{option_map_or}
 use Rattle.std.specs.declared.option.Option.{Option}
 use Rattle.std.proofs.lemmas.Bool.Decides.{nat_tests}
-use Rattle.sg_edge.specs.Stops.{AscendsAbove, up_to}
-use Rattle.sg_facts.specs.Facts.{Facts}
+use Rattle.sg_members.specs.sg_edge.Stops.{AscendsAbove, up_to}
 use Rattle.sg_facts.specs.Interface.{Declared}
 use Rattle.sg_facts.specs.Legal.{IsLegal, answer}
 use Rattle.sg_facts.specs.Object.{object_of}
 use Rattle.sg_facts.specs.Trace.{run_of}
-use Rattle.sg_facts.specs.declared.entry.Entry.{Entry}
 use Rattle.sg_facts.specs.sg_base.Lists.{Each}
 use Rattle.sg_facts.specs.sg_base.declared.call.Call.{Call}
 use Rattle.sg_facts.proofs.Legality.{IsLegal-from}
@@ -26,21 +24,20 @@ use Rattle.sg_members.specs.declared.member.Member.{Member}
 use Rattle.sg_members.specs.sg_sim.Played.{IsOfWorld}
 use Rattle.sg_members.specs.sg_sim.sg_plain.Calls.{ascending_from, most_client}
 use Rattle.sg_members.specs.sg_sim.sg_plain.Playing.Callers.{is_receipted}
-use Rattle.sg_members.specs.sg_sim.sg_plain.Playing.Given.{GaveIds, given_in}
+use Rattle.sg_members.specs.sg_sim.sg_plain.Playing.Given.{given_in}
 use Rattle.sg_members.specs.sg_sim.sg_plain.Playing.Ends.{ends_from}
 use Rattle.sg_members.specs.sg_sim.sg_plain.Playing.Turns.{NobodyGoes, may_go}
 use Rattle.sg_members.specs.sg_sim.sg_plain.Promises.{AreWoken}
 use Rattle.sg_members.specs.sg_sim.sg_play.Recovering.{RecoversSoFar}
 use Rattle.sg_members.specs.sg_sim.sg_play.sg_hist.Clients.{AreNumbered}
 use Rattle.sg_members.specs.sg_sim.sg_play.sg_hist.Ending.{HasRecovered}
-use Rattle.sg_members.specs.sg_sim.sg_play.sg_hist.Inside.Parts.{IsStillBlocked, waiting_in, waking_entries}
-use Rattle.sg_members.specs.sg_sim.sg_play.sg_hist.Recovered.{IsRecovered, Stubs, struck_in, waiting}
-use Rattle.sg_members.specs.sg_sim.sg_play.sg_hist.declared.ended.End.{End}
+use Rattle.sg_members.specs.sg_sim.sg_play.sg_hist.Inside.Parts.{IsStillBlocked, waiting_in}
+use Rattle.sg_members.specs.sg_sim.sg_play.sg_hist.Recovered.{IsRecovered, struck_in, waiting}
 use Rattle.sg_members.specs.sg_sim.sg_play.sg_hist.declared.ended.End.TheVariants.{Done as done, Blocked as blocked}
 use Rattle.sg_members.specs.sg_sim.sg_play.sg_hist.declared.ended.Ended.{Ended}
 use Rattle.sg_members.specs.sg_sim.sg_script.declared.multi.MultiCall.{MultiCall}
 use Rattle.sg_members.specs.sg_sim.sg_script.declared.multi.MultiScript.{MultiScript}
-use Rattle.sg_members.specs.sg_sim.sg_seat.WorldView.{Seat, WorldView, is_blocked_phase, is_offered, no_seat, offered_by, seat_in, seat_of, unanswered}
+use Rattle.sg_members.specs.sg_sim.sg_seat.WorldView.{Seat, WorldView, is_blocked_phase, is_offered, no_seat, offered_by, seat_of, unanswered}
 use Rattle.sg_members.specs.sg_sim.sg_seat.declared.phase.Phase.{Phase}
 use Rattle.sg_members.specs.sg_sim.sg_seat.declared.phase.Phase.TheVariants.{Idle, Asked, Held, Receipted, Blocked as Waits, Left}
 use Rattle.sg_members.specs.sg_sim.sg_world_laws.Setting.{Setting, stubs_of}
@@ -50,9 +47,9 @@ use Rattle.sg_multi.specs.Inside.Callers.{IsSeatOf}
 use Rattle.sg_multi.specs.Inside.Ended.{AreEndedMembers}
 use Rattle.sg_multi.specs.Inside.Keeps.{IsMultiCaller, KeepsMulti, interfaces_of}
 use Rattle.sg_multi.specs.Inside.Member.{KeepsMember}
-use Rattle.sg_multi.specs.Inside.Turns.{NobodyGoesOn, end_of_client, ends_up_to, may_go_on, next_of, seat_at}
+use Rattle.sg_multi.specs.Inside.Turns.{NobodyGoesOn, end_of_client, ends_up_to, next_of, seat_at}
 use Rattle.sg_multi.specs.Merged.{Merges, MultiEntry, entries_at, own_in}
-use Rattle.sg_multi.specs.Played.{IsMemberPlayed, IsMultiPlayed, MultiCame, stubs_in}
+use Rattle.sg_multi.specs.Played.{IsMemberPlayed, IsMultiPlayed, stubs_in}
 use Rattle.sg_multi.specs.declared.ended.MultiEnd.{MultiEnd}
 use Rattle.sg_multi.specs.declared.ended.MultiEnd.TheVariants.{Done, Blocked}
 use Rattle.sg_multi.proofs.Calling.{fits_at, no_more}

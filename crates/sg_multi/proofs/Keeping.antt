@@ -1,12 +1,10 @@
 -- A play over several services keeps what it keeps, at an offer, at a step, and where one wants memory.
-use Rattle.std.proofs.Common.{◌≡◌, ◌≢◌, ◌⊎◌, ℕ, zero, suc, ◌+◌, ◌-◌, ◌<◌, ◌≤◌, Bool, true, false, cond, List, [], ◌∷◌, ◌++◌, Some, None, length, map, take, refl, sym, ◌∙◌, ap, subst, inl, inr, arith, slice_set, length-append}
+use Rattle.std.proofs.Common.{◌≡◌, ◌≢◌, ◌⊎◌, ℕ, zero, suc, ◌+◌, ◌-◌, ◌<◌, ◌≤◌, Bool, true, false, cond, List, [], ◌∷◌, ◌++◌, Some, length, map, take, refl, sym, ◌∙◌, ap, subst, inl, inr, arith, slice_set, length-append}
 use Rattle.std.specs.Prelude.{◌==◌, ◌&&◌, nat_lt, slice_get, unwrap_or}
 use Rattle.std.proofs.lemmas.Bool.{and_parts}
 use Rattle.std.proofs.lemmas.Bool.Decides.{nat_tests}
 use Rattle.sg_facts.specs.sg_base.declared.call.Call.{Call}
 use Rattle.sg_facts.specs.sg_base.declared.reply.Reply.{Reply}
-use Rattle.sg_facts.specs.declared.entry.Entry.{Entry}
-use Rattle.sg_facts.specs.Interface.{Declared}
 use Rattle.sg_facts.specs.Tables.{Compiled}
 use Rattle.sg_facts.proofs.Replaying.Found.{same_test}
 use Rattle.sg_members.proofs.sg_sim.sg_play.Waking.Shapes.{call_is_next, call_is_own}
@@ -43,7 +41,7 @@ use Rattle.sg_multi.specs.Played.{stubs_in}
 use Rattle.sg_multi.proofs.Calling.{call_grown, few_given, first_grown, first_more, first_same, fits_at, gave_front, gave_last, gave_same, last_member, offers_alone, receipt_alone, seat_free, seat_goes_on}
 use Rattle.sg_multi.proofs.Member.{member_happened, member_stepped, member_wanted}
 use Rattle.sg_multi.proofs.Merging.{last_at, length_kept, map_kept, map_set, mapped_at, merges_push, merges_same, own_more, own_same, set_cases, set_elsewhere, set_there, there_is}
-use Rattle.sg_multi.proofs.Stepping.{Answers, Enters, GoesOn, GoesQuietly, HandsOver, IsQuiet, OthersGoOn, goes_quietly, goes_same, is_answered}
+use Rattle.sg_multi.proofs.Stepping.{Answers, Enters, GoesOn, GoesQuietly, HandsOver, IsQuiet, clients_kept, goes_quietly, goes_same, is_answered}
 
 -- ---- lists of descriptors
 
@@ -530,6 +528,13 @@ module _ (members later : List Member) (script : MultiScript) (given : List (Lis
         by : Answers w c reply now → KeptBy (Answered reply)
         by (inl h) = order_same (with_handed given c (Some (desc_of reply))) h.number (kept_handed c first last (desc_of reply) member h reply answers.0 answers.1 refl)
         by (inr e) = order_more (with_handed given c (Some (desc_of reply))) (e.number ∙ number e.offered) (kept_answered c first last (desc_of reply) member reply e turn refl)
+
+  -- it leaves as many clients
+  pub seats_stay : (c : ℕ) → 1 ≤ c → c ≤ most_client script.clients → (did : Did) → HasStepped (setting_in m) w c did now → length now.seats ≡ length w.seats
+  seats_stay c first last did steps =
+      let within : c ≤ length w.seats = omega (arith, last, is.clients place m changes.there) in
+      let own = is.each place m changes.there in
+      clients_kept (setting_in m) w c first within (call_is_own (setting_in m).iface.facts own.script w.history c (seat_of w c) (own.playing.callers.each c first within)) did now steps
 
   -- a step wanted memory
   pub kept_wanted : (c : ℕ) → WantsMemory (setting_in m) w c now → KeepsMulti later script given order

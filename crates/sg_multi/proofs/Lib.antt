@@ -1,9 +1,11 @@
 pub mod Beginning
 pub mod Calling
+pub mod EndLists
 pub mod Ending
+pub mod Growing
 pub mod Keeping
 pub mod Member
 pub mod Merging
 pub mod Own
-pub mod Running
 pub mod Stepping
+pub mod Turning

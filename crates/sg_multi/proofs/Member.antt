@@ -1,13 +1,11 @@
 -- A member's world goes on to be that of a play of its own, whatever is done in it.
-use Rattle.std.proofs.Common.{◌≡◌, ◌⊎◌, ℕ, ◌+◌, ◌-◌, ◌<◌, ◌≤◌, ◌^◌, Bool, true, false, cond, List, [], ◌∷◌, ◌++◌, Some, length, map, refl, sym, ◌∙◌, ap, subst, inl, inr, arith, replicate, slice_set}
-use Rattle.std.specs.Prelude.{nat_lt, slice_get}
+use Rattle.std.proofs.Common.{◌≡◌, ℕ, ◌+◌, ◌-◌, ◌<◌, ◌≤◌, ◌^◌, true, cond, List, [], ◌∷◌, ◌++◌, length, refl, sym, ◌∙◌, ap, subst, inl, inr, arith, replicate, slice_set}
+use Rattle.std.specs.Prelude.{nat_lt}
 use Rattle.std.proofs.lemmas.Bool.Decides.{nat_tests}
 use Rattle.std.proofs.lemmas.List.{length-replicate}
 use Rattle.sg_facts.specs.sg_base.declared.call.Call.{Call}
 use Rattle.sg_facts.specs.sg_base.declared.reply.Reply.{Reply}
 use Rattle.sg_facts.specs.sg_base.declared.value.Value.{Value}
-use Rattle.sg_facts.specs.declared.entry.Entry.{Entry}
-use Rattle.sg_facts.specs.declared.shape.Kind.{Kind}
 use Rattle.sg_facts.specs.Facts.{fun_at}
 use Rattle.sg_facts.specs.Interface.{declares}
 use Rattle.sg_facts.specs.Kinds.{AreWords, FitsKinds}
@@ -16,14 +14,14 @@ use Rattle.sg_facts.specs.Limits.{last_client, most_script_calls}
 use Rattle.sg_facts.specs.Object.{empty_object}
 use Rattle.sg_members.proofs.sg_sim.Beginning.{playing_new}
 use Rattle.sg_members.proofs.sg_sim.sg_play.Offering.{next_here, next_is, offered_playing}
-use Rattle.sg_members.proofs.sg_sim.sg_play.Turning.{stepped_handed, stepped_quiet, wanted}
+use Rattle.sg_members.proofs.sg_sim.sg_play.Turning.{stepped_handed, stepped_quiet}
 use Rattle.sg_members.proofs.sg_sim.sg_play.Waking.Shapes.{call_is_next, call_is_own}
 use Rattle.sg_members.proofs.sg_sim.sg_play.Waking.Turned.{stepped}
-use Rattle.sg_members.proofs.sg_sim.sg_play.Waking.Waking.{waking_new, waking_offer, waking_wanted}
-use Rattle.sg_members.proofs.sg_sim.sg_play.Withdrawn.{withdrawn_stepped, withdrawn_wanted}
+use Rattle.sg_members.proofs.sg_sim.sg_play.Waking.Waking.{waking_new, waking_offer}
+use Rattle.sg_members.proofs.sg_sim.sg_play.Withdrawn.{withdrawn_stepped}
 use Rattle.sg_members.proofs.sg_sim.sg_play.sg_world.sg_world_laws.Entered.{numbered_push}
 use Rattle.sg_members.proofs.sg_sim.sg_play.sg_plain.sg_seat.Lines.{length_set}
-use Rattle.sg_members.specs.sg_sim.sg_plain.Calls.{ascending_from, call_after, most_client}
+use Rattle.sg_members.specs.sg_sim.sg_plain.Calls.{ascending_from, call_after}
 use Rattle.sg_members.specs.sg_sim.sg_plain.Playing.Callers.{IsCaller, handed, is_setting_up}
 use Rattle.sg_members.specs.sg_sim.sg_plain.Playing.Given.{given_in}
 use Rattle.sg_members.specs.sg_sim.sg_plain.Playing.Plays.{IsPlaying}
@@ -46,7 +44,7 @@ use Rattle.sg_members.specs.sg_sim.sg_world.Steps.{AnswersLast, HasStepped, Want
 use Rattle.sg_members.specs.sg_sim.sg_world_laws.Setting.{Setting}
 use Rattle.sg_multi.specs.Inside.Member.{KeepsMember}
 use Rattle.sg_multi.proofs.Stepping.{Answers, Enters, GoesQuietly, goes_quietly, is_answered}
-use Rattle.sg_multi.proofs.Own.{desc_literal, empty_all, empty_most, empty_playable, empty_script, grown, grown_all, grown_playable, grown_playing, literal_call, new_next, values_literal}
+use Rattle.sg_multi.proofs.Own.{empty_all, empty_most, empty_playable, empty_script, grown, grown_all, grown_playing, new_next}
 
 -- without a setup nobody is at it
 never_below : (n : ℕ) → nat_lt n 0 ≡ true → ⊥

@@ -1,9 +1,7 @@
 -- The script of what each client called at one member, with numbers in place of `$k`, where a client calls once more.
-use Rattle.std.proofs.Common.{◌≡◌, ◌≢◌, ◌⊎◌, ℕ, zero, suc, ◌+◌, ◌-◌, ◌<◌, ◌≤◌, Bool, true, false, cond, List, [], ◌∷◌, ◌++◌, Some, None, length, map, take, refl, sym, ◌∙◌, ap, subst, inl, inr, arith, length-append}
+use Rattle.std.proofs.Common.{◌≡◌, ◌≢◌, ◌⊎◌, ℕ, zero, suc, ◌+◌, ◌-◌, ◌<◌, ◌≤◌, Bool, true, false, cond, List, [], ◌∷◌, ◌++◌, Some, length, map, take, refl, sym, ◌∙◌, ap, subst, inl, inr, arith, length-append}
 use Rattle.std.specs.Prelude.{◌==◌, ◌&&◌, slice_get}
 use Rattle.std.proofs.lemmas.Bool.{and_parts}
-use Rattle.std.proofs.lemmas.Bool.Decides.{nat_tests}
-use Rattle.sg_facts.specs.sg_base.declared.call.Call.{Call}
 use Rattle.sg_facts.specs.declared.entry.Entry.{Entry}
 use Rattle.sg_facts.specs.declared.shape.Kind.{Kind}
 use Rattle.sg_facts.specs.declared.shape.Kind.TheVariants.{Desc, Parent, Word as IsWord, Text as IsText}
@@ -12,7 +10,7 @@ use Rattle.sg_facts.specs.Interface.{Declared, declares}
 use Rattle.sg_facts.specs.Limits.{last_client, most_script_calls}
 use Rattle.sg_facts.proofs.Replaying.Found.{other_test, same_test}
 use Rattle.sg_members.proofs.sg_sim.sg_play.sg_plain.sg_seat.Lines.{same_or_other}
-use Rattle.sg_members.specs.sg_sim.sg_plain.Calls.{ascending_from, call_after, most_client, part_of, resolved_by, script_calls}
+use Rattle.sg_members.specs.sg_sim.sg_plain.Calls.{ascending_from, most_client, part_of, script_calls}
 use Rattle.sg_members.specs.sg_sim.sg_plain.Inside.Turns.{resolved}
 use Rattle.sg_members.specs.sg_sim.sg_plain.Playing.Callers.{IsCaller}
 use Rattle.sg_members.specs.sg_sim.sg_plain.Playing.Playable.{AreClients, IsPlayable}

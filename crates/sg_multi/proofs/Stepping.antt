@@ -1,8 +1,7 @@
 -- What a step of a member's world does to its clients' calls: nothing, or a call comes into the history, or a reply is handed over.
-use Rattle.std.proofs.Common.{◌≡◌, ◌≢◌, ◌⊎◌, ℕ, ◌-◌, ◌≤◌, Bool, true, false, List, [], ◌∷◌, ◌++◌, length, map, refl, sym, ◌∙◌, ap, subst, inl, inr, arith, slice_set}
+use Rattle.std.proofs.Common.{◌≡◌, ◌≢◌, ◌⊎◌, ℕ, ◌-◌, ◌≤◌, Bool, true, false, List, [], ◌∷◌, ◌++◌, length, refl, sym, ◌∙◌, ap, subst, inl, inr, arith, slice_set}
 use Rattle.sg_facts.specs.sg_base.declared.call.Call.{Call}
 use Rattle.sg_facts.specs.sg_base.declared.reply.Reply.{Reply}
-use Rattle.sg_facts.specs.declared.entry.Entry.{Entry}
 use Rattle.sg_facts.specs.Facts.{Facts}
 use Rattle.sg_facts.specs.Object.{object_of}
 use Rattle.sg_members.proofs.sg_sim.sg_play.sg_world.sg_world_laws.Ending.Shapes.{answered_seats, given_seats, seat_behind, woken}
@@ -198,3 +197,23 @@ module _ (z : Setting) (w : WorldView) (c : ℕ) (first : 1 ≤ c) (last : c ≤
       by : Answers w c reply stepped.later → Answers w c reply (happened stepped.later)
       by (inl h) = inl (record { was = h.was; same = h.same; clients = h.clients; phase = h.phase; number = h.number; others = h.others })
       by (inr e) = inr (record { offered = e.offered; entered = e.entered; clients = e.clients; phase = e.phase; number = e.number; others = e.others })
+
+  -- the clients are as many
+  quiet_clients : (now : WorldView) → GoesQuietly w c now → length now.seats ≡ length w.seats
+  quiet_clients now (inl q) = q.clients
+  quiet_clients now (inr (reply, e)) = e.clients
+
+  answered_clients : (reply : Reply) (now : WorldView) → Answers w c reply now → length now.seats ≡ length w.seats
+  answered_clients reply now (inl h) = h.clients
+  answered_clients reply now (inr e) = e.clients
+
+  pub clients_kept : (did : Did) (now : WorldView) → HasStepped z w c did now → length now.seats ≡ length w.seats
+  clients_kept Skipped now stepped = quiet_clients now (goes_quietly Skipped now (λ reply answered. cc answered) stepped)
+  clients_kept Struck now stepped = quiet_clients now (goes_quietly Struck now (λ reply answered. cc answered) stepped)
+  clients_kept Booted now stepped = quiet_clients now (goes_quietly Booted now (λ reply answered. cc answered) stepped)
+  clients_kept Replayed now stepped = quiet_clients now (goes_quietly Replayed now (λ reply answered. cc answered) stepped)
+  clients_kept Loaded now stepped = quiet_clients now (goes_quietly Loaded now (λ reply answered. cc answered) stepped)
+  clients_kept Served now stepped = quiet_clients now (goes_quietly Served now (λ reply answered. cc answered) stepped)
+  clients_kept Waits now stepped = quiet_clients now (goes_quietly Waits now (λ reply answered. cc answered) stepped)
+  clients_kept Lost now stepped = quiet_clients now (goes_quietly Lost now (λ reply answered. cc answered) stepped)
+  clients_kept (Answered reply) now stepped = answered_clients reply now (is_answered reply now stepped)

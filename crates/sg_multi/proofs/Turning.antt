@@ -1,41 +1,56 @@
 -- What a turn of a client does to the worlds of the members and to how far the clients have come.
-use Rattle.std.proofs.Common.{◌≡◌, ◌≢◌, ℕ, zero, suc, ◌+◌, ◌-◌, ◌<◌, ◌≤◌, Bool, true, false, cond, List, [], ◌∷◌, ◌++◌, Some, filter, length, map, take, refl, sym, ◌∙◌, ap, subst, arith, slice_set}
-use Rattle.std.specs.Prelude.{◌==◌, nat_lt, slice_get, slice_index_or}
+use Rattle.std.proofs.Common.{◌≡◌, ℕ, zero, suc, ◌+◌, ◌-◌, ◌<◌, ◌≤◌, ◌^◌, Bool, true, false, cond, List, [], ◌∷◌, ◌++◌, Some, filter, length, map, take, refl, sym, ◌∙◌, ap, subst, arith, slice_set}
+use Rattle.std.specs.Prelude.{◌==◌, OnErr, OnOk, nat_lt, slice_get, slice_index_or}
+use Rattle.std.specs.Option.{option_map_or}
+use Rattle.std.specs.declared.option.Option.{Option}
+use Rattle.std.specs.declared.result.Result.{Result}
+use Rattle.std.specs.declared.result.Result.TheVariants.{Ok, Err}
 use Rattle.sg_facts.specs.sg_base.Room.{Roomy}
 use Rattle.sg_facts.specs.sg_base.declared.call.Call.{Call}
-use Rattle.sg_facts.specs.sg_base.declared.value.Value.{Value}
 use Rattle.sg_facts.specs.declared.entry.Entry.{Entry}
 use Rattle.sg_facts.specs.Facts.{fun_at}
-use Rattle.sg_facts.specs.Interface.{Declared}
-use Rattle.sg_facts.specs.Kinds.{AreWords}
+use Rattle.sg_facts.specs.Interface.{Declared, declares}
+use Rattle.sg_facts.specs.Kinds.{AreWords, FitsKinds}
 use Rattle.sg_facts.specs.Limits.{most_script_calls}
 use Rattle.sg_facts.specs.Tables.{Compiled}
 use Rattle.sg_members.specs.Members.{ChangesAt, kind_in, setting_by, setting_in, view_in, world_in}
 use Rattle.sg_members.specs.declared.member.Member.{Member}
 use Rattle.sg_members.specs.sg_load.declared.kind.ServiceKind.{ServiceKind}
 use Rattle.sg_members.specs.sg_sim.Inside.Givens.{lists_of}
-use Rattle.sg_members.specs.sg_sim.sg_plain.Calls.{most_client, resolved_by}
+use Rattle.sg_members.specs.sg_sim.sg_plain.Calls.{most_client}
 use Rattle.sg_members.specs.sg_sim.sg_plain.Playing.Given.{GaveIds, given_in, with_handed}
 use Rattle.sg_members.specs.sg_sim.sg_plain.Playing.Turns.{is_free_phase}
 use Rattle.sg_members.specs.sg_sim.sg_plain.Script.{call_fits, desc_among, values_of}
 use Rattle.sg_members.specs.sg_sim.sg_play.NextCall.{IsResolved}
 use Rattle.sg_members.specs.sg_sim.sg_play.Recovering.{RecoversSoFar}
+use Rattle.sg_members.specs.sg_sim.sg_play.Turning.{handed_by}
 use Rattle.sg_members.specs.sg_sim.sg_play.declared.calls.NextCall.{NextCall}
 use Rattle.sg_members.specs.sg_sim.sg_play.sg_clients.Clients.{IsClient}
 use Rattle.sg_members.specs.sg_sim.sg_play.sg_hist.Clients.{calls_of}
+use Rattle.sg_members.specs.sg_sim.sg_play.sg_hist.Recovered.{Stubs}
 use Rattle.sg_members.specs.sg_sim.sg_script.declared.multi.MultiCall.{MultiCall}
 use Rattle.sg_members.specs.sg_sim.sg_script.declared.multi.MultiScript.{MultiScript}
-use Rattle.sg_members.specs.sg_sim.sg_seat.WorldView.{Seat, WorldView, happened, offered, seat_of}
+use Rattle.sg_members.specs.sg_sim.sg_seat.WorldView.{IsFree, WorldView, happened, no_seat, offered, seat_of}
+use Rattle.sg_members.specs.sg_sim.sg_seat.declared.phase.Phase.{Phase}
+use Rattle.sg_members.specs.sg_sim.sg_seat.declared.phase.Phase.TheVariants.{Idle, Asked, Held, Receipted, Blocked, Left}
+use Rattle.sg_members.specs.sg_sim.sg_world.Steps.{AnswersLast, HasStepped, WantsMemory}
+use Rattle.sg_members.specs.sg_sim.sg_world.declared.did.Did.{Did}
 use Rattle.sg_multi.specs.Calls.{IsCallOf, multi_calls}
-use Rattle.sg_multi.specs.Inside.Keeps.{IsMultiCaller, KeepsMulti, interfaces_of}
-use Rattle.sg_multi.specs.Inside.Turns.{next_of}
+use Rattle.sg_multi.specs.Inside.Keeps.{KeepsMulti, interfaces_of, is_multi_setting_up}
+use Rattle.sg_multi.specs.Inside.Turns.{KeepsRunning, SameMembers, next_of, seat_at}
 use Rattle.sg_multi.specs.Merged.{MultiEntry, entries_at, entries_in, own_in}
 use Rattle.sg_multi.specs.Playable.{FitsMember}
-use Rattle.sg_multi.proofs.Beginning.{its_interface}
+use Rattle.sg_multi.specs.Played.{AreOfMembers, stubs_in}
+use Rattle.sg_multi.specs.Inside.Ended.{AreEndedMembers}
+use Rattle.sg_multi.specs.declared.ended.MultiEnd.{MultiEnd}
+use Rattle.sg_members.specs.sg_sim.sg_script.Scripts.{most_members}
+use Rattle.sg_members.specs.sg_sim.sg_play.sg_hist.declared.ended.Ended.{Ended}
+use Rattle.sg_multi.specs.declared.running.Running.{Running}
+use Rattle.sg_multi.proofs.Beginning.{first_client, its_interface}
 use Rattle.sg_multi.proofs.Calling.{fits_at}
-use Rattle.sg_multi.proofs.Keeping.{all_handed, kept_offered}
+use Rattle.sg_multi.proofs.Keeping.{all_handed, kept_happened, kept_offered, kept_step, kept_wanted, same_members, seats_stay}
 use Rattle.sg_multi.proofs.Member.{MayBeOffered, may_be_offered}
-use Rattle.sg_multi.proofs.Merging.{at_mapped, calls_at, calls_in, length_mapped, mapped_at, there_within}
+use Rattle.sg_multi.proofs.Merging.{at_mapped, calls_at, calls_in, length_mapped, mapped_at, set_there, there_within}
 use Rattle.sg_multi.proofs.Own.{call_literal, desc_literal, literal_call, values_literal}
 
 -- ---- lists
@@ -65,7 +80,32 @@ take_whole [] (suc n) is = absurd (cc is)
 take_whole (x ∷ xs) zero is = absurd (cc is)
 take_whole (x ∷ xs) (suc n) is = ap (λ l. x ∷ l) (take_whole xs n (omega (arith, is)))
 
+-- ---- results and phases
+
+pub either : {A E : Type 0} (P Q R : Type 0) (r : Result A E) → OnOk r P → OnErr r Q → (P → R) → (Q → R) → R
+either P Q R (Ok a) p q one other = one p
+either P Q R (Err e) p q one other = other q
+
+pub free_is : (p : Phase) → is_free_phase p ≡ true → IsFree p
+free_is Idle free = tt
+free_is Left free = tt
+free_is Asked free = absurd (cc free)
+free_is Held free = absurd (cc free)
+free_is Receipted free = absurd (cc free)
+free_is Blocked free = absurd (cc free)
+
 -- ---- members
+
+-- what holds of the member of a number holds of the one at its place
+pub at_place : (P : Member → Type 0) (members : List Member) (n number : ℕ) (m : Member) → n ≡ number → slice_get members (number - 1) ≡ Some m → P m → (x : Member) → slice_get members (n - 1) ≡ Some x → P x
+at_place P members n number m same there holds x at =
+    let both : Some m ≡ Some x = sym there ∙ ap (λ k. slice_get members (k - 1)) (sym same) ∙ at in
+    let its : m ≡ x = cc both in
+    subst P its holds
+
+-- the member at a place has this seat of a client
+pub seat_is : (members : List Member) (place : ℕ) (m : Member) (client : ℕ) → slice_get members place ≡ Some m → seat_at members place client ≡ seat_of (view_in m) client
+seat_is members place m client there = ap (λ o. option_map_or (λ (x : Member). seat_of (view_in x) client) o no_seat) there
 
 -- what a world tells of itself after a change
 pub told_back : (old new : Member) (now : WorldView) → kind_in new ≡ kind_in old → (world_in new).tables ≡ (world_in old).tables → view_in new ≡ now → RecoversSoFar (setting_in new) (view_in new) → RecoversSoFar (setting_in old) now
@@ -167,6 +207,15 @@ module _ (members : List Member) (script : MultiScript) (lists : List (Roomy ℕ
         pub may_offer : MayBeOffered (setting_in m) w client given_call
         may_offer = subst (MayBeOffered (setting_in m) w client) same_call may
 
+        pub numbered_here : (seat_of w client).seq + 1 < 2 ^ 32
+        numbered_here = may_offer.numbered
+
+        pub declared_here : declares (world_in m).tables.iface made.fun ≡ true
+        declared_here = subst (λ i. declares i made.fun ≡ true) (sym setting_iface) may_offer.declared
+
+        pub fits_here : FitsKinds (world_in m).tables.iface.facts given_call
+        fits_here = subst (λ (i : Declared). FitsKinds i.facts given_call) (sym setting_iface) may_offer.fits
+
         its : IsCallOf (interfaces_of members) is.merged client call (place + 1) given_call
         its = record {
           iface = (world_in m).tables.iface;
@@ -181,3 +230,113 @@ module _ (members : List Member) (script : MultiScript) (lists : List (Roomy ℕ
 
         pub offered_keeps : (later : List Member) → ChangesAt members place m (happened (offered w client given_call)) later → KeepsMulti later script given order
         offered_keeps later changes = kept_offered members later script given order place m (happened (offered w client given_call)) changes is client first last free call next its_place given_call its refl may_offer.keeps
+
+        -- what the offer came to
+        pub offered_at : {E : Type 0} (n : ℕ) → n ≡ call.member → (later : List Member) (r : Result Unit E) → ((x : Member) → slice_get members (n - 1) ≡ Some x → OnOk r (ChangesAt members (n - 1) x (happened (offered (view_in x) client (record { client = client; seq = (seat_of (view_in x) client).seq + 1; fun = made.fun; desc = made.desc; args = made.args }))) later))
+            → ((x : Member) → slice_get members (n - 1) ≡ Some x → OnErr r (ChangesAt members (n - 1) x (happened (view_in x)) later)) → KeepsMulti later script given order × SameMembers members later
+        offered_at n same later r ok err =
+            let its_there = ap (λ k. slice_get members (k - 1)) same ∙ there in
+            either (ChangesAt members (n - 1) m (happened (offered w client given_call)) later) (ChangesAt members (n - 1) m (happened w) later) (KeepsMulti later script given order × SameMembers members later) r
+            (ok m its_there) (err m its_there)
+            (λ changes. let at = subst (λ k. ChangesAt members (k - 1) m (happened (offered w client given_call)) later) same changes in
+            (offered_keeps later at, same_members members later script given order place m (happened (offered w client given_call)) at is))
+            (λ changes. let at = subst (λ k. ChangesAt members (k - 1) m (happened w) later) same changes in
+            (kept_happened members later script given order place m (happened w) at is refl, same_members members later script given order place m (happened w) at is))
+
+-- ---- a step
+
+module _ (members : List Member) (script : MultiScript) (given : List (List ℕ)) (order : List ℕ) (is : KeepsMulti members script given order) (client : ℕ) (first : 1 ≤ client)
+    (last : client ≤ most_client script.clients) (member n : ℕ) (some : 1 ≤ member) (its : n ≡ member) (m : Member) (there : slice_get members (member - 1) ≡ Some m) (later : List Member) where
+  place_there : slice_get members (n - 1) ≡ Some m
+  place_there = ap (λ k. slice_get members (k - 1)) its ∙ there
+
+  number_is : n - 1 + 1 ≡ member
+  number_is = omega (arith, some, its)
+
+  -- what is kept where an entry of a member is noted, if the client's count in its world has grown
+  abbrev KeptAt : Did → ℕ → WorldView → Type 0
+  KeptAt did k v = KeepsMulti later script (with_handed given client (handed_by did)) (cond (nat_lt (seat_of (view_in m) client).seq (seat_of v client).seq) (order ++ k ∷ []) order)
+
+  -- what a step of a client came to at its member, which was read again
+  pub stepped_at : (turn : is_multi_setting_up script given ≡ true → client ≡ 1) → RecoversSoFar (setting_in m) (view_in m) → (did : Did) (x : Member) → slice_get later (member - 1) ≡ Some x → RecoversSoFar (setting_in x) (view_in x)
+      → ((y : Member) → slice_get members (n - 1) ≡ Some y → (now : WorldView) × ChangesAt members (n - 1) y now later × HasStepped (setting_in y) (view_in y) client did now × AnswersLast now client did)
+      → KeepsMulti later script (with_handed given client (handed_by did)) (cond (nat_lt (seat_of (view_in m) client).seq (seat_of (view_in x) client).seq) (order ++ member ∷ []) order)
+  stepped_at turn before did x at told came = by (came m place_there)
+    where
+      by : (now : WorldView) × ChangesAt members (n - 1) m now later × HasStepped (setting_in m) (view_in m) client did now × AnswersLast now client did → KeptAt did member (view_in x)
+      by (now, changes, steps, answers) =
+          let both : Some x ≡ Some changes.new = sym at ∙ ap (λ k. slice_get later (k - 1)) (sym its) ∙ ap (λ l. slice_get l (n - 1)) changes.are ∙ set_there members (n - 1) m changes.new changes.there in
+          let new : x ≡ changes.new = cc both in
+          let view : view_in x ≡ now = ap (λ (y : Member). view_in y) new ∙ changes.view_is in
+          let behind : RecoversSoFar (setting_in m) now = told_back m changes.new now changes.kind changes.tables changes.view_is (subst (λ (y : Member). RecoversSoFar (setting_in y) (view_in y)) new told) in
+          subst (λ k. KeptAt did k (view_in x)) number_is
+          (subst (KeptAt did (n - 1 + 1)) (sym view) (kept_step members later script given order (n - 1) m now changes is client first last turn before behind did steps answers))
+
+  -- the members stay, and there are as many
+  pub stepped_same : (did : Did) → ((y : Member) → slice_get members (n - 1) ≡ Some y → (now : WorldView) × ChangesAt members (n - 1) y now later × HasStepped (setting_in y) (view_in y) client did now × AnswersLast now client did)
+      → SameMembers members later
+  stepped_same did came = let k = came m place_there in same_members members later script given order (n - 1) m k.0 k.1 is
+
+  -- the clients of the member are as many
+  pub stepped_seats : (did : Did) → ((y : Member) → slice_get members (n - 1) ≡ Some y → (now : WorldView) × ChangesAt members (n - 1) y now later × HasStepped (setting_in y) (view_in y) client did now × AnswersLast now client did)
+      → (x : Member) → slice_get later (member - 1) ≡ Some x → IsClient (length (view_in x).seats) client
+  stepped_seats did came x at = (first, subst (λ k. client ≤ k) (sym (count (came m place_there))) last)
+    where
+      count : (now : WorldView) × ChangesAt members (n - 1) m now later × HasStepped (setting_in m) (view_in m) client did now × AnswersLast now client did → length (view_in x).seats ≡ most_client script.clients
+      count (now, changes, steps, answers) =
+          let both : Some x ≡ Some changes.new = sym at ∙ ap (λ k. slice_get later (k - 1)) (sym its) ∙ ap (λ l. slice_get l (n - 1)) changes.are ∙ set_there members (n - 1) m changes.new changes.there in
+          let new : x ≡ changes.new = cc both in
+          ap (λ (y : Member). length (view_in y).seats) new ∙ ap (λ (v : WorldView). length v.seats) changes.view_is ∙ seats_stay members later script given order (n - 1) m now changes is client first last did steps ∙ is.clients (n - 1) m place_there
+
+  -- a step that wanted memory
+  pub wanted_at : ((y : Member) → slice_get members (n - 1) ≡ Some y → (now : WorldView) × ChangesAt members (n - 1) y now later × WantsMemory (setting_in y) (view_in y) client now)
+      → KeepsMulti later script given order × SameMembers members later
+  wanted_at came =
+      let k = came m place_there in
+      (kept_wanted members later script given order (n - 1) m k.0 k.1 is client k.2, same_members members later script given order (n - 1) m k.0 k.1 is)
+
+-- as many members
+pub as_many : (members later : List Member) → SameMembers members later → length later ≡ length members
+as_many members later same = sym (length_mapped stubs_in later) ∙ ap (λ (l : List Stubs). length l) same ∙ length_mapped stubs_in members
+
+-- ---- all that changes
+
+-- memory was taken
+pub reserved_keeps : (script : MultiScript) (r q : Running) → q.members ≡ r.members → lists_of q.given ≡ lists_of r.given → q.order.items ≡ r.order.items → q.last ≡ r.last → KeepsRunning script r → KeepsRunning script q
+reserved_keeps script r q members lists items last is = record {
+  keeps = subst (λ ms. KeepsMulti ms script (lists_of q.given) q.order.items) (sym members)
+      (subst (λ l. KeepsMulti r.members script l q.order.items) (sym lists) (subst (KeepsMulti r.members script (lists_of r.given)) (sym items) is.keeps));
+  last_there = subst (λ n. n ≤ most_client script.clients) (sym last) is.last_there;
+}
+
+-- there is a first client
+pub first_there : (script : MultiScript) (r : Running) → KeepsRunning script r → 1 ≤ most_client script.clients
+first_there script r is = first_client 0 script.clients is.keeps.playable.clients
+
+-- the member of an entry was noted where one was made, and then what the client was given where a reply was handed over
+pub noted_keeps : (script : MultiScript) (q : Running) (later : List Member) (a b : Running) (client member : ℕ) (did : Did) (handed : Option ℕ) (made : Bool) (old new : ℕ) → made ≡ nat_lt old new → handed ≡ handed_by did
+    → a.order.items ≡ cond made (q.order.items ++ member ∷ []) q.order.items → a ≡ record q { members = later; order = a.order }
+    → lists_of b.given ≡ with_handed (lists_of a.given) client handed → b ≡ record a { given = b.given } → q.last ≤ most_client script.clients
+    → KeepsMulti later script (with_handed (lists_of q.given) client (handed_by did)) (cond (nat_lt old new) (q.order.items ++ member ∷ []) q.order.items) → KeepsRunning script b
+noted_keeps script q later a b client member did handed made old new is_made is_handed items rest_a lists rest_b last kept =
+    let members : b.members ≡ later = ap (λ (x : Running). x.members) rest_b ∙ ap (λ (x : Running). x.members) rest_a in
+    let given : lists_of b.given ≡ with_handed (lists_of q.given) client (handed_by did)
+    = lists ∙ ap (λ (x : Running). with_handed (lists_of x.given) client handed) rest_a ∙ ap (with_handed (lists_of q.given) client) is_handed in
+    let order : b.order.items ≡ cond (nat_lt old new) (q.order.items ++ member ∷ []) q.order.items
+    = ap (λ (x : Running). x.order.items) rest_b ∙ items ∙ ap (λ t. cond t (q.order.items ++ member ∷ []) q.order.items) is_made in
+    record {
+      keeps = subst (λ ms. KeepsMulti ms script (lists_of b.given) b.order.items) (sym members)
+          (subst (λ l. KeepsMulti later script l b.order.items) (sym given) (subst (KeepsMulti later script (with_handed (lists_of q.given) client (handed_by did))) (sym order) kept));
+      last_there = subst (λ n. n ≤ most_client script.clients) (sym (ap (λ (x : Running). x.last) rest_b ∙ ap (λ (x : Running). x.last) rest_a)) last;
+    }
+
+-- there are no more members than there may be
+pub few_members : (script : MultiScript) (r : Running) → KeepsRunning script r → length r.members ≤ most_members
+few_members script r is = subst (λ n. n ≤ most_members) (length_mapped (λ (x : Member). (world_in x).tables.iface) r.members) is.keeps.playable.at_most
+
+-- what the runs of members came to is what their worlds have done
+pub of_members : (members : List Member) (ends : List (ℕ × MultiEnd)) (ended : List Ended) → AreEndedMembers members ends ended → AreOfMembers members ended
+of_members members ends ended are place m e there at = (are.each place m e there at).its
+
+pub at_zero : (n : ℕ) → n ≤ 0 → n ≡ 0
+at_zero n none = omega (arith, none)

@@ -1,5 +1,4 @@
 -- What the contracts of private functions cite.
-pub mod Beginning
 pub mod Callers
 pub mod Ended
 pub mod Keeps

@@ -1,7 +1,7 @@
 -- Which scripts are played over several members.
 use Rattle.std.specs.Prelude.{ℕ, ◌≡◌, ◌+◌, ◌-◌, ◌≤◌, true, not, nat_le, List, [], ◌∷◌, Some, length, slice_get}
 use Rattle.std.specs.List.{list_all}
-use Rattle.sg_edge.specs.Stops.{AscendsAbove}
+use Rattle.sg_members.specs.sg_edge.Stops.{AscendsAbove}
 use Rattle.sg_facts.specs.sg_base.Lists.{Each}
 use Rattle.sg_facts.specs.Facts.{fun_at}
 use Rattle.sg_facts.specs.Interface.{Declared}

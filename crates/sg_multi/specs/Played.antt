@@ -1,10 +1,10 @@
 -- What a play over several services promises.
 use Rattle.std.specs.Prelude.{ℕ, ◌≡◌, ◌+◌, nat_le, List, [], Some, filter, length, map, slice_get}
 use Rattle.sg_facts.specs.Legal.{IsLegal}
-use Rattle.sg_facts.specs.Tables.{Compiled}
 use Rattle.sg_facts.specs.Trace.{run_of}
-use Rattle.sg_members.specs.Members.{setting_by, setting_in}
+use Rattle.sg_members.specs.Members.{setting_by, setting_in, view_in}
 use Rattle.sg_members.specs.declared.member.Member.{Member}
+use Rattle.sg_members.specs.sg_sim.Played.{IsOfWorld}
 use Rattle.sg_members.specs.sg_sim.sg_plain.Promises.{AreWoken}
 use Rattle.sg_members.specs.sg_sim.sg_play.sg_hist.Clients.{AreNumbered}
 use Rattle.sg_members.specs.sg_sim.sg_play.sg_hist.Ending.{HasRecovered}
@@ -58,3 +58,7 @@ pub record IsMultiPlayed (members : List Stubs) (script : MultiScript) (came : M
   pub calls : AreMultiCalls (map (λ s. s.interface) members) script merged
   -- each client with a call is done, or waits in its next call, which its member can't answer
   pub ends : AreMultiEnds members merged script came.ends
+
+-- these runs are what the worlds of the members have done, place by place
+abbrev pub AreOfMembers : List Member → List Ended → Type 0
+AreOfMembers members ended = (place : ℕ) (m : Member) (e : Ended) → slice_get members place ≡ Some m → slice_get ended place ≡ Some e → IsOfWorld (view_in m) e

@@ -1,11 +1,11 @@
 // How clients end over several services.
-ghost use Rattle.std.specs.Prelude.{◌≡◌, ◌≤◌, IfOk};
+ghost use Rattle.std.specs.Prelude.{◌≡◌, ◌++◌, ◌≤◌, IfOk, OnOk};
 ghost use Rattle.sg_members.specs.sg_sim.Inside.Givens.{lists_of};
 ghost use Rattle.sg_members.specs.sg_sim.sg_plain.Calls.{most_client};
 ghost use Rattle.sg_members.specs.sg_sim.sg_plain.Playing.Playable.{AreClients};
 ghost use Rattle.sg_multi.specs.Calls.{has_multi_calls};
 ghost use Rattle.sg_multi.specs.Ends.{end_at, ends_at};
-ghost use Rattle.sg_multi.specs.Inside.Turns.{KeepsRunning, end_of_client, ends_up_to};
+ghost use Rattle.sg_multi.specs.Inside.Turns.{KeepsRunning, end_by, end_of_client, ends_up_to};
 
 use crate::ended::{MultiEnd, MultiEndList};
 use crate::running::Running;
@@ -25,11 +25,30 @@ pub(crate) fn ends_of(
 {
     let mut ends = MultiEndList::new(alloc);
     'clients: for before in 0..most_client(script.clients.as_slice()) {
-        if has_calls(script, before + 1) {
-            ends.push((before + 1, end_of(alloc, running, script, before + 1)?))?;
-        }
+        add_end(alloc, running, script, before + 1, &mut ends)?;
     }
     Ok(ends)
+}
+
+// Adds how a client ends, where it has a call.
+fn add_end(
+    alloc: Global,
+    running: &Running,
+    script: &MultiScript,
+    client: u8,
+    ends: &mut MultiEndList,
+) -> Result<(), NoMemory>
+    requires first { 1 ≤ client }
+    requires last { client ≤ most_client script.now.clients }
+    requires keeps { KeepsRunning script.now running.now }
+    ensures { OnOk result (ends.new ≡ ends.old ++ end_by running.now.members script.now (lists_of running.now.given) client) }
+{
+    if !has_calls(script, client) {
+        return Ok(());
+    }
+    let end = end_of(alloc, running, script, client)?;
+    ends.push((client, end))?;
+    Ok(())
 }
 
 // Whether a client has a call.
@@ -37,13 +56,13 @@ fn has_calls(script: &MultiScript, client: u8) -> bool
     requires { AreClients 0 script.now.clients }
     ensures { result ≡ has_multi_calls script.now client }
 {
-    call_with_setup(
+    let found = call_with_setup(
         script.setup.as_slice(),
         script.clients.as_slice(),
         client,
         0,
-    )
-    .is_some()
+    );
+    found.is_some()
 }
 
 // How a client ends.
@@ -61,7 +80,7 @@ fn end_of(
     match running.next_call(script, client) {
         Some(call) => Ok(MultiEnd::Blocked {
             member: call.member,
-            call: running.call(script, client, call.member).copy(alloc)?,
+            call: running.call(client, call.member).copy(alloc)?,
         }),
         None => Ok(MultiEnd::Done),
     }
@@ -76,9 +95,8 @@ pub(crate) fn ends_at(
     ensures { IfOk result (λ known. known ≡ ends_at member ends.now) }
 {
     let mut known = EndList::new(alloc);
-    'ends: for place in 0..ends.len() {
-        let (client, end) = &ends[place];
-        known.push((*client, end_at(alloc, member, end)?))?;
+    'ends: for pair in ends {
+        known.push((pair.0, end_at(alloc, member, &pair.1)?))?;
     }
     Ok(known)
 }

@@ -1,20 +1,24 @@
 // A play over several services: whose turn it is, and the play to its end.
-ghost use Rattle.std.specs.Prelude.{◌≡◌, ◌≤◌, [], IfOk, OnOk, length, map};
+ghost use Rattle.std.specs.Prelude.{◌≡◌, ◌++◌, ◌∷◌, ◌≤◌, [], IfOk, OnOk, length, map};
 ghost use Rattle.sg_facts.specs.sg_base.Lists.{Each};
+ghost use Rattle.sg_facts.specs.Limits.{last_client};
+ghost use Rattle.sg_members.specs.Members.{IsNewMember};
+ghost use Rattle.sg_members.specs.declared.member.Member.{Member as One};
+ghost use Rattle.sg_members.specs.sg_edge.Stops.{AscendsAbove};
 ghost use Rattle.sg_members.specs.sg_load.Services.{facts_by};
 ghost use Rattle.sg_members.specs.sg_sim.sg_plain.Calls.{most_client};
 ghost use Rattle.sg_members.specs.sg_sim.sg_script.Scripts.{most_members};
-ghost use Rattle.sg_multi.specs.Inside.Beginning.{AreNewMembers};
+ghost use Rattle.sg_multi.specs.Beginning.{AreNewMembers};
 ghost use Rattle.sg_multi.specs.Inside.Ended.{AreEndedMembers, IsEndedMember};
 ghost use Rattle.sg_multi.specs.Inside.Turns.{KeepsRunning, NobodyGoesNow, SameMembers};
 ghost use Rattle.sg_multi.specs.Playable.{IsMultiPlayable};
-ghost use Rattle.sg_multi.specs.Played.{IsMultiPlayed, stubs_by, stubs_in};
+ghost use Rattle.sg_multi.specs.Played.{AreOfMembers, IsMultiPlayed, stubs_by, stubs_in};
 
 use crate::ended::{EndedList, MemberList, MultiEnd, MultiEnded};
 use crate::ends::{ends_at, ends_of};
 use crate::running::Running;
 use crate::whose::next_turn;
-use sg_facts::{NoMemory, RoomyList, Tables, TryCopy, WalkList};
+use sg_facts::{NoMemory, PointList, RoomyList, Tables, TryCopy, WalkList};
 use sg_members::{AtPoints, Ended, Given, Member, Members, ServiceKind, most_client};
 use sg_script::MultiScript;
 use std::alloc::Global;
@@ -60,18 +64,20 @@ impl MultiPlay {
         requires services { Each (λ t. t.tables.iface.facts ≡ facts_by t.service) members.now }
         requires playable { IsMultiPlayable (map (λ t. t.tables.iface) members.now) script }
         ensures members { IfOk result (λ p. map stubs_in p.members ≡ map stubs_by members.now) }
+        ensures new { IfOk result (λ p. AreNewMembers members.now script.stops (most_client script.clients) p.members) }
         ensures script { IfOk result (λ p. p.script ≡ script) }
         ensures passed { IfOk result (λ p. p.passed ≡ 0) }
         ensures last { IfOk result (λ p. p.last ≡ 0) }
     {
         let clients = most_client(script.clients.as_slice());
         let given = Given::new(alloc, clients)?;
-        let members = members_of(alloc, members, &script, clients)?;
+        let worlds = members_of(alloc, members, &script, clients)?;
+        let order = RoomyList::new(alloc);
         Ok(MultiPlay {
             running: Running {
-                members,
+                members: worlds,
                 given,
-                order: RoomyList::new(alloc),
+                order,
                 passed: 0,
                 last: 0,
             },
@@ -79,9 +85,11 @@ impl MultiPlay {
         })
     }
 
-    /// Plays all that is left, to the end: until no client can take a turn. `NoMemory` also where a step of some world wanted memory.
+    /// Plays all that is left, to the end: until no client can take a turn. What it answers has the history and the trace of each member's
+    /// world. `NoMemory` also where a step of some world wanted memory.
     pub fn play(&mut self, alloc: Global) -> Result<MultiEnded, NoMemory>
         ensures played { IfOk result (IsMultiPlayed (map stubs_in self.old.members) self.old.script) }
+        ensures worlds { IfOk result (λ came. AreOfMembers self.new.members came.members) }
         ensures members { SameMembers self.old.members self.new.members }
         ensures script { self.new.script ≡ self.old.script }
     {
@@ -132,17 +140,29 @@ fn add_members(
     ensures { OnOk result (AreNewMembers tables.now script.now.stops clients members.new) }
 {
     'tables: for place in 0..tables.len() {
-        let its = &tables[place];
-        let stops = AtPoints::new(script.stops.as_slice()[place].copy(alloc)?);
-        members.add(
-            alloc,
-            its.service,
-            copied(alloc, &its.tables)?,
-            clients,
-            stops,
-        )?;
+        let stops = script.stops.as_slice();
+        add_member(alloc, members, &tables[place], &stops[place], clients)?;
     }
     Ok(())
+}
+
+// Adds the world of one, which stops at these points.
+fn add_member(
+    alloc: Global,
+    members: &mut Members,
+    its: &MemberTables,
+    stops: &PointList,
+    clients: u8,
+) -> Result<(), NoMemory>
+    requires service { its.now.tables.iface.facts ≡ facts_by its.now.service }
+    requires few { clients ≤ last_client }
+    requires ascend { AscendsAbove 0 stops.now }
+    ensures { OnOk result ((m : One) × (members.new ≡ members.old ++ m ∷ []) × IsNewMember its.now.service its.now.tables stops.now clients m) }
+{
+    let tables = copied(alloc, &its.tables)?;
+    let points = stops.copy(alloc)?;
+    let stops = AtPoints::new(points);
+    members.add(alloc, its.service, tables, clients, stops)
 }
 
 // Equal tables.
@@ -176,7 +196,8 @@ fn come_to_end(alloc: Global, running: &mut Running, script: &MultiScript) -> Re
 fn ended(alloc: Global, running: &Running, script: &MultiScript) -> Result<MultiEnded, NoMemory>
     requires keeps { KeepsRunning script.now running.now }
     requires over { NobodyGoesNow script.now running.now }
-    ensures { IfOk result (IsMultiPlayed (map stubs_in running.now.members) script.now) }
+    ensures played { IfOk result (IsMultiPlayed (map stubs_in running.now.members) script.now) }
+    ensures worlds { IfOk result (λ came. AreOfMembers running.now.members came.members) }
 {
     let ends = ends_of(alloc, running, script)?;
     let members = ended_members(alloc, running.members.as_slice(), ends.as_slice())?;
@@ -217,5 +238,6 @@ fn ended_member(
     }
     member.tell();
     let known = ends_at(alloc, number, ends)?;
-    member.ended(alloc, known)
+    let ended = member.ended(alloc, known)?;
+    Ok(ended)
 }

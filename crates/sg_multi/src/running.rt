@@ -1,13 +1,16 @@
 // The worlds of the members of a play, and how far its clients have come with their calls.
-ghost use Rattle.std.specs.Prelude.{◌≡◌, ◌≤◌, ◌-◌, Some, true, length};
+ghost use Rattle.std.specs.Prelude.{◌≡◌, ◌++◌, ◌∷◌, ◌≤◌, ◌<◌, ◌-◌, [], if◌then◌else◌, Some, OnOk, true, length, slice_get};
 ghost use Rattle.std.specs.Option.{option_copied};
 ghost use Rattle.sg_members.specs.Members.{setting_in, view_in};
-ghost use Rattle.sg_members.specs.sg_sim.Inside.Givens.{lists_of};
+ghost use Rattle.sg_members.specs.declared.member.Member.{Member as One};
+ghost use Rattle.sg_members.specs.sg_sim.Inside.Givens.{lists_of, room_for};
 ghost use Rattle.sg_members.specs.sg_sim.sg_plain.Calls.{most_client};
+ghost use Rattle.sg_members.specs.sg_sim.sg_plain.Playing.Given.{with_handed};
+ghost use Rattle.sg_members.specs.sg_sim.sg_plain.Playing.Turns.{is_free_phase};
 ghost use Rattle.sg_members.specs.sg_sim.sg_play.Recovering.{RecoversSoFar};
+ghost use Rattle.sg_members.specs.sg_sim.sg_play.Turning.{handed_by};
 ghost use Rattle.sg_members.specs.sg_sim.sg_play.sg_clients.Clients.{IsClient};
 ghost use Rattle.sg_members.specs.sg_sim.sg_seat.WorldView.{is_blocked_phase, seat_of};
-ghost use Rattle.sg_members.specs.sg_sim.sg_plain.Playing.Turns.{is_free_phase};
 ghost use Rattle.sg_multi.specs.Inside.Turns.{KeepsRunning, SameMembers, is_at_setup, may_go_now, next_of, seat_at};
 
 use sg_facts::{Call, NoMemory, RoomyList};
@@ -55,7 +58,7 @@ impl Running {
         ensures { result ≡ may_go_now script.now self.now client }
     {
         match self.next_call(script, client) {
-            Some(call) => !waits(self.phase(script, client, call.member)),
+            Some(call) => !waits(self.phase(client, call.member)),
             None => false,
         }
     }
@@ -107,13 +110,14 @@ impl Running {
         ensures given { self.new.given ≡ self.old.given }
         ensures last { self.new.last ≡ self.old.last }
     {
-        let place = usize::from(call.member) - 1;
-        if !is_free(self.phase(script, client, call.member)) {
+        let _ = script;
+        if !is_free(self.phase(client, call.member)) {
             return Ok(());
         }
-        let interface = self.members.as_slice()[place].interface();
-        let next = resolve(alloc, interface, self.given.of(client), &call.call)?;
+        let used = member_of(&self.members, call.member).interface();
+        let next = resolve(alloc, used, self.given.of(client), &call.call)?;
         let NextCall { fun, desc, args } = next;
+        let place = usize::from(call.member) - 1;
         self.members.offer(alloc, place, client, fun, desc, args)
     }
 
@@ -135,45 +139,83 @@ impl Running {
         ensures keeps { KeepsRunning script.now self.new }
         ensures same { SameMembers self.old.members self.new.members }
     {
-        self.given.reserve(client)?;
-        self.order.reserve(1)?;
+        self.reserve(client)?;
+        let before = entries_of(member_of(&self.members, member), client);
         let place = usize::from(member) - 1;
-        let entries = entries_of(&self.members.as_slice()[place], client);
         let did = self.members.step(alloc, place, client)?;
-        if entries_of(&self.members.as_slice()[place], client) > entries {
-            self.order.add(member);
-        }
-        if let Did::Answered(reply) = did {
-            self.given.add(client, desc_of(&reply));
-        }
+        let after = entries_of(member_of(&self.members, member), client);
+        self.note_entry(member, after > before);
+        self.note_reply(client, handed(&did));
         Ok(())
     }
 
-    /// The call that a client offered last in the world of a member, lent.
-    pub(crate) fn call(&self, script: &MultiScript, client: u8, member: u8) -> &Call
-        requires first { 1 ≤ client }
-        requires last { client ≤ most_client script.now.clients }
-        requires some { 1 ≤ member }
-        requires there { member ≤ length self.now.members }
-        requires keeps { KeepsRunning script.now self.now }
-        ensures { result.now ≡ (seat_at self.now.members (member - 1) client).call }
+    // Takes the memory for an entry's place in the order and for what a client is given.
+    fn reserve(&mut self, client: u8) -> Result<(), NoMemory>
+        requires { IsClient (length self.old.given) client }
+        ensures given { OnOk result (0 < room_for self.new.given client) }
+        ensures order { OnOk result (0 < self.new.order.room) }
+        ensures lists { lists_of self.new.given ≡ lists_of self.old.given }
+        ensures items { self.new.order.items ≡ self.old.order.items }
+        ensures members { self.new.members ≡ self.old.members }
+        ensures last { self.new.last ≡ self.old.last }
     {
-        let _ = script;
-        self.members.as_slice()[usize::from(member) - 1].call(client)
+        self.given.reserve(client)?;
+        self.order.reserve(1)
     }
 
-    // How far a client has come in the world of a member.
-    fn phase(&self, script: &MultiScript, client: u8, member: u8) -> Phase
-        requires first { 1 ≤ client }
-        requires last { client ≤ most_client script.now.clients }
+    // Notes the member of an entry, where one was made.
+    fn note_entry(&mut self, member: u8, made: bool)
+        requires { 0 < self.old.order.room }
+        ensures items { self.new.order.items ≡ (if made then self.old.order.items ++ member ∷ [] else self.old.order.items) }
+        ensures rest { self.new ≡ record self.old { order = self.new.order } }
+    {
+        if !made {
+            return;
+        }
+        self.order.add(member);
+    }
+
+    // Notes what a client was given, where a reply was handed over.
+    fn note_reply(&mut self, client: u8, handed: Option<u64>)
+        requires client { IsClient (length self.old.given) client }
+        requires room { 0 < room_for self.old.given client }
+        ensures lists { lists_of self.new.given ≡ with_handed (lists_of self.old.given) client handed }
+        ensures rest { self.new ≡ record self.old { given = self.new.given } }
+    {
+        let Some(id) = handed else {
+            return;
+        };
+        self.given.add(client, id);
+    }
+
+    /// The call that a client offered last in the world of the member of a number, lent.
+    pub(crate) fn call(&self, client: u8, member: u8) -> &Call
         requires some { 1 ≤ member }
         requires there { member ≤ length self.now.members }
-        requires keeps { KeepsRunning script.now self.now }
+        requires client { (m : One) → slice_get self.now.members (member - 1) ≡ Some m → IsClient (length (view_in m).seats) client }
+        ensures { result.now ≡ (seat_at self.now.members (member - 1) client).call }
+    {
+        member_of(&self.members, member).call(client)
+    }
+
+    // How far a client has come in the world of the member of a number.
+    fn phase(&self, client: u8, member: u8) -> Phase
+        requires some { 1 ≤ member }
+        requires there { member ≤ length self.now.members }
+        requires client { (m : One) → slice_get self.now.members (member - 1) ≡ Some m → IsClient (length (view_in m).seats) client }
         ensures { result ≡ (seat_at self.now.members (member - 1) client).phase }
     {
-        let _ = script;
-        self.members.as_slice()[usize::from(member) - 1].phase(client)
+        member_of(&self.members, member).phase(client)
     }
+}
+
+// The member of a number, from 1, lent.
+fn member_of(members: &Members, number: u8) -> &Member
+    requires some { 1 ≤ number }
+    requires there { number ≤ length members.now }
+    ensures { slice_get members.now (number - 1) ≡ Some result.now }
+{
+    &members.as_slice()[usize::from(number) - 1]
 }
 
 // The number of a client's entries in the world of a member, and what that world keeps, for the proof.
@@ -184,6 +226,23 @@ fn entries_of(member: &Member, client: u8) -> u32
 {
     member.tell();
     member.seq(client)
+}
+
+// The descriptor of the reply that a step handed over, 0 for none; None where it handed none over.
+fn handed(did: &Did) -> Option<u64>
+    ensures { result ≡ handed_by did.now }
+{
+    match did {
+        Did::Answered(reply) => Some(desc_of(reply)),
+        Did::Skipped
+        | Did::Struck
+        | Did::Booted
+        | Did::Replayed
+        | Did::Loaded
+        | Did::Served
+        | Did::Blocked
+        | Did::Lost => None,
+    }
 }
 
 // Whether a client in a phase has no call under way.

@@ -1,6 +1,6 @@
 -- What the runs of members came to.
 use Rattle.std.specs.Prelude.{ℕ, ◌≡◌, ◌+◌, List, Some, length, slice_get}
-use Rattle.sg_edge.specs.Stops.{up_to}
+use Rattle.sg_members.specs.sg_edge.Stops.{up_to}
 use Rattle.sg_members.specs.Members.{setting_in, view_in, world_in}
 use Rattle.sg_members.specs.declared.member.Member.{Member}
 use Rattle.sg_members.specs.sg_sim.Played.{IsOfWorld}

@@ -1,5 +1,5 @@
 -- Whose turn it may be over several services, and how clients end.
-use Rattle.std.specs.Prelude.{ℕ, ◌≡◌, ◌-◌, ◌<◌, ◌≤◌, Bool, not, true, false, List, [], length, filter, map, slice_get}
+use Rattle.std.specs.Prelude.{ℕ, ◌≡◌, ◌-◌, ◌<◌, ◌≤◌, Bool, if◌then◌else◌, not, false, List, [], ◌∷◌, length, filter, map, slice_get}
 use Rattle.std.specs.Option.{option_map_or}
 use Rattle.std.specs.declared.option.Option.{Option}
 use Rattle.sg_members.specs.Members.{view_in}
@@ -40,6 +40,10 @@ NobodyGoesOn members script given = (client : ℕ) → 1 ≤ client → client �
 -- a client that has a call more waits in it, and any other is done
 abbrev pub end_of_client : List Member → MultiScript → List (List ℕ) → ℕ → MultiEnd
 end_of_client members script given client = option_map_or (λ c. Blocked c.member (seat_at members (c.member - 1) client).call) (next_of script given client) Done
+
+-- the end of a client, where it has a call
+abbrev pub end_by : List Member → MultiScript → List (List ℕ) → ℕ → List (ℕ × MultiEnd)
+end_by members script given client = if has_multi_calls script client then (client, end_of_client members script given client) ∷ [] else []
 
 -- the ends of the clients with a call, from 1 up to a number
 abbrev pub ends_up_to : List Member → MultiScript → List (List ℕ) → ℕ → List (ℕ × MultiEnd)

@@ -1,6 +1,6 @@
 -- The worlds of the members so far.
 use Rattle.std.proofs.Common.{◌≡◌, length}
-use Rattle.sg_multi.specs.Inside.Beginning.{AreNew}
+use Rattle.sg_multi.specs.Beginning.{AreNew}
 use Rattle.sg_multi.proofs.play.add_members.Given as goal
 
 abbrev pub invariant-tables : goal.invariant-tables

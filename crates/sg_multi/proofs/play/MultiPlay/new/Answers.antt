@@ -1,0 +1,33 @@
+-- Nothing was done in the worlds of a new play.
+use Rattle.std.proofs.Common.{◌∙◌, [], replicate, ap, arith, subst, sym}
+use Rattle.sg_members.specs.sg_sim.Inside.Givens.{lists_of}
+use Rattle.sg_members.specs.sg_sim.sg_plain.Calls.{most_client}
+use Rattle.sg_multi.specs.Beginning.{AreNewMembers}
+use Rattle.sg_multi.specs.Inside.Keeps.{KeepsMulti}
+use Rattle.sg_multi.proofs.Beginning.{kept_new, stubs_are}
+use Rattle.sg_multi.proofs.play.MultiPlay.new.Goals as goal
+
+pub members_of-requires-clause-clients : goal.members_of-requires-clause-clients
+members_of-requires-clause-clients c = c.most_client-clients.ensures ∙ ap most_client c.as_slice.ensures
+
+pub invariant_of-result : goal.invariant_of-result
+invariant_of-result c =
+    let count = c.most_client-clients.ensures ∙ ap most_client c.as_slice.ensures in
+    let worlds = c.in_ok-worlds.worlds in
+    let new = subst (λ n. AreNewMembers c.args.members.now c.args.script.stops n worlds) count c.in_ok-worlds.ensures in
+    let given = c.in_ok-given.ensures ∙ ap (λ n. replicate n []) count in
+    record {
+      keeps = subst (KeepsMulti worlds c.args.script (lists_of c.in_ok-given.given)) (sym c.new-order.ensures)
+          (subst (λ l. KeepsMulti worlds c.args.script l []) (sym given) (kept_new c.args.members.now c.args.script worlds c.requires.services c.requires.playable new));
+      last_there = omega arith;
+    }
+
+pub returns-clause-members : goal.returns-clause-members
+returns-clause-members c =
+    let count = c.most_client-clients.ensures ∙ ap most_client c.as_slice.ensures in
+    let worlds = c.in_ok-worlds.worlds in
+    stubs_are c.args.members.now c.args.script worlds c.requires.services c.requires.playable (subst (λ n. AreNewMembers c.args.members.now c.args.script.stops n worlds) count c.in_ok-worlds.ensures)
+
+pub returns-clause-new : goal.returns-clause-new
+returns-clause-new c =
+    subst (λ n. AreNewMembers c.args.members.now c.args.script.stops n c.in_ok-worlds.worlds) (c.most_client-clients.ensures ∙ ap most_client c.as_slice.ensures) c.in_ok-worlds.ensures

@@ -1,0 +1,12 @@
+-- One turn more.
+use Rattle.std.proofs.Common.{◌∙◌, refl}
+use Rattle.sg_multi.proofs.play.come_to_end.Goals as goal
+
+pub turns-init : goal.turns-init
+turns-init c = (c.requires.keeps, refl)
+
+pub turns-preserved : goal.turns-preserved
+turns-preserved c = (record { keeps = c.take_turn.ensures.keeps.keeps; last_there = c.in-Some.ensures.last }, c.take_turn.ensures.same ∙ c.turns.invariant.1)
+
+pub returns-in_err-take_turn-clause-same : goal.returns-in_err-take_turn-clause-same
+returns-in_err-take_turn-clause-same c = c.take_turn.ensures.same ∙ c.turns.invariant.1

@@ -1,0 +1,146 @@
+-- The member is noted where the client has an entry more.
+use Rattle.std.proofs.Common.{◌≡◌, ◌∙◌, ◌≤◌, ◌<◌, ◌-◌, List, true, length, map, ap, arith, nat_lt, sym, subst}
+use Rattle.sg_members.specs.Members.{view_in}
+use Rattle.sg_members.specs.declared.member.Member.{Member}
+use Rattle.sg_members.specs.sg_sim.Inside.Givens.{lists_of, room_for}
+use Rattle.sg_members.specs.sg_sim.sg_play.sg_clients.Clients.{IsClient}
+use Rattle.sg_members.specs.sg_sim.sg_seat.WorldView.{seat_of}
+use Rattle.sg_multi.specs.Inside.Keeps.{is_multi_setting_up}
+use Rattle.sg_multi.specs.Inside.Turns.{KeepsRunning}
+use Rattle.sg_multi.specs.Played.{stubs_in}
+use Rattle.sg_multi.specs.declared.running.Running.{Running}
+use Rattle.sg_multi.proofs.Turning.{as_many, client_there, noted_keeps, reserved_keeps, seats_there, stepped_at, stepped_same, stepped_seats, wanted_at}
+use Rattle.sg_multi.proofs.running.Running.step.Goals as goal
+
+pub reserve-requires : goal.reserve-requires
+reserve-requires c =
+    let r = c.args.self.now in
+    client_there r.members c.args.script.now r.given r.order.items c.requires.keeps.keeps c.args.client c.requires.first c.requires.last
+
+pub returns-in_err-reserve-clause-keeps : goal.returns-in_err-reserve-clause-keeps
+returns-in_err-reserve-clause-keeps c =
+    let r = c.args.self.now in
+    let q = c.reserve.new.self in
+    let s = c.args.script.now in
+    let keeps : KeepsRunning s q = reserved_keeps s r q c.reserve.ensures.members c.reserve.ensures.lists c.reserve.ensures.items c.reserve.ensures.last c.requires.keeps in
+    keeps
+
+pub returns-in_err-reserve-clause-same : goal.returns-in_err-reserve-clause-same
+returns-in_err-reserve-clause-same c =
+    ap (map stubs_in) c.reserve.ensures.members
+
+pub member_of-requires-clause-there : goal.member_of-requires-clause-there
+member_of-requires-clause-there c =
+    subst (λ (l : List Member). c.args.member ≤ length l) (sym c.reserve.ensures.members) c.requires.there
+
+pub entries_of-before-requires : goal.entries_of-before-requires
+entries_of-before-requires c =
+    let r = c.args.self.now in
+    let q = c.reserve.new.self in
+    let s = c.args.script.now in
+    let keeps : KeepsRunning s q = reserved_keeps s r q c.reserve.ensures.members c.reserve.ensures.lists c.reserve.ensures.items c.reserve.ensures.last c.requires.keeps in
+    record { client = seats_there q.members s q.given q.order.items keeps.keeps c.args.client c.requires.first c.requires.last (c.args.member - 1) c.member_of.result.now c.member_of.ensures }
+
+pub overflow_sub-place : goal.overflow_sub-place
+overflow_sub-place c =
+    omega (arith, c.from-place.ensures, c.requires.some)
+
+pub step-requires-clause-there : goal.step-requires-clause-there
+step-requires-clause-there c =
+    omega (arith, c.from-place.ensures, c.requires.some, c.requires.there, ap (λ (l : List Member). length l) c.reserve.ensures.members)
+
+pub step-requires-clause-client : goal.step-requires-clause-client
+step-requires-clause-client c =
+    let r = c.args.self.now in
+    let q = c.reserve.new.self in
+    let s = c.args.script.now in
+    let keeps : KeepsRunning s q = reserved_keeps s r q c.reserve.ensures.members c.reserve.ensures.lists c.reserve.ensures.items c.reserve.ensures.last c.requires.keeps in
+    λ x at. seats_there q.members s q.given q.order.items keeps.keeps c.args.client c.requires.first c.requires.last (c.from-place.result - 1) x at
+
+pub returns-in_err-did-clause-keeps : goal.returns-in_err-did-clause-keeps
+returns-in_err-did-clause-keeps c =
+    let r = c.args.self.now in
+    let q = c.reserve.new.self in
+    let s = c.args.script.now in
+    let keeps : KeepsRunning s q = reserved_keeps s r q c.reserve.ensures.members c.reserve.ensures.lists c.reserve.ensures.items c.reserve.ensures.last c.requires.keeps in
+    let m = c.member_of.result.now in
+    let lists = lists_of q.given in
+    let later = c.step.new.self in
+    record { keeps = (wanted_at q.members s (lists_of q.given) q.order.items keeps.keeps c.args.client c.requires.first c.requires.last c.args.member c.from-place.result c.requires.some c.from-place.ensures m c.member_of.ensures later c.in_err-did.ensures.err).0; last_there = keeps.last_there }
+
+pub returns-in_err-did-clause-same : goal.returns-in_err-did-clause-same
+returns-in_err-did-clause-same c =
+    let r = c.args.self.now in
+    let q = c.reserve.new.self in
+    let s = c.args.script.now in
+    let keeps : KeepsRunning s q = reserved_keeps s r q c.reserve.ensures.members c.reserve.ensures.lists c.reserve.ensures.items c.reserve.ensures.last c.requires.keeps in
+    let m = c.member_of.result.now in
+    let lists = lists_of q.given in
+    let later = c.step.new.self in
+    (wanted_at q.members s (lists_of q.given) q.order.items keeps.keeps c.args.client c.requires.first c.requires.last c.args.member c.from-place.result c.requires.some c.from-place.ensures m c.member_of.ensures later c.in_err-did.ensures.err).1 ∙ ap (map stubs_in) c.reserve.ensures.members
+
+pub member_of-requires-2-clause-there : goal.member_of-requires-2-clause-there
+member_of-requires-2-clause-there c =
+    let r = c.args.self.now in
+    let q = c.reserve.new.self in
+    let s = c.args.script.now in
+    let keeps : KeepsRunning s q = reserved_keeps s r q c.reserve.ensures.members c.reserve.ensures.lists c.reserve.ensures.items c.reserve.ensures.last c.requires.keeps in
+    let m = c.member_of.result.now in
+    let lists = lists_of q.given in
+    let later = c.step.new.self in
+    omega (arith, c.requires.there, as_many q.members later (stepped_same q.members s (lists_of q.given) q.order.items keeps.keeps c.args.client c.requires.first c.requires.last c.args.member c.from-place.result c.requires.some c.from-place.ensures m c.member_of.ensures later c.in_ok-did.did c.in_ok-did.ensures.did), ap (λ (l : List Member). length l) c.reserve.ensures.members)
+
+pub entries_of-after-requires : goal.entries_of-after-requires
+entries_of-after-requires c =
+    let r = c.args.self.now in
+    let q = c.reserve.new.self in
+    let s = c.args.script.now in
+    let keeps : KeepsRunning s q = reserved_keeps s r q c.reserve.ensures.members c.reserve.ensures.lists c.reserve.ensures.items c.reserve.ensures.last c.requires.keeps in
+    let m = c.member_of.result.now in
+    let lists = lists_of q.given in
+    let later = c.step.new.self in
+    record { client = stepped_seats q.members s (lists_of q.given) q.order.items keeps.keeps c.args.client c.requires.first c.requires.last c.args.member c.from-place.result c.requires.some c.from-place.ensures m c.member_of.ensures later c.in_ok-did.did c.in_ok-did.ensures.did c.member_of-2.result.now c.member_of-2.ensures }
+
+pub note_entry-requires : goal.note_entry-requires
+note_entry-requires c =
+    c.in_ok-reserve.ensures.order
+
+pub note_reply-requires-clause-client : goal.note_reply-requires-clause-client
+note_reply-requires-clause-client c =
+    let r = c.args.self.now in
+    let q = c.reserve.new.self in
+    let s = c.args.script.now in
+    let keeps : KeepsRunning s q = reserved_keeps s r q c.reserve.ensures.members c.reserve.ensures.lists c.reserve.ensures.items c.reserve.ensures.last c.requires.keeps in
+    subst (λ (x : Running). IsClient (length x.given) c.args.client) (sym c.note_entry.ensures.rest) (client_there q.members s q.given q.order.items keeps.keeps c.args.client c.requires.first c.requires.last)
+
+pub note_reply-requires-clause-room : goal.note_reply-requires-clause-room
+note_reply-requires-clause-room c =
+    subst (λ (x : Running). 0 < room_for x.given c.args.client) (sym c.note_entry.ensures.rest) c.in_ok-reserve.ensures.given
+
+pub returns-clause-keeps : goal.returns-clause-keeps
+returns-clause-keeps c =
+    let r = c.args.self.now in
+    let q = c.reserve.new.self in
+    let s = c.args.script.now in
+    let keeps : KeepsRunning s q = reserved_keeps s r q c.reserve.ensures.members c.reserve.ensures.lists c.reserve.ensures.items c.reserve.ensures.last c.requires.keeps in
+    let m = c.member_of.result.now in
+    let lists = lists_of q.given in
+    let later = c.step.new.self in
+    let setup : is_multi_setting_up s lists ≡ true → c.args.client ≡ 1 = λ on. c.requires.setup (subst (λ l. is_multi_setting_up s l ≡ true) c.reserve.ensures.lists on) in
+    let kept = stepped_at q.members s (lists_of q.given) q.order.items keeps.keeps c.args.client c.requires.first c.requires.last c.args.member c.from-place.result c.requires.some c.from-place.ensures m c.member_of.ensures later setup c.entries_of-before.ensures.told c.in_ok-did.did c.member_of-2.result.now c.member_of-2.ensures c.entries_of-after.ensures.told c.in_ok-did.ensures.did in
+    noted_keeps s q later c.note_entry.new.self c.note_reply.new.self c.args.client c.args.member c.in_ok-did.did c.handed.result (nat_lt c.entries_of-before.result c.entries_of-after.result)
+    (seat_of (view_in m) c.args.client).seq (seat_of (view_in c.member_of-2.result.now) c.args.client).seq
+    (ap (λ n. nat_lt n c.entries_of-after.result) c.entries_of-before.ensures.seq ∙ ap (nat_lt (seat_of (view_in m) c.args.client).seq) c.entries_of-after.ensures.seq)
+    c.handed.ensures c.note_entry.ensures.items c.note_entry.ensures.rest c.note_reply.ensures.lists c.note_reply.ensures.rest keeps.last_there kept
+
+pub returns-clause-same : goal.returns-clause-same
+returns-clause-same c =
+    let r = c.args.self.now in
+    let q = c.reserve.new.self in
+    let s = c.args.script.now in
+    let keeps : KeepsRunning s q = reserved_keeps s r q c.reserve.ensures.members c.reserve.ensures.lists c.reserve.ensures.items c.reserve.ensures.last c.requires.keeps in
+    let m = c.member_of.result.now in
+    let lists = lists_of q.given in
+    let later = c.step.new.self in
+    ap (λ (x : Running). map stubs_in x.members) (c.note_reply.ensures.rest ∙ ap (λ (x : Running). record x { given = c.note_reply.new.self.given }) c.note_entry.ensures.rest)
+    ∙ stepped_same q.members s (lists_of q.given) q.order.items keeps.keeps c.args.client c.requires.first c.requires.last c.args.member c.from-place.result c.requires.some c.from-place.ensures m c.member_of.ensures later c.in_ok-did.did c.in_ok-did.ensures.did ∙ ap (map stubs_in) c.reserve.ensures.members

@@ -1,0 +1,6 @@
+-- The setup's turns are those of client 1.
+use Rattle.sg_multi.proofs.Turning.{first_there}
+use Rattle.sg_multi.proofs.whose.next_turn.Goals as goal
+
+pub returns-then-is_setting_up-clause-last : goal.returns-then-is_setting_up-clause-last
+returns-then-is_setting_up-clause-last c = first_there c.args.script.now c.args.running.now c.requires.keeps
