@@ -3,11 +3,11 @@ ghost use Rattle.std.specs.Prelude.{◌≡◌};
 ghost use Rattle.test_tables.specs.sg_lock.LockFacts.{lock_facts};
 
 use crate::rows::{ALLOC, add_lock, call};
-use sg_facts::{Code, NoMemory, Tables};
 use sg_needs::{Tracker, file_needed, guard, wants_all};
 use std::alloc::Global;
 use std::process::Abort;
 use std::test::Fail;
+use test_tables::facts::{Code, NoMemory, Tables};
 use test_tables::{lock_tables, ramfs_tables, sched_tables};
 
 // The functions that are called on a lock.

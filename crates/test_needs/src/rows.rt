@@ -2,9 +2,9 @@
 ghost use Rattle.std.specs.Prelude.{◌≡◌, ◌+◌, [], OnOk};
 ghost use Rattle.test_tables.specs.sg_lock.LockFacts.{lock_facts};
 
-use sg_facts::{Args, Bytes, Call, Good, NoMemory, Reply, Tables, Words};
 use sg_needs::Tracker;
 use std::alloc::Global;
+use test_tables::facts::{Args, Bytes, Call, Good, NoMemory, Reply, Tables, Words};
 
 /// The function that makes a lock.
 pub(crate) const ALLOC: u8 = 1;

@@ -1,14 +1,14 @@
 // The walk of a row, and its calls.
 ghost use Rattle.std.specs.Prelude.{◌≡◌, ◌∷◌, [], ◌<◌, IfOk};
-ghost use Rattle.sg_facts.specs.sg_base.declared.value.Value.TheVariants.{Word};
+ghost use Rattle.test_tables.specs.sg_facts.sg_base.declared.value.Value.TheVariants.{Word};
 ghost use Rattle.test_tables.specs.sg_lock.LockFacts.{lock_facts};
 
 use crate::rows::ALLOC;
-use sg_facts::{Call, Fields, NoMemory, Row, Tables, Value};
 use sg_needs::{replayed_call, walk_of_row};
 use std::alloc::Global;
 use std::process::Abort;
 use std::test::Fail;
+use test_tables::facts::{Call, Fields, NoMemory, Row, Tables, Value};
 use test_tables::lock_tables;
 
 // The function that takes a lock.

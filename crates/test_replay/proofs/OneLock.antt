@@ -4,20 +4,20 @@ use Rattle.std.specs.Prelude.{◌^◌, IsSome}
 use Rattle.std.specs.Option.{is_some}
 use Rattle.std.specs.declared.option.Option.{Option}
 use Rattle.std.specs.declared.result.Result.TheVariants.{Ok as Done}
-use Rattle.sg_facts.specs.sg_base.declared.call.Call.{Call}
-use Rattle.sg_facts.specs.sg_base.declared.reply.Good.{Good}
-use Rattle.sg_facts.specs.sg_base.declared.reply.Reply.{Reply}
-use Rattle.sg_facts.specs.sg_base.declared.reply.Reply.TheVariants.{Ok, Refused}
-use Rattle.sg_facts.specs.declared.outcome.Patch.{Patch}
-use Rattle.sg_facts.specs.declared.row.Row.{Row}
-use Rattle.sg_facts.specs.Alike.{under_names}
-use Rattle.sg_facts.specs.Invoke.{Points}
-use Rattle.sg_facts.specs.Kinds.{MayAsk}
-use Rattle.sg_facts.specs.Interface.{Declared}
-use Rattle.sg_facts.specs.Needs.{Needs, wanted}
-use Rattle.sg_facts.specs.Object.{Object, after, empty_object, patch_of}
-use Rattle.sg_facts.specs.Inside.Rows.{given_after, track}
-use Rattle.sg_facts.specs.Track.{row_at}
+use Rattle.test_tables.specs.sg_facts.sg_base.declared.call.Call.{Call}
+use Rattle.test_tables.specs.sg_facts.sg_base.declared.reply.Good.{Good}
+use Rattle.test_tables.specs.sg_facts.sg_base.declared.reply.Reply.{Reply}
+use Rattle.test_tables.specs.sg_facts.sg_base.declared.reply.Reply.TheVariants.{Ok, Refused}
+use Rattle.test_tables.specs.sg_facts.declared.outcome.Patch.{Patch}
+use Rattle.test_tables.specs.sg_facts.declared.row.Row.{Row}
+use Rattle.test_tables.specs.sg_facts.Alike.{under_names}
+use Rattle.test_tables.specs.sg_facts.Invoke.{Points}
+use Rattle.test_tables.specs.sg_facts.Kinds.{MayAsk}
+use Rattle.test_tables.specs.sg_facts.Interface.{Declared}
+use Rattle.test_tables.specs.sg_facts.Needs.{Needs, wanted}
+use Rattle.test_tables.specs.sg_facts.Object.{Object, after, empty_object, patch_of}
+use Rattle.test_tables.specs.sg_facts.Inside.Rows.{given_after, track}
+use Rattle.test_tables.specs.sg_facts.Track.{row_at}
 use Rattle.sg_replay.specs.sg_hist.Inside.Parts.{call_in}
 use Rattle.test_tables.specs.sg_lock.LockFacts.{lock_facts}
 use Rattle.test_tables.specs.sg_lock.LockTable.{lock_parts, lock_table}

@@ -1,9 +1,9 @@
 -- A lock that is made, lost in a stop, and rebuilt.
 use Rattle.std.specs.Prelude.{◌≡◌, [], ◌∷◌, Some}
-use Rattle.sg_facts.specs.sg_base.declared.value.Value.TheVariants.{Word}
-use Rattle.sg_facts.specs.declared.row.Row.{Row}
-use Rattle.sg_facts.specs.Object.{Object, empty_object}
-use Rattle.sg_facts.specs.Tables.{Compiled}
+use Rattle.test_tables.specs.sg_facts.sg_base.declared.value.Value.TheVariants.{Word}
+use Rattle.test_tables.specs.sg_facts.declared.row.Row.{Row}
+use Rattle.test_tables.specs.sg_facts.Object.{Object, empty_object}
+use Rattle.test_tables.specs.sg_facts.Tables.{Compiled}
 use Rattle.sg_replay.specs.sg_hist.Reading.{walk_in}
 use Rattle.test_tables.specs.sg_lock.LockFacts.{lock_facts}
 use Rattle.sg_replay.specs.sg_name.Names.{named_at}

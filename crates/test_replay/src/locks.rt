@@ -5,13 +5,13 @@ ghost use Rattle.test_replay.specs.Turns.{HasFirst, HasNone, IsFresh, WalksLocks
 
 use crate::ending::discard;
 use crate::turns::{first_take, lose, make, rebuild, take, walked_tables};
-use sg_facts::{Call, NoMemory, Reply, Value};
 use sg_replay::{Advanced, Engine, Todo};
 use std::alloc::Global;
 use std::process::Abort;
 use std::test::Fail;
 use test_asking::Once;
 use test_tables::LockService;
+use test_tables::facts::{Call, NoMemory, Reply, Value};
 
 // What is missing for a call.
 fn missing(

@@ -2,12 +2,12 @@
 ghost use Rattle.std.specs.Prelude.{◌≡◌, ◌≤◌, None, IsSome, OnOk};
 
 use crate::ending::discard;
-use sg_facts::{Call, NoMemory, Service, Tables};
 use sg_replay::Engine;
 use std::alloc::Global;
 use std::process::Abort;
 use std::test::Fail;
 use test_asking::call;
+use test_tables::facts::{Call, NoMemory, Service, Tables};
 use test_tables::{
     EventService, LockService, MmService, RamfsService, SchedService, event_tables, lock_tables,
     mm_tables, ramfs_tables, sched_tables,

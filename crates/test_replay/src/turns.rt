@@ -5,11 +5,11 @@ ghost use Rattle.sg_replay.specs.declared.advance.Advanced.TheVariants.{Replayed
 ghost use Rattle.test_histories.specs.Written.{call_of};
 ghost use Rattle.test_replay.specs.Turns.{HasFirst, HasNone, IsFresh, IsRebuilt, WalksLocks};
 
-use sg_facts::{Call, Outcome, Tables};
 use sg_replay::{Advanced, Engine};
 use std::alloc::Global;
 use std::test::Fail;
 use test_asking::{Once, call};
+use test_tables::facts::{Call, Outcome, Tables};
 use test_tables::{LockService, lock_tables};
 
 /// The function that makes a lock.

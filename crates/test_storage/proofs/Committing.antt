@@ -1,12 +1,12 @@
 -- Which answered calls may be committed under the tables of files, and of locks.
 use Rattle.std.proofs.Common.{◌≡◌, ℕ, ◌+◌, ◌≤◌, false, true, List, [], None, Some, length, refl, sym, subst, arith}
 use Rattle.std.specs.declared.option.Option.{Option}
-use Rattle.sg_facts.specs.sg_base.declared.call.Call.{Call}
-use Rattle.sg_facts.specs.sg_base.declared.reply.Code.{Code}
-use Rattle.sg_facts.specs.sg_base.declared.reply.Reply.{Reply}
-use Rattle.sg_facts.specs.sg_base.declared.reply.Reply.TheVariants.{Refused}
-use Rattle.sg_facts.specs.declared.outcome.Patch.{Patch}
-use Rattle.sg_facts.specs.Facts.{Facts}
+use Rattle.test_tables.specs.sg_facts.sg_base.declared.call.Call.{Call}
+use Rattle.test_tables.specs.sg_facts.sg_base.declared.reply.Code.{Code}
+use Rattle.test_tables.specs.sg_facts.sg_base.declared.reply.Reply.{Reply}
+use Rattle.test_tables.specs.sg_facts.sg_base.declared.reply.Reply.TheVariants.{Refused}
+use Rattle.test_tables.specs.sg_facts.declared.outcome.Patch.{Patch}
+use Rattle.test_tables.specs.sg_facts.Facts.{Facts}
 use Rattle.test_tables.specs.sg_lock.LockFacts.{lock_facts}
 use Rattle.test_tables.specs.sg_ramfs.RamfsFacts.{ramfs_facts}
 use Rattle.sg_store.specs.Committing.{MayCommit, MayFollow}

@@ -2,8 +2,8 @@
 ghost use Rattle.std.specs.Prelude.{◌≡◌, []};
 ghost use Rattle.test_histories.specs.Written.{call_of, ok_at};
 
-use sg_facts::{Args, Bytes, Call, Good, Reply, Words};
 use std::alloc::Global;
+use test_tables::facts::{Args, Bytes, Call, Good, Reply, Words};
 
 /// A client's call of a function, without arguments.
 pub(crate) fn call(alloc: Global, client: u8, seq: u32, fun: u8, desc: u64) -> Call

@@ -3,11 +3,11 @@ ghost use Rattle.std.specs.Prelude.{◌≡◌, ◌≤◌, length, IfOk};
 ghost use Rattle.test_tables.specs.sg_ramfs.RamfsFacts.{ramfs_facts};
 
 use crate::calls::{call, done};
-use sg_facts::{Bytes, NoMemory, Patch, Path, Tables};
 use sg_store::Storage;
 use std::alloc::Global;
 use std::process::Abort;
 use std::test::Fail;
+use test_tables::facts::{Bytes, NoMemory, Patch, Path, Tables};
 use test_tables::ramfs_tables;
 
 // Writes bytes into a file from a place on; false where the place is after the file's end, or too far.

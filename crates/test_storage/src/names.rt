@@ -2,9 +2,9 @@
 ghost use Rattle.std.specs.Prelude.{◌≡◌, ℕ, Some, IsTrue};
 ghost use Rattle.sg_name.specs.Names.{real_at, real_of};
 
-use sg_facts::NoMemory;
 use sg_name::{Named, Names};
 use std::test::Fail;
+use test_tables::facts::NoMemory;
 
 // A change of the names.
 #[derive(Clone, Copy, Debug)]

@@ -4,11 +4,11 @@ ghost use Rattle.test_tables.specs.sg_lock.LockFacts.{lock_facts};
 ghost use Rattle.test_tables.specs.sg_ramfs.RamfsFacts.{ramfs_facts};
 
 use crate::calls::{call, done};
-use sg_facts::{Code, NoMemory, Reply, Tables};
 use sg_store::Storage;
 use std::alloc::Global;
 use std::process::Abort;
 use std::test::Fail;
+use test_tables::facts::{Code, NoMemory, Reply, Tables};
 use test_tables::{lock_tables, ramfs_tables};
 
 // Commits that a client made a descriptor of a private service.

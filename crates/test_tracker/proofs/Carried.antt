@@ -1,8 +1,8 @@
 -- What may be tracked, under equal facts, calls and replies.
 use Rattle.std.proofs.Common.{◌≡◌, sym, subst}
-use Rattle.sg_facts.specs.sg_base.declared.call.Call.{Call}
-use Rattle.sg_facts.specs.sg_base.declared.reply.Reply.{Reply}
-use Rattle.sg_facts.specs.Facts.{Facts}
+use Rattle.test_tables.specs.sg_facts.sg_base.declared.call.Call.{Call}
+use Rattle.test_tables.specs.sg_facts.sg_base.declared.reply.Reply.{Reply}
+use Rattle.test_tables.specs.sg_facts.Facts.{Facts}
 use Rattle.sg_track.specs.Tracked.{MayTrack, Tracked}
 
 pub carried : {facts other : Facts} {call other_call : Call} {reply other_reply : Reply} (t : Tracked) → facts ≡ other → call ≡ other_call → reply ≡ other_reply → MayTrack other t other_call other_reply

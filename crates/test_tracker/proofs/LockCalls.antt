@@ -2,9 +2,9 @@
 use Rattle.std.proofs.Common.{◌≡◌, ℕ, ◌+◌, ◌<◌, ◌≤◌, [], Some, sym, ◌∙◌, ap, subst, arith}
 use Rattle.std.specs.Prelude.{◌^◌}
 use Rattle.std.specs.Option.{option_map}
-use Rattle.sg_facts.specs.sg_base.declared.value.Value.TheVariants.{Word}
-use Rattle.sg_facts.specs.Track.{field_at}
-use Rattle.sg_facts.specs.Inside.Rows.{cleared}
+use Rattle.test_tables.specs.sg_facts.sg_base.declared.value.Value.TheVariants.{Word}
+use Rattle.test_tables.specs.sg_facts.Track.{field_at}
+use Rattle.test_tables.specs.sg_facts.Inside.Rows.{cleared}
 use Rattle.test_tables.specs.sg_lock.LockFacts.{lock_facts}
 use Rattle.sg_track.specs.Drafts.{IsDraftWord}
 use Rattle.sg_track.specs.Tracked.{MayTrack, Tracked}

@@ -1,9 +1,9 @@
 -- Which answered calls of pages may be tracked.
 use Rattle.std.proofs.Common.{◌≡◌, ℕ, ◌+◌, ◌<◌, ◌≤◌, Bool, true, false, ◌||◌, List, [], ◌∷◌, refl, sym, ◌∙◌, ap, arith}
 use Rattle.std.specs.Prelude.{◌^◌, ◌==◌}
-use Rattle.sg_facts.specs.sg_base.declared.value.Value.{Value}
-use Rattle.sg_facts.specs.sg_base.declared.value.Value.TheVariants.{Word}
-use Rattle.sg_facts.specs.Track.{is_live}
+use Rattle.test_tables.specs.sg_facts.sg_base.declared.value.Value.{Value}
+use Rattle.test_tables.specs.sg_facts.sg_base.declared.value.Value.TheVariants.{Word}
+use Rattle.test_tables.specs.sg_facts.Track.{is_live}
 use Rattle.test_tables.specs.sg_mm.MmFacts.{mm_facts}
 use Rattle.sg_track.specs.Tracked.{MayTrack, Tracked}
 use Rattle.test_tracker.specs.Answered.{asked}

@@ -1,11 +1,11 @@
 -- Calls and their replies, and what stands in a row.
 use Rattle.std.specs.Prelude.{ℕ, ◌≡◌, List, Some}
 use Rattle.std.specs.Option.{option_map}
-use Rattle.sg_facts.specs.sg_base.declared.value.Value.{Value}
-use Rattle.sg_facts.specs.sg_base.declared.value.Value.TheVariants.{Word}
-use Rattle.sg_facts.specs.sg_base.declared.call.Call.{Call}
-use Rattle.sg_facts.specs.declared.row.Row.{Row}
-use Rattle.sg_facts.specs.Track.{field_at, row_at}
+use Rattle.test_tables.specs.sg_facts.sg_base.declared.value.Value.{Value}
+use Rattle.test_tables.specs.sg_facts.sg_base.declared.value.Value.TheVariants.{Word}
+use Rattle.test_tables.specs.sg_facts.sg_base.declared.call.Call.{Call}
+use Rattle.test_tables.specs.sg_facts.declared.row.Row.{Row}
+use Rattle.test_tables.specs.sg_facts.Track.{field_at, row_at}
 
 -- a client's call
 abbrev pub asked : ℕ → ℕ → ℕ → List Value → Call

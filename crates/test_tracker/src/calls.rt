@@ -1,11 +1,11 @@
 // Calls and replies.
 ghost use Rattle.std.specs.Prelude.{◌≡◌, map, IfOk};
-ghost use Rattle.sg_facts.specs.sg_base.declared.value.Value.TheVariants.{Word};
+ghost use Rattle.test_tables.specs.sg_facts.sg_base.declared.value.Value.TheVariants.{Word};
 ghost use Rattle.test_histories.specs.Written.{ok_at};
 ghost use Rattle.test_tracker.specs.Answered.{asked};
 
-use sg_facts::{Args, Bytes, Call, Good, NoMemory, Reply, Value, Words};
 use std::alloc::Global;
+use test_tables::facts::{Args, Bytes, Call, Good, NoMemory, Reply, Value, Words};
 
 /// A client's call of a function, with words.
 pub(crate) fn call(

@@ -4,11 +4,11 @@ ghost use Rattle.test_tables.specs.sg_lock.LockFacts.{lock_facts};
 ghost use Rattle.test_tracker.specs.Answered.{HasOwner};
 
 use crate::calls::{call, done};
-use sg_facts::{NoMemory, Tables, Value};
 use sg_track::Tracker;
 use std::alloc::Global;
 use std::process::Abort;
 use std::test::Fail;
+use test_tables::facts::{NoMemory, Tables, Value};
 use test_tables::lock_tables;
 
 // What is seen of the row of a lock.

@@ -3,11 +3,11 @@ ghost use Rattle.std.specs.Prelude.{◌≡◌, ◌+◌, ◌≤◌, IfOk, OnOk};
 ghost use Rattle.test_tables.specs.sg_mm.MmFacts.{mm_facts};
 
 use crate::calls::{call, done};
-use sg_facts::{Code, NoMemory, Reply, Tables, Value};
 use sg_track::Tracker;
 use std::alloc::Global;
 use std::process::Abort;
 use std::test::Fail;
+use test_tables::facts::{Code, NoMemory, Reply, Tables, Value};
 use test_tables::mm_tables;
 
 // Tracks that a client got a page at an address.

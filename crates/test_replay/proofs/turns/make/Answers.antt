@@ -1,6 +1,6 @@
 -- The first lock is told under the next id.
 use Rattle.std.proofs.Common.{◌≤◌, sym, ◌∙◌, ap, subst}
-use Rattle.sg_facts.specs.Object.{empty_object}
+use Rattle.test_tables.specs.sg_facts.Object.{empty_object}
 use Rattle.test_replay.proofs.OneLock.{first_made, goes_on, may_commit_make, told_make}
 use Rattle.test_replay.proofs.turns.make.Goals as goal
 

@@ -1,7 +1,7 @@
 -- What the take needs is the creation, which brings the first lock back.
 use Rattle.std.proofs.Common.{◌≡◌, [], Some, refl, sym, ◌∙◌, subst}
-use Rattle.sg_facts.specs.Needs.{Needs, wanted}
-use Rattle.sg_facts.specs.Object.{Object, empty_object}
+use Rattle.test_tables.specs.sg_facts.Needs.{Needs, wanted}
+use Rattle.test_tables.specs.sg_facts.Object.{Object, empty_object}
 use Rattle.sg_replay.specs.Engined.{Engined}
 use Rattle.sg_replay.specs.Missing.{missing}
 use Rattle.sg_replay.specs.Replaying.{MayAdvance}

@@ -1,6 +1,6 @@
 -- A refusal asks for nothing.
 use Rattle.std.proofs.Common.{◌≡◌, ◌+◌, ◌≤◌, refl, sym, ◌∙◌, ap, subst, arith}
-use Rattle.sg_facts.specs.sg_base.declared.reply.Reply.TheVariants.{Refused}
+use Rattle.test_tables.specs.sg_facts.sg_base.declared.reply.Reply.TheVariants.{Refused}
 use Rattle.test_storage.proofs.Committing.{may_refuse}
 use Rattle.test_storage.proofs.receipts.refuse.Goals as goal
 
