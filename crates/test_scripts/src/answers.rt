@@ -1,11 +1,11 @@
 // What is answered on a script, and what is to be.
 use crate::shapes::known_shapes;
 use sg_check::{Accepted, check, parse};
+use sg_facts::Interface;
 use sg_script::{ScriptError, ScriptKind, read};
 use std::alloc::Global;
 use std::process::Abort;
 use std::test::Fail;
-use test_tables::facts::Interface;
 
 /// What is first wrong with a script, at its place, counted in bytes from 0; None where nothing is.
 pub type Answer = Option<(usize, ScriptKind)>;
