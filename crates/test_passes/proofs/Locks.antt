@@ -6,7 +6,7 @@ use Rattle.sg_log.specs.sg_passes.sg_facts.Facts.{Facts}
 use Rattle.sg_log.specs.sg_passes.sg_facts.Interface.{Declared, declares}
 use Rattle.sg_log.specs.sg_passes.sg_facts.Kinds.{FitsKinds}
 use Rattle.sg_log.specs.Names.{MayOffer}
-use Rattle.test_tables.specs.sg_lock.LockFacts.{lock_facts}
+use Rattle.test_world.specs.test_tables.sg_lock.LockFacts.{lock_facts}
 use Rattle.test_passes.specs.Locks.{DeclaresLockCalls}
 use Rattle.test_passes.specs.Ready.{IsLockCall, TakesLockCalls}
 

@@ -1,7 +1,7 @@
 // A world on locks that two clients share, and the tests.
 ghost use Rattle.std.specs.Prelude.{◌≡◌, [], true, IfOk, length};
 ghost use Rattle.sg_log.specs.Log.{log_of};
-ghost use Rattle.test_tables.specs.sg_lock.LockFacts.{lock_facts};
+ghost use Rattle.test_world.specs.test_tables.sg_lock.LockFacts.{lock_facts};
 ghost use Rattle.test_passes.specs.Locks.{DeclaresLockCalls};
 ghost use Rattle.test_passes.specs.Ready.{TakesLockCalls};
 
@@ -15,7 +15,7 @@ use std::process::Abort;
 use std::sync::Wait;
 use std::test::Fail;
 use std::thread::Threads;
-use test_tables::{LockService, lock_tables};
+use test_world::tables::{LockService, lock_tables};
 use test_world::{Never, NoMemory, World, tells_reply};
 
 // The number of clients.

@@ -9,6 +9,7 @@
 //! - `plays`: plays as texts have them (`play`)
 //! - `calls`: one client's calls, each with the reply that it is to get (`answered`)
 //! - `seen`: whether a text tells what is seen of a world (`shows`)
+//! - `tables`: the standard interfaces, their tables and services, passed on
 //!
 //! `Never`, by which nothing stops, is passed on, and so is what plays name of services and values.
 #![tactic(auto)]
@@ -20,6 +21,7 @@ mod fits;
 mod plays;
 mod run;
 mod seen;
+pub mod tables;
 mod words;
 
 pub use answers::tells_reply;

@@ -2,7 +2,7 @@
 use std::alloc::Global;
 use std::process::Abort;
 use std::test::Fail;
-use test_tables::{
+use test_world::tables::{
     EventService, LockService, MmService, RamfsService, SchedService, event_tables, lock_tables,
     mm_tables, ramfs_tables, sched_tables,
 };

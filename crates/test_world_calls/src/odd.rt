@@ -2,7 +2,7 @@
 use std::alloc::Global;
 use std::process::Abort;
 use std::test::Fail;
-use test_tables::{EventService, LockService, event_tables, lock_tables};
+use test_world::tables::{EventService, LockService, event_tables, lock_tables};
 use test_world::{Asked, Did, Judge, Never, Phase, Run, Service, Stops, Unmade, judged};
 
 /// The first client is idle, the second waits, and the third has left.

@@ -1,10 +1,10 @@
 // Stops at every point: one client's calls get the replies of a run without stops.
 use std::test::Fail;
-use test_tables::{
+use test_world::answered;
+use test_world::tables::{
     EventService, LockService, MmService, RamfsService, SchedService, event_tables, lock_tables,
     mm_tables, ramfs_tables, sched_tables,
 };
-use test_world::answered;
 
 /// The last point at which a service stops here. Each run asks as many at least.
 const LAST: u64 = 40;

@@ -2,7 +2,7 @@
 use std::alloc::Global;
 use std::process::Abort;
 use std::test::Fail;
-use test_tables::{LockService, lock_tables};
+use test_world::tables::{LockService, lock_tables};
 use test_world::{
     Bytes, Code, Event, Good, Judge, Never, Reply, Run, Service, Stops, Unmade, Words, judged,
     shows, tells_reply,

@@ -29,7 +29,7 @@ impl Inside {
 
 impl Stops for Inside {
     ghost use Rattle.std.specs.Prelude.{[]};
-    ghost use Rattle.test_tables.specs.sg_slots.Carry.{words_of};
+    ghost use Rattle.test_world.specs.test_tables.sg_slots.Carry.{words_of};
 
     ghost asked = { λ inside. inside.asked };
 

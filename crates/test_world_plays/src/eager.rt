@@ -6,7 +6,7 @@ use sg_top::Played;
 use std::alloc::{AllocError, Global};
 use std::process::Abort;
 use std::test::Fail;
-use test_tables::{
+use test_world::tables::{
     EVENT, LOCK, MM, MmService, RAMFS, RamfsService, SCHED, SchedService, in_version_2, mm_tables,
     ramfs_tables, sched_tables,
 };

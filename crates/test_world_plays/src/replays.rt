@@ -5,7 +5,7 @@ use crate::again::plays_again;
 use sg_top::{Answer, MemSink, MemSource, NoMemory, Played, serial};
 use std::alloc::Global;
 use std::test::Fail;
-use test_tables::{
+use test_world::tables::{
     LOCK, LockService, MM, MmService, RAMFS, RamfsService, SCHED, SchedService, lock_tables,
     mm_tables, ramfs_tables, sched_tables,
 };

@@ -8,7 +8,7 @@ use std::alloc::Global;
 use std::sync::Wait;
 use std::test::Fail;
 use std::thread::Threads;
-use test_tables::{
+use test_world::tables::{
     EVENT, EventService, LOCK, LockService, MM, MmService, RAMFS, RamfsService, SCHED,
     SchedService, event_tables, lock_tables, mm_tables, ramfs_tables, sched_tables,
 };

@@ -1,11 +1,11 @@
 // Each call of a world, at each of the five services: a client makes and uses something, another waits for it or is refused, and
 // withdraws its call once; the service stops. All that is seen of the world at the end is told.
 use std::test::Fail;
-use test_tables::{
+use test_world::play;
+use test_world::tables::{
     EventService, LockService, MmService, RamfsService, SchedService, event_tables, lock_tables,
     mm_tables, ramfs_tables, sched_tables,
 };
-use test_world::play;
 
 // A client takes a lock that another waits for: that one withdraws its call, asks again, and waits anew after a stop.
 const LOCKS: &str = "clients 2

@@ -1,8 +1,8 @@
 // Plays of events, event by event.
 use std::alloc::Global;
 use std::test::Fail;
-use test_tables::{EventService, event_tables};
 use test_world::play;
+use test_world::tables::{EventService, event_tables};
 
 // A trigger is stored as the service stops: another client gets its count, and it is not added again.
 const TRIGGER_NOT_TWICE: &str = "clients 2

@@ -1,8 +1,8 @@
 // Plays of files, event by event.
 use std::alloc::Global;
 use std::test::Fail;
-use test_tables::{RamfsService, ramfs_tables};
 use test_world::play;
+use test_world::tables::{RamfsService, ramfs_tables};
 
 // A file is loaded for a client that reads it, and the offset of another is rebuilt.
 const LOADED: &str = r#"clients 2

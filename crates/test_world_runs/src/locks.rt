@@ -1,8 +1,8 @@
 // Plays of locks, event by event.
 use std::alloc::Global;
 use std::test::Fail;
-use test_tables::{LockService, lock_tables};
 use test_world::play;
+use test_world::tables::{LockService, lock_tables};
 
 // The service stops once a take is stored: the take is answered, and the lock is rebuilt as it was taken.
 const STOP_BEHIND_A_TAKE: &str = "clients 1

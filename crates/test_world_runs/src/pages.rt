@@ -1,8 +1,8 @@
 // Plays of mappings, event by event.
 use std::alloc::Global;
 use std::test::Fail;
-use test_tables::{MmService, mm_tables};
 use test_world::play;
+use test_world::tables::{MmService, mm_tables};
 
 // A page is rebuilt before its alias, each in the name of its maker.
 const PARENT_FIRST: &str = "clients 2

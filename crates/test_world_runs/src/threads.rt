@@ -1,8 +1,8 @@
 // Plays of threads, event by event.
 use std::alloc::Global;
 use std::test::Fail;
-use test_tables::{SchedService, sched_tables};
 use test_world::play;
+use test_world::tables::{SchedService, sched_tables};
 
 // Threads come back under other ids of the service, with their ranks.
 const RANKS_KEPT: &str = "clients 1

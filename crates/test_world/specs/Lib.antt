@@ -1,0 +1,1 @@
+pub use Rattle.test_tables.specs as test_tables
