@@ -83,8 +83,8 @@ fn push_entries(out: &mut Bytes, iface: &Interface, history: &History) -> Result
     Ok(())
 }
 
-// The line of an entry.
-fn push_entry(out: &mut Bytes, iface: &Interface, entry: &LentEntry) -> Result<(), NoMemory>
+/// Adds the line of an entry: its client, its number, the call and the reply.
+pub fn push_entry(out: &mut Bytes, iface: &Interface, entry: &LentEntry) -> Result<(), NoMemory>
     ensures { OnOk result (out.new ≡ out.old ++ entry_line iface.now.facts (entry_in entry.now)) }
 {
     out.extend_from_slice(b"c")?;
@@ -124,8 +124,8 @@ fn push_end(out: &mut Bytes, iface: &Interface, end: &End) -> Result<(), NoMemor
     }
 }
 
-// The counts of entries, boots and replayed calls.
-fn push_counts(out: &mut Bytes, history: &History, trace: &Trace) -> Result<(), NoMemory>
+/// Adds the counts of a run's entries, boots and replayed calls, without the end of a line.
+pub fn push_counts(out: &mut Bytes, history: &History, trace: &Trace) -> Result<(), NoMemory>
     ensures { OnOk result (out.new ≡ out.old ++ counts_text history.now.items (run_of trace.now)) }
 {
     let boots = trace.boots.as_slice();

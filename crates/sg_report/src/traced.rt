@@ -132,8 +132,8 @@ fn outcome_word(outcome: &LentOutcome) -> &'static [u8]
     }
 }
 
-// The line of a stop.
-fn push_stop(out: &mut Bytes, stop: Option<u64>) -> Result<(), NoMemory>
+/// Adds the line of a stop, where there was one.
+pub fn push_stop(out: &mut Bytes, stop: Option<u64>) -> Result<(), NoMemory>
     ensures { OnOk result (out.new ≡ out.old ++ stop_line stop) }
 {
     match stop {
