@@ -1,6 +1,7 @@
 -- An item that is kept in brief is read as it was.
 use Rattle.std.proofs.Common.{◌≡◌, true, List, [], ◌∷◌, ◌++◌, None, map, ◌∙◌, ap}
 use Rattle.std.proofs.lemmas.List.{map-append}
+use Rattle.sg_facts.specs.declared.kept.Kept.{Kept}
 use Rattle.sg_facts.specs.declared.outcome.Outcome.TheVariants.{Replied}
 use Rattle.sg_facts.specs.declared.trace.Item.{Item}
 use Rattle.sg_facts.specs.Inside.Items.{IsBriefItem, IsBriefOutcome, item_of, outcome_of, reply_words}
@@ -33,5 +34,5 @@ item_back brief item is =
     ∙ ap (λ o. record item { outcome = o }) is.outcome
 
 -- a record more is an item more
-pub item_added : (old new : List (Record Item)) (more : Record Item) (item : Item) → new ≡ old ++ more ∷ [] → item_of more ≡ item → map item_of new ≡ map item_of old ++ item ∷ []
+pub item_added : (old new : List (Record Kept)) (more : Record Kept) (item : Item) → new ≡ old ++ more ∷ [] → item_of more ≡ item → map item_of new ≡ map item_of old ++ item ∷ []
 item_added old new more item is same = ap (map item_of) is ∙ map-append item_of old (more ∷ []) ∙ ap (λ i. map item_of old ++ i ∷ []) same

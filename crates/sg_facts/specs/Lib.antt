@@ -15,6 +15,7 @@ pub mod Laws
 pub mod Legal
 pub mod Lent
 pub mod Limits
+pub mod Loads
 pub mod Needs
 pub mod Object
 pub mod Replaying

@@ -4,8 +4,10 @@ ghost use Rattle.std.specs.Option.{option_map};
 ghost use Rattle.sg_facts.specs.Inside.Items.{IsBriefItem, IsBriefOutcome, reply_words, tag_of};
 ghost use Rattle.sg_facts.specs.ItemKinds.{item_kind};
 ghost use Rattle.sg_facts.specs.Lent.{item_asked, item_in};
+ghost use Rattle.sg_facts.specs.Loads.{load_item};
 ghost use Rattle.sg_facts.specs.declared.outcome.Outcome.TheVariants.{Replied};
 
+use crate::kept::{Kept, LoadNote};
 use crate::lent::LentItem;
 use crate::{Item, ItemKind, Outcome, Tag, TagKind};
 use sg_records::{
@@ -15,12 +17,12 @@ use sg_records::{
 use std::alloc::Global;
 use std::marker::Model;
 
-/// The askings of one boot, with room for more. An asking whose call and reply have words alone takes 40 bytes, and 8 for each word; any
-/// other is kept as it was added. Contracts see the askings as `items`, and as `room` the number of those that the list can take without
+/// The askings of one boot, with room for more. An asking whose call and reply have words alone takes 40 bytes, and 8 for each word; that of
+/// a load refers to its file, which others may hold too; and any other is kept as it was added. Contracts see the askings as `items`, and as `room` the number of those that the list can take without
 /// memory.
 #[derive(Debug, Drop)]
 pub struct ItemList {
-    records: Records<Item>,
+    records: Records<Kept>,
 }
 
 impl Model for ItemList {
@@ -95,7 +97,16 @@ impl ItemList {
         ensures items { self.new.items ≡ self.old.items ++ item ∷ [] }
         ensures room { self.old.room ≤ self.new.room + 1 }
     {
-        self.records.add_whole(item);
+        self.records.add_whole(Kept::Item(item));
+    }
+
+    /// Adds the item of a load at the end, into the room that there is. It refers to the load's file.
+    pub fn add_load(&mut self, load: LoadNote)
+        requires { 0 < self.old.room }
+        ensures items { self.new.items ≡ self.old.items ++ load_item load ∷ [] }
+        ensures room { self.old.room ≤ self.new.room + 1 }
+    {
+        self.records.add_whole(Kept::Load(load));
     }
 
     /// The number of items.

@@ -6,6 +6,7 @@ ghost use Rattle.sg_facts.specs.declared.outcome.Outcome.TheVariants.{Replied};
 ghost use Rattle.sg_records.specs.Lent.{record_in, reply_in};
 ghost use Rattle.sg_records.specs.Records.{InBrief};
 
+use crate::kept::Kept;
 use crate::{Item, Outcome, Patch, Tag};
 use sg_records::{Gave, Lent, LentBrief, LentCall, LentReply, Why};
 
@@ -54,12 +55,13 @@ impl<'a> LentItem<'a> {
     }
 
     /// The item of a record, lent.
-    pub(crate) fn of_record(kept: Lent<'a, Item>) -> LentItem<'a>
+    pub(crate) fn of_record(kept: Lent<'a, Kept>) -> LentItem<'a>
         ensures { item_in result ≡ item_of (record_in kept.entry) }
     {
         match kept {
             Lent::Brief(brief) => LentItem::in_brief(brief),
-            Lent::Whole(item) => LentItem::of(item),
+            Lent::Whole(Kept::Item(item)) => LentItem::of(item),
+            Lent::Whole(Kept::Load(load)) => load.lent(),
         }
     }
 

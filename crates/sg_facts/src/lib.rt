@@ -8,7 +8,7 @@
 //! - `path`: the path of a file as a key (`FilePath`)
 //! - `trace`: what was done to a service, boot by boot (`Trace`, `BootLog`, `Item`, `Tag`)
 //! - `items`: the items of one boot, in few bytes (`ItemList`), and an asking by its parts (`Asking`); `lent`: items, lent (`LentItem`, `LentTag`, `LentOutcome`);
-//!   `kinds`: of which kinds they are (`ItemKind`, `TagKind`)
+//!   `kinds`: of which kinds they are (`ItemKind`, `TagKind`); `kept`: loads, whose files are shared (`LoadNote`)
 //! - `tables`: an interface with its walks (`Tables`, `WalkLine`)
 //! - `walk`: the functions whose calls rebuild a descriptor (`Walk`)
 //! - `service`: the trait `Service`
@@ -25,6 +25,7 @@
 mod entry;
 mod interface;
 mod items;
+mod kept;
 mod kinds;
 mod laws;
 mod lent;
@@ -42,6 +43,7 @@ mod words;
 pub use entry::Entry;
 pub use interface::Interface;
 pub use items::{Asking, ItemList};
+pub use kept::LoadNote;
 pub use kinds::{ItemKind, TagKind};
 pub use laws::legal_from_the_front;
 pub use lent::{LentItem, LentOutcome, LentTag};

@@ -23,6 +23,7 @@ use Rattle.sg_facts.specs.Facts.{Facts, is_visible}
 use Rattle.sg_facts.specs.Guard.{guard}
 use Rattle.sg_facts.specs.Interface.{Declared}
 use Rattle.sg_facts.specs.Legal.{Table}
+use Rattle.sg_facts.specs.Loads.{load_item}
 use Rattle.sg_facts.specs.Needs.{is_needed, needs, wanted}
 use Rattle.sg_facts.specs.Object.{Object, file_at, patch_of}
 use Rattle.sg_facts.specs.Trace.{Boot, Run}
@@ -167,15 +168,9 @@ pub record IsAdmitted (i : Declared) (history : List Entry) (unanswered : List C
   pub under_way : IsUnderWay i.facts history unanswered p client call
   pub guarded : guard i (object_before i.facts history p) call ≡ None
 
--- the item of a load of a file, for a client: a call of no function, and an Ok without words that patches the whole file
+-- the item of a load of a file, for a client
 abbrev pub item_of_load : ℕ → ℕ → List ℕ → List ℕ → Item
-item_of_load client points key bytes = record {
-  tag = Load key client;
-  shown = record { client = client; seq = 0; fun = 0; desc = 0; args = [] };
-  real = 0;
-  points = points;
-  outcome = Replied (Ok (record { desc = 0; words = []; bytes = [] })) (Some (record { key = key; from = 0; bytes = bytes }));
-}
+item_of_load client points key bytes = load_item (record { client = client; points = points; file = record { key = key; from = 0; bytes = bytes } })
 
 -- what is rebuilt is wanted for an admitted call of the client in whose turn it is rebuilt, and is the least that isn't whole
 pub record IsRebuiltFor (i : Declared) (walks : List WalkLine) (history : List Entry) (unanswered : List Call) (p : Position) (client id : ℕ) : Type 0 where

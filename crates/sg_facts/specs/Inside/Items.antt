@@ -1,5 +1,8 @@
 -- How an item is kept in few bytes.
 use Rattle.std.specs.Prelude.{ℕ, ◌≡◌, ◌≤◌, List, [], None, length, map}
+use Rattle.sg_facts.specs.Loads.{load_item}
+use Rattle.sg_facts.specs.declared.kept.Kept.{Kept}
+use Rattle.sg_facts.specs.declared.kept.Kept.TheVariants.{Item as KeptItem, Load as KeptLoad}
 use Rattle.sg_facts.specs.declared.outcome.Outcome.{Outcome}
 use Rattle.sg_facts.specs.declared.outcome.Outcome.TheVariants.{Replied, Blocks, Stopped, NoMemory}
 use Rattle.sg_facts.specs.declared.trace.Item.{Item}
@@ -25,8 +28,13 @@ outcome_of GaveBlocks words = Blocks
 outcome_of GaveStopped words = Stopped
 outcome_of GaveNoMemory words = NoMemory
 
+-- the item that is kept as it was added, or as a load
+abbrev pub kept_item : Kept → Item
+kept_item (KeptItem item) = item
+kept_item (KeptLoad load) = load_item load
+
 -- the item of a record
-abbrev pub item_of : Record Item → Item
+abbrev pub item_of : Record Kept → Item
 item_of (InBrief brief args words) = record {
   tag = tag_of brief.why brief.client brief.seq;
   shown = call_of brief args;
@@ -34,7 +42,7 @@ item_of (InBrief brief args words) = record {
   points = brief.points;
   outcome = outcome_of brief.gave words;
 }
-item_of (Whole item) = item
+item_of (Whole kept) = kept_item kept
 
 -- the words of a reply that was given
 abbrev pub reply_words : Outcome → List ℕ
