@@ -11,8 +11,7 @@ ghost use Rattle.sg_hist.specs.Recovered.{item_of_load};
 
 use crate::ask::ask;
 use crate::journal::Journal;
-use crate::load::load_item;
-use sg_facts::{Call, NoMemory, Outcome, Path, Service, Stops, Tag, Trace};
+use sg_facts::{Call, LoadNote, NoMemory, Outcome, Path, Service, Stops, Tag, Trace};
 use std::alloc::Global;
 use std::marker::Model;
 
@@ -155,12 +154,12 @@ impl<S: Service> Cell<S> {
         ensures run { OnOk result (self.new.run ≡ with_item self.old.run (item_of_load client points key.now bytes.now) points) }
         ensures err { OnErr result ((self.new.running ≡ self.old.running) × (self.new.run ≡ self.old.run) × (self.new.room ≡ self.old.room)) }
     {
-        let item = load_item(alloc, client, points, key, bytes)?;
+        let file = self.journal.file(alloc, key, bytes)?;
         match &mut self.service {
             Some(service) => service.load(alloc, key, bytes)?,
             None => unreachable!(),
         }
-        self.journal.note(item);
+        self.journal.note_load(LoadNote::new(client, points, file));
         Ok(())
     }
 

@@ -4,23 +4,29 @@ ghost use Rattle.sg_facts.specs.Trace.{run_of};
 ghost use Rattle.sg_facts.specs.Inside.Items.{IsBriefItem};
 ghost use Rattle.sg_facts.specs.Inside.Rows.{boot_of};
 ghost use Rattle.sg_facts.specs.Lent.{item_asked};
+ghost use Rattle.sg_facts.specs.Loads.{load_item};
+ghost use Rattle.std.specs.Arc.{arc_value};
 ghost use Rattle.sg_hist.specs.Growing.{booted, noted, struck};
 ghost use Rattle.sg_boot.specs.Invoking.{item_of_call, with_item, with_stop};
 ghost use Rattle.sg_boot.specs.Inside.Journals.{last_room};
 ghost use Rattle.sg_boot.specs.Inside.Rooms.{FitsItemRoom};
 
+use crate::load::LoadedFiles;
 use crate::room::ItemRoom;
 use sg_facts::{
-    Asking, BootList, BootLog, Brief, Call, Item, ItemList, NoMemory, Outcome, Tag, Trace,
+    Asking, BootList, BootLog, Brief, Call, Item, ItemList, LoadNote, NoMemory, Outcome, Patch,
+    Path, Tag, Trace,
 };
 use std::alloc::Global;
 use std::marker::Model;
+use std::sync::Arc;
 
 /// A trace that has begun. Contracts see what it tells, and for how many items and boots more there is room. Room for what an item holds
-/// is kept from one to the next.
+/// is kept from one to the next, and so is the last load of each file.
 #[derive(Debug, Drop)]
 pub(crate) struct Journal {
     trace: Trace,
+    loaded: LoadedFiles,
     room: ItemRoom,
     // Whether the room is enough for one item.
     ready: bool,
@@ -49,6 +55,7 @@ impl Journal {
         boots.add(empty_boot(alloc));
         Ok(Journal {
             trace: Trace { boots, points: 0 },
+            loaded: LoadedFiles::new(alloc),
             room: ItemRoom::new(alloc),
             ready: false,
         })
@@ -132,13 +139,27 @@ impl Journal {
         }
     }
 
-    /// Notes an item, whose number of points is the number asked.
-    pub(crate) fn note(&mut self, item: Item)
-        requires { 1 ≤ self.old.room }
-        ensures { self.new.run ≡ with_item self.old.run item item.points }
+    /// A file as it is loaded: the patch of the whole file, shared with its last load where the bytes are still the same.
+    pub(crate) fn file(
+        &mut self,
+        alloc: Global,
+        key: &Path,
+        bytes: &[u8],
+    ) -> Result<Arc<Patch, Global>, NoMemory>
+        ensures file { IfOk result (λ file. arc_value file ≡ record { key = key.now; from = 0; bytes = bytes.now }) }
+        ensures run { self.new.run ≡ self.old.run }
+        ensures room { self.new.room ≡ self.old.room }
     {
-        self.trace.points = item.points;
-        note(&mut self.trace.boots, item);
+        self.loaded.file(alloc, key, bytes)
+    }
+
+    /// Notes a load, whose number of points is the number asked.
+    pub(crate) fn note_load(&mut self, load: LoadNote)
+        requires { 1 ≤ self.old.room }
+        ensures { self.new.run ≡ with_item self.old.run (load_item load) load.points }
+    {
+        self.trace.points = load.points();
+        note_load(&mut self.trace.boots, load);
     }
 
     /// Sets the number of points asked.
@@ -206,6 +227,22 @@ fn note(boots: &mut BootList, item: Item)
     match boots.pop() {
         Some(mut last) => {
             last.items.add(item);
+            boots.add(last);
+        }
+        None => unreachable!(),
+    }
+}
+
+// Adds the item of a load to the last boot.
+fn note_load(boots: &mut BootList, load: LoadNote)
+    requires begun { boots.old.items ≢ [] }
+    requires room { 1 ≤ last_room boots.old.items }
+    ensures begun { boots.new.items ≢ [] }
+    ensures boots { map boot_of boots.new.items ≡ noted (map boot_of boots.old.items) (load_item load) }
+{
+    match boots.pop() {
+        Some(mut last) => {
+            last.items.add_load(load);
             boots.add(last);
         }
         None => unreachable!(),

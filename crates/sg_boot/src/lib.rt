@@ -2,7 +2,7 @@
 //!
 //! - `cell`: a service with its journal (`Cell`)
 //! - `ask`: asking a service, with the point after its reply
-//! - `load`: the item of a load
+//! - `load`: the files that were loaded, which items of loads share
 //! - `journal`: what was done, with room for more; `room`: room for what one item holds
 #![tactic(auto)]
 

@@ -1,63 +1,63 @@
-// The item of a load.
-ghost use Rattle.std.specs.Prelude.{◌≡◌, IfOk};
-ghost use Rattle.sg_hist.specs.Recovered.{item_of_load};
-ghost use Rattle.sg_hist.specs.Inside.Parts.{load_call, load_outcome};
+// The files that were loaded, for the items of loads.
+ghost use Rattle.std.specs.Prelude.{◌≡◌, ◌↔◌, IfOk, IsTrue};
+ghost use Rattle.std.specs.Arc.{arc_value};
 
-use sg_facts::{
-    Args, Bytes, Call, Good, Item, NoMemory, Outcome, Patch, Path, Reply, Tag, TryCopy, Words,
-};
+use sg_facts::{Bytes, NoMemory, Patch, Path, TryCopy};
 use std::alloc::Global;
+use std::collections::BTreeMap;
+use std::sync::Arc;
 
-/// The item of a load of a file, for a client.
-pub(crate) fn load_item(
-    alloc: Global,
-    client: u8,
-    points: u64,
-    key: &Path,
-    bytes: &[u8],
-) -> Result<Item, NoMemory>
-    ensures { IfOk result (λ item. item ≡ item_of_load client points key.now bytes.now) }
-{
-    Ok(Item {
-        tag: Tag::Load {
-            key: key.copy(alloc)?,
-            client,
-        },
-        shown: load_call(alloc, client),
-        real: 0,
-        points,
-        outcome: load_outcome(alloc, key, bytes)?,
-    })
+/// The last load of each file, by its path. A file that is loaded again with the same bytes is held once, by all its items.
+#[derive(Debug, Drop)]
+pub(crate) struct LoadedFiles {
+    files: BTreeMap<Vec<u8>, Arc<Patch, Global>>,
 }
 
-// The call of a load, which is of no function.
-fn load_call(alloc: Global, client: u8) -> Call
-    ensures { result ≡ load_call client }
-{
-    Call {
-        client,
-        seq: 0,
-        fun: 0,
-        desc: 0,
-        args: Args::new(alloc),
+impl LoadedFiles {
+    /// No load. It takes no memory.
+    pub(crate) fn new(alloc: Global) -> LoadedFiles {
+        LoadedFiles {
+            files: BTreeMap::new(alloc),
+        }
+    }
+
+    /// A file as it is loaded: the patch of the whole file. It is that of the last load, where the bytes are still the same.
+    pub(crate) fn file(
+        &mut self,
+        alloc: Global,
+        key: &Path,
+        bytes: &[u8],
+    ) -> Result<Arc<Patch, Global>, NoMemory>
+        ensures { IfOk result (λ file. arc_value file ≡ record { key = key.now; from = 0; bytes = bytes.now }) }
+    {
+        if let Some(file) = self.files.get(key.as_slice()) {
+            if is_whole(file, key, bytes) {
+                return Ok(Arc::try_clone(file)?);
+            }
+        }
+        let file = Arc::new(alloc, whole_file(alloc, key, bytes)?)?;
+        self.files.insert(
+            Vec::from_slice(alloc, key.as_slice())?,
+            Arc::try_clone(&file)?,
+        )?;
+        Ok(file)
     }
 }
 
-// What a load gives: an Ok without words, and a patch of the whole file.
-fn load_outcome(alloc: Global, key: &Path, bytes: &[u8]) -> Result<Outcome, NoMemory>
-    ensures { IfOk result (λ outcome. outcome ≡ load_outcome key.now bytes.now) }
+// Whether a patch is of the whole of a file with these bytes.
+fn is_whole(patch: &Patch, key: &Path, bytes: &[u8]) -> bool
+    ensures { IsTrue result ↔ (patch.now ≡ record { key = key.now; from = 0; bytes = bytes.now }) }
 {
-    let patch = Patch {
+    patch.from == 0 && patch.key == *key && patch.bytes.as_slice() == bytes
+}
+
+// The patch of the whole of a file with these bytes.
+fn whole_file(alloc: Global, key: &Path, bytes: &[u8]) -> Result<Patch, NoMemory>
+    ensures { IfOk result (λ patch. patch ≡ record { key = key.now; from = 0; bytes = bytes.now }) }
+{
+    Ok(Patch {
         key: key.copy(alloc)?,
         from: 0,
         bytes: Bytes::from_slice(alloc, bytes)?,
-    };
-    Ok(Outcome::Replied {
-        reply: Reply::Ok(Good {
-            desc: 0,
-            words: Words::new(alloc),
-            bytes: Bytes::new(alloc),
-        }),
-        patch: Some(patch),
     })
 }

@@ -41,6 +41,13 @@ impl LoadNote {
         }
     }
 
+    /// The number of points asked when it ended.
+    pub fn points(&self) -> u64
+        ensures { result ≡ self.now.points }
+    {
+        self.points
+    }
+
     /// Its item, lent.
     pub(crate) fn lent(&self) -> LentItem<'_>
         ensures { item_in result ≡ load_item self.now }
