@@ -10,5 +10,5 @@ invariant_of-self-2 g c =
     let boots = c.self.inside.journal.run.boots in
     let cell : IsCell facts (Some (g.S.Service.object c.in-Some.service)) boots =
     subst (λ s. IsCell facts (option_map g.S.Service.object s) boots) c.in-Some.is c.self.invariant in
-    rw (c.note.ensures, c.in_ok-item.ensures)
+    rw (c.note_load.ensures, c.new.ensures, c.in_ok-file.ensures.file, c.file.ensures.run)
     (kept_loaded facts boots (g.S.Service.object c.in-Some.service) _ c.args.client c.args.points c.args.key.now c.args.bytes.now cell c.requires.files c.in_ok-load-in-Some.ensures.ok)
