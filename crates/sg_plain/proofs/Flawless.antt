@@ -1,3 +1,5 @@
 -- That a script without a flaw may be played.
+pub mod Clients
 pub mod Flawless
-mod Parts
+pub mod Once
+pub mod Parts
