@@ -2,6 +2,7 @@ pub mod Beginning
 pub mod Calling
 pub mod EndLists
 pub mod Ending
+pub mod Flawless
 pub mod Growing
 pub mod Keeping
 pub mod Member
