@@ -12,7 +12,7 @@ use Rattle.sg_load.specs.declared.kind.ServiceKind.{ServiceKind}
 use Rattle.sg_input.specs.sg_lex.Table.{IsNumber}
 use Rattle.sg_input.specs.sg_script.Numbers.{value_of_digits}
 use Rattle.sg_top.specs.declared.command.Command.{Command}
-use Rattle.sg_top.specs.declared.command.Command.TheVariants.{Play, Check, Compile, Upgrade, Explain, Explore, Verify, Load}
+use Rattle.sg_top.specs.declared.command.Command.TheVariants.{Play, Check, Compile, Upgrade, Explain, Explore, Verify, Multi, Load}
 use Rattle.sg_top.specs.declared.command.Shows.TheVariants.{Run, Trace, Costs, Picture, Columns}
 use Rattle.sg_top.specs.Answer.{IsCommand, IsSerialCommand}
 use Rattle.sg_top.specs.Inside.Words.{AreBoundOf, AreDigitsOf, IsLoadOf, IsPairOf, IsWordOf}
@@ -34,6 +34,8 @@ texts_of Explain digits = codes "explain" ∷ []
 texts_of (Explore most) [] = codes "explore" ∷ []
 texts_of (Explore most) (d ∷ digits) = codes "explore" ∷ (d ∷ digits) ∷ []
 texts_of Verify digits = codes "verify" ∷ []
+texts_of (Multi false) digits = codes "multi" ∷ []
+texts_of (Multi true) digits = codes "multi" ∷ codes "trace" ∷ []
 texts_of (Load service number) digits = codes "load" ∷ (facts_by service).name ∷ digits ∷ []
 
 -- the digits fit the command
@@ -69,6 +71,8 @@ says words Explain is = ([], tt, is)
 says words (Explore most) (inl (none, is)) = ([], sym none, is)
 says words (Explore most) (inr (digits, (number, value, few), is)) = says_bound (map string_bytes words) most digits number value is
 says words Verify is = ([], tt, is)
+says words (Multi false) is = ([], tt, is)
+says words (Multi true) is = ([], tt, is)
 says words (Load service number) is = (is.0, is.1, is.2)
 
 abbrev text_at : ℕ → List (List ℕ) → List ℕ
@@ -83,6 +87,7 @@ command_in texts =
     else if bytes_eq (text_at 0 texts) (codes "upgrade") then Upgrade
     else if bytes_eq (text_at 0 texts) (codes "explain") then Explain
     else if bytes_eq (text_at 0 texts) (codes "verify") then Verify
+    else if bytes_eq (text_at 0 texts) (codes "multi") then Multi (length texts == 2)
     else if bytes_eq (text_at 0 texts) (codes "cost") then Play false Costs
     else if bytes_eq (text_at 0 texts) (codes "draw") then Play false (if length texts == 2 then Columns else Picture)
     else if bytes_eq (text_at 0 texts) (codes "explore") then Explore (value_of_digits (text_at 1 texts))
@@ -106,6 +111,8 @@ it_is Explain digits fit = refl
 it_is (Explore most) [] fit = ap Explore fit
 it_is (Explore most) (d ∷ digits) fit = ap Explore fit
 it_is Verify digits fit = refl
+it_is (Multi false) digits fit = refl
+it_is (Multi true) digits fit = refl
 it_is (Load service number) digits fit = ap (λ k. Load k (value_of_digits digits)) (called service) ∙ ap (Load service) fit.1
 
 pub one_command : (words : List (String Global)) (a b : Command) → IsCommand words a → IsCommand words b → a ≡ b
@@ -142,6 +149,8 @@ count_is words c is = let u = says words c is in by c u.0 (sym (length-map words
     by (Explore most) [] l = (omega (arith, l), omega (arith, l))
     by (Explore most) (d ∷ digits) l = (omega (arith, l), omega (arith, l))
     by Verify digits l = (omega (arith, l), omega (arith, l))
+    by (Multi false) digits l = (omega (arith, l), omega (arith, l))
+    by (Multi true) digits l = (omega (arith, l), omega (arith, l))
     by (Load s n) digits l = (omega (arith, l), omega (arith, l))
 
 -- ---- one word
@@ -164,6 +173,8 @@ word_of word Explain is = ap (text_at 0) is
 word_of word (Explore most) (inl (none, is)) = (none, ap (text_at 0) is)
 word_of word (Explore most) (inr (digits, bound, is)) = absurd (omega (arith, ap length is))
 word_of word Verify is = ap (text_at 0) is
+word_of word (Multi false) is = ap (text_at 0) is
+word_of word (Multi true) is = absurd (omega (arith, ap length is))
 word_of word (Load s n) is = absurd (omega (arith, ap length is.2))
 
 of_word : (word : String Global) (command : Command) → IsWordOf (string_bytes word) command → IsCommand (word ∷ []) command
@@ -183,6 +194,8 @@ of_word word Upgrade is = ap (λ t. t ∷ []) is
 of_word word Explain is = ap (λ t. t ∷ []) is
 of_word word (Explore most) (none, is) = inl (none, ap (λ t. t ∷ []) is)
 of_word word Verify is = ap (λ t. t ∷ []) is
+of_word word (Multi false) is = ap (λ t. t ∷ []) is
+of_word word (Multi true) is = absurd is
 of_word word (Load s n) is = absurd is
 
 -- words are one, where there is a first and no second
@@ -225,6 +238,8 @@ pair_of word more Explain is = absurd (omega (arith, ap length is))
 pair_of word more (Explore most) (inl (none, is)) = absurd (omega (arith, ap length is))
 pair_of word more (Explore most) (inr (digits, bound, is)) = (ap (text_at 0) is, subst (AreBoundOf most) (sym (ap (text_at 1) is)) bound)
 pair_of word more Verify is = absurd (omega (arith, ap length is))
+pair_of word more (Multi false) is = absurd (omega (arith, ap length is))
+pair_of word more (Multi true) is = (ap (text_at 0) is, ap (text_at 1) is)
 pair_of word more (Load s n) is = absurd (omega (arith, ap length is.2))
 
 of_pair : (word more : String Global) (command : Command) → IsPairOf (string_bytes word) (string_bytes more) command → IsCommand (word ∷ more ∷ []) command
@@ -244,6 +259,8 @@ of_pair word more Upgrade is = absurd is
 of_pair word more Explain is = absurd is
 of_pair word more (Explore most) is = inr (string_bytes more, is.1, ap (λ t. t ∷ string_bytes more ∷ []) is.0)
 of_pair word more Verify is = absurd is
+of_pair word more (Multi false) is = absurd is
+of_pair word more (Multi true) is = cc (is.0, is.1)
 of_pair word more (Load s n) is = absurd is
 
 -- what two words say, of all words
@@ -295,6 +312,8 @@ load_of word name digits Explain is = absurd (omega (arith, ap length is))
 load_of word name digits (Explore most) (inl (none, is)) = absurd (omega (arith, ap length is))
 load_of word name digits (Explore most) (inr (shown, bound, is)) = absurd (omega (arith, ap length is))
 load_of word name digits Verify is = absurd (omega (arith, ap length is))
+load_of word name digits (Multi false) is = absurd (omega (arith, ap length is))
+load_of word name digits (Multi true) is = absurd (omega (arith, ap length is))
 load_of word name digits (Load s n) is = (ap (text_at 0) is.2, ap (text_at 1) is.2, subst (AreDigitsOf n) (sym (ap (text_at 2) is.2)) is.1)
 
 of_load : (word name digits : String Global) (command : Command) → IsLoadOf (string_bytes word) (string_bytes name) (string_bytes digits) command → IsCommand (word ∷ name ∷ digits ∷ []) command
@@ -305,6 +324,7 @@ of_load word name digits Upgrade is = absurd is
 of_load word name digits Explain is = absurd is
 of_load word name digits (Explore most) is = absurd is
 of_load word name digits Verify is = absurd is
+of_load word name digits (Multi trace) is = absurd is
 of_load word name digits (Load s n) is = (string_bytes digits, is.2, cc (is.0, is.1))
 
 -- what three words say, of all words

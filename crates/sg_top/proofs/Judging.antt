@@ -24,10 +24,9 @@ use Rattle.sg_top.specs.Answer.{IsJudgedAs, IsOutput, services}
 use Rattle.sg_top.specs.Inside.Pieces.{IsIllegal, IsVerified, verdict_status}
 use Rattle.sg_top.specs.Headline.{answering}
 use Rattle.sg_top.specs.Inside.Plays.{IsPlayed}
-use Rattle.std.specs.declared.option.Option.{Option}
-use Rattle.sg_verify.specs.sg_report.sg_hist.declared.ended.Ended.{Ended}
 use Rattle.sg_top.specs.declared.command.Command.{Command}
 use Rattle.sg_top.specs.declared.command.Command.TheVariants.{Verify}
+use Rattle.sg_top.specs.declared.output.Ran.{Ran}
 use Rattle.sg_top.specs.declared.status.Status.{Status}
 use Rattle.sg_top.specs.declared.status.Status.TheVariants.{Illegal}
 
@@ -51,10 +50,10 @@ verified_so bytes wanted output line (inl judged) bad = judged.answered ∙ ap v
 verified_so bytes wanted output line (inr refused) bad = absurd (never_ready services bytes output bad.i bad.history refused.1 bad.ready)
 
 -- where a history isn't legal, an output for its bytes says so
-pub judged_so : (command : Command) (bytes : List ℕ) (ended : Option Ended) (wanted : Status) (output line : List ℕ)
-    → IsOutput command bytes ended wanted output → IsIllegal command bytes line → wanted ≡ Illegal
-judged_so command bytes ended wanted output line is (verifies, short, bad) =
-    let verified : IsOutput Verify bytes ended wanted output = subst (λ c. IsOutput c bytes ended wanted output) verifies is in
+pub judged_so : (command : Command) (bytes : List ℕ) (ran : Ran) (wanted : Status) (output line : List ℕ)
+    → IsOutput command bytes ran wanted output → IsIllegal command bytes line → wanted ≡ Illegal
+judged_so command bytes ran wanted output line is (verifies, short, bad) =
+    let verified : IsOutput Verify bytes ran wanted output = subst (λ c. IsOutput c bytes ran wanted output) verifies is in
     verified_so bytes wanted output line verified.1 bad
 
 -- ---- what is made of an input

@@ -8,3 +8,4 @@ pub mod Judging
 pub mod Named
 pub mod Refusals
 pub mod Running
+pub mod Several

@@ -1,6 +1,5 @@
 -- An output that isn't a refusal refuses nothing: a text has one verdict, and an input is one thing.
 use Rattle.std.proofs.Common.{◌≡◌, ℕ, ◌≤◌, inl, inr, Bool, false, List, None, Some, arith, length}
-use Rattle.std.specs.declared.option.Option.{Option}
 use Rattle.sg_verify.specs.sg_report.sg_hist.declared.ended.Ended.{Ended}
 use Rattle.sg_explain.proofs.Alone.{explained_alone}
 use Rattle.sg_input.specs.declared.outcome.Verdict.{Verdict}
@@ -9,15 +8,21 @@ use Rattle.sg_input.specs.Verdicts.{IsCompiled, IsUpgraded, IsVerdict}
 use Rattle.sg_input.proofs.OneVerdict.{one_verdict}
 use Rattle.sg_input.specs.declared.input.Input.TheVariants.{Refused as refused_input}
 use Rattle.sg_input.specs.Inputs.{IsInputOf}
+use Rattle.sg_input.specs.MultiInputs.{IsMultiInputOf}
+use Rattle.sg_input.specs.declared.multi_input.MultiInput.{MultiInput}
+use Rattle.sg_input.specs.declared.multi_input.MultiInput.TheVariants.{Ready as ready_multi, Refused as refused_multi}
+use Rattle.sg_input.proofs.OneMulti.{one_multi_input}
 use Rattle.sg_input.proofs.OneInput.{never_ready, not_refused}
 use Rattle.sg_input.proofs.OneRun.{never_ready as never_printed}
 use Rattle.sg_top.specs.Headline.{IsRunOfInput, played_services}
 use Rattle.sg_top.specs.declared.command.Command.{Command}
 use Rattle.sg_top.specs.declared.command.Shows.{Shows}
-use Rattle.sg_top.specs.declared.command.Command.TheVariants.{Play, Check, Compile, Upgrade, Explain, Explore, Verify, Load}
+use Rattle.sg_top.specs.declared.command.Command.TheVariants.{Play, Check, Compile, Upgrade, Explain, Explore, Verify, Multi, Load}
+use Rattle.sg_top.specs.declared.output.Ran.{Ran}
+use Rattle.sg_top.specs.declared.output.Ran.TheVariants.{Nothing, One, Several}
 use Rattle.sg_top.specs.declared.status.Status.{Status}
 use Rattle.sg_top.specs.declared.status.Status.TheVariants.{Refused}
-use Rattle.sg_top.specs.Answer.{IsOutput, IsRefusal, has_input, most_bytes, services, IsPlayOutput}
+use Rattle.sg_top.specs.Answer.{IsMultiOutput, IsOutput, IsRefusal, has_input, most_bytes, services, IsPlayOutput}
 use Rattle.sg_top.specs.Inside.Pieces.{IsRefusedAs}
 
 -- a text isn't accepted and refused
@@ -37,37 +42,50 @@ not_unupgraded text line output (tree, i, parses, is, prints) bad = not_refused 
 not_unplayed : (bytes line output : List ℕ) (in_threads : Bool) (shows : Shows) (ended : Ended) → IsRunOfInput played_services bytes in_threads shows ended output → IsInputOf services bytes (refused_input line) → ⊥
 not_unplayed bytes line output in_threads shows ended run bad = never_ready services bytes line run.i run.script bad run.ready
 
-played_alone : (bytes : List ℕ) (in_threads : Bool) (shows : Shows) (ended : Option Ended) (status : Status) (output line : List ℕ) → (status ≡ Refused → ⊥)
-    → IsPlayOutput bytes in_threads shows ended status output → IsInputOf services bytes (refused_input line) → ⊥
-played_alone bytes in_threads shows None status output line good is bad = good is.0
-played_alone bytes in_threads shows (Some e) status output line good is bad = not_unplayed bytes line output in_threads shows e is.1 bad
+played_alone : (bytes : List ℕ) (in_threads : Bool) (shows : Shows) (ran : Ran) (status : Status) (output line : List ℕ) → (status ≡ Refused → ⊥)
+    → IsPlayOutput bytes in_threads shows ran status output → IsInputOf services bytes (refused_input line) → ⊥
+played_alone bytes in_threads shows Nothing status output line good is bad = good is.0
+played_alone bytes in_threads shows (One e) status output line good is bad = not_unplayed bytes line output in_threads shows e is.1 bad
+played_alone bytes in_threads shows (Several came) status output line good is bad = is
 
-good_alone : (command : Command) (bytes : List ℕ) (ended : Option Ended) (status : Status) (output line : List ℕ) → (status ≡ Refused → ⊥)
-    → IsOutput command bytes ended status output → IsRefusedAs command bytes line → ⊥
-good_alone (Play threads shows) bytes ended status output line good is bad = played_alone bytes threads shows ended status output line good is bad
-good_alone Check bytes ended status output line good (none, inl accepts) bad = not_both bytes line output accepts.1 bad
-good_alone Compile bytes ended status output line good (none, inl accepts) bad = not_untabled bytes line output accepts.1 bad
-good_alone Upgrade bytes ended status output line good (none, inl accepts) bad = not_unupgraded bytes line output accepts.1 bad
-good_alone Explain bytes ended status output line good (none, inl explained) bad = explained_alone services bytes output line explained.1 bad
-good_alone (Explore most) bytes ended status output line good (none, inl explored) bad = never_ready services bytes line explored.i explored.script bad explored.ready
-good_alone Verify bytes ended status output line good (none, inl judged) bad = never_printed services bytes line judged.i judged.history bad judged.ready
-good_alone Check bytes ended status output line good (none, inr other) bad = good other.0
-good_alone Compile bytes ended status output line good (none, inr other) bad = good other.0
-good_alone Upgrade bytes ended status output line good (none, inr other) bad = good other.0
-good_alone Explain bytes ended status output line good (none, inr other) bad = good other.0
-good_alone (Explore most) bytes ended status output line good (none, inr other) bad = good other.0
-good_alone Verify bytes ended status output line good (none, inr other) bad = good other.0
-good_alone (Load service number) bytes ended status output line good is bad = bad
+-- an input that is played over several services isn't refused
+multi_alone : (bytes : List ℕ) (with_trace : Bool) (ran : Ran) (status : Status) (output line : List ℕ) → (status ≡ Refused → ⊥)
+    → IsMultiOutput bytes with_trace ran status output → IsMultiInputOf services bytes (refused_multi line) → ⊥
+multi_alone bytes with_trace Nothing status output line good is bad = good is.0
+multi_alone bytes with_trace (One e) status output line good is bad = is
+multi_alone bytes with_trace (Several came) status output line good is bad =
+    let same : ◌≡◌ {A = MultiInput} (refused_multi line) (ready_multi is.1.interfaces is.1.script) =
+    one_multi_input services bytes (refused_multi line) (ready_multi is.1.interfaces is.1.script) bad is.1.ready in
+    absurd cc
+
+good_alone : (command : Command) (bytes : List ℕ) (ran : Ran) (status : Status) (output line : List ℕ) → (status ≡ Refused → ⊥)
+    → IsOutput command bytes ran status output → IsRefusedAs command bytes line → ⊥
+good_alone (Play threads shows) bytes ran status output line good is bad = played_alone bytes threads shows ran status output line good is bad
+good_alone (Multi trace) bytes ran status output line good is bad = multi_alone bytes trace ran status output line good is bad
+good_alone Check bytes ran status output line good (none, inl accepts) bad = not_both bytes line output accepts.1 bad
+good_alone Compile bytes ran status output line good (none, inl accepts) bad = not_untabled bytes line output accepts.1 bad
+good_alone Upgrade bytes ran status output line good (none, inl accepts) bad = not_unupgraded bytes line output accepts.1 bad
+good_alone Explain bytes ran status output line good (none, inl explained) bad = explained_alone services bytes output line explained.1 bad
+good_alone (Explore most) bytes ran status output line good (none, inl explored) bad = never_ready services bytes line explored.i explored.script bad explored.ready
+good_alone Verify bytes ran status output line good (none, inl judged) bad = never_printed services bytes line judged.i judged.history bad judged.ready
+good_alone Check bytes ran status output line good (none, inr other) bad = good other.0
+good_alone Compile bytes ran status output line good (none, inr other) bad = good other.0
+good_alone Upgrade bytes ran status output line good (none, inr other) bad = good other.0
+good_alone Explain bytes ran status output line good (none, inr other) bad = good other.0
+good_alone (Explore most) bytes ran status output line good (none, inr other) bad = good other.0
+good_alone Verify bytes ran status output line good (none, inr other) bad = good other.0
+good_alone (Load service number) bytes ran status output line good is bad = bad
 
 -- where an output for bytes doesn't refuse them, they aren't refused
-pub never_refused : (command : Command) (bytes : List ℕ) (ended : Option Ended) (status : Status) (output line : List ℕ) → (status ≡ Refused → ⊥) → length bytes ≤ most_bytes command
-    → IsOutput command bytes ended status output → IsRefusal command bytes line → ⊥
-never_refused command bytes ended status output line good short is (inl (few, bad)) = good_alone command bytes ended status output line good is bad
-never_refused command bytes ended status output line good short is (inr (has, long, bad)) = absurd (omega (arith, short, long))
+pub never_refused : (command : Command) (bytes : List ℕ) (ran : Ran) (status : Status) (output line : List ℕ) → (status ≡ Refused → ⊥) → length bytes ≤ most_bytes command
+    → IsOutput command bytes ran status output → IsRefusal command bytes line → ⊥
+never_refused command bytes ran status output line good short is (inl (few, bad)) = good_alone command bytes ran status output line good is bad
+never_refused command bytes ran status output line good short is (inr (has, long, bad)) = absurd (omega (arith, short, long))
 
 -- a command without an input refuses nothing
 pub refuses_nothing : (command : Command) (bytes line : List ℕ) → has_input command ≡ false → IsRefusal command bytes line → ⊥
 refuses_nothing (Play threads shows) bytes line without is = cc without
+refuses_nothing (Multi trace) bytes line without is = cc without
 refuses_nothing Check bytes line without is = cc without
 refuses_nothing Compile bytes line without is = cc without
 refuses_nothing Upgrade bytes line without is = cc without

@@ -1,7 +1,6 @@
 -- What a play promises is what the headline says of it.
-use Rattle.std.proofs.Common.{◌≡◌, ℕ, Bool, true, false, List, Some, Ok, Err, sym, ◌∙◌, subst}
+use Rattle.std.proofs.Common.{◌≡◌, ℕ, Bool, true, false, List, Ok, Err, sym, ◌∙◌, subst}
 use Rattle.std.specs.Result.{IfOk}
-use Rattle.std.specs.declared.option.Option.{Option}
 use Rattle.std.specs.declared.result.Result.{Result}
 use Rattle.sg_facts.specs.Interface.{Declared}
 use Rattle.sg_facts.specs.Trace.{run_of}
@@ -20,6 +19,8 @@ use Rattle.sg_top.proofs.EachKind.{is_served, its_facts}
 use Rattle.sg_top.specs.Answer.{IsOwnOutput, ended_status, services, IsPlayOutput}
 use Rattle.sg_top.specs.declared.command.Command.TheVariants.{Load}
 use Rattle.sg_top.specs.declared.command.Shows.{Shows}
+use Rattle.sg_top.specs.declared.output.Ran.{Ran}
+use Rattle.sg_top.specs.declared.output.Ran.TheVariants.{One}
 use Rattle.sg_top.specs.declared.status.Status.{Status}
 use Rattle.sg_explore.specs.sg_shared.Runs.{IsRunInOrder, IsRunOf}
 use Rattle.sg_top.specs.Headline.{IsRunOfInput, IsShown, answering, played_services}
@@ -53,36 +54,36 @@ run_ready bytes i kind script in_threads shows ended written ready its run follo
 }
 
 -- what is made of an input that is ready and was played
-play_output : (bytes : List ℕ) (i : Declared) (kind : ServiceKind) (script : Script) (in_threads : Bool) (shows : Shows) (played : Ended) (ended : Option Ended) (status : Status) (written : List ℕ)
+play_output : (bytes : List ℕ) (i : Declared) (kind : ServiceKind) (script : Script) (in_threads : Bool) (shows : Shows) (played : Ended) (ran : Ran) (status : Status) (written : List ℕ)
     → IsReady services bytes i script → facts_by kind ≡ i.facts → IsRunOf i (answering kind) script played
     → (in_threads ≡ false → FollowsSchedule i (answering kind).ask script (run_of played.trace) played.history.items)
-    → ended ≡ Some played → status ≡ ended_status played.ends → IsShown shows i played written
-    → IsPlayOutput bytes in_threads shows ended status written
-play_output bytes i kind script in_threads shows played ended status written ready its run follows is its_status text =
+    → ran ≡ One played → status ≡ ended_status played.ends → IsShown shows i played written
+    → IsPlayOutput bytes in_threads shows ran status written
+play_output bytes i kind script in_threads shows played ran status written ready its run follows is its_status text =
     subst (λ e. IsPlayOutput bytes in_threads shows e status written) (sym is)
     (its_status, run_ready bytes i kind script in_threads shows played written ready its run follows text)
 
 -- in one thread, and with a thread for each client
-pub output_in_order : (bytes : List ℕ) (i : Declared) (kind : ServiceKind) (script : Script) (shows : Shows) (played : Ended) (ended : Option Ended) (status : Status) (written : List ℕ)
+pub output_in_order : (bytes : List ℕ) (i : Declared) (kind : ServiceKind) (script : Script) (shows : Shows) (played : Ended) (ran : Ran) (status : Status) (written : List ℕ)
     → IsReady services bytes i script → facts_by kind ≡ i.facts → IsRunInOrder i (answering kind) script played
-    → ended ≡ Some played → status ≡ ended_status played.ends → IsShown shows i played written
-    → IsPlayOutput bytes false shows ended status written
-output_in_order bytes i kind script shows played ended status written ready its run is its_status text =
-    play_output bytes i kind script false shows played ended status written ready its run.0 (λ alone. run.1) is its_status text
+    → ran ≡ One played → status ≡ ended_status played.ends → IsShown shows i played written
+    → IsPlayOutput bytes false shows ran status written
+output_in_order bytes i kind script shows played ran status written ready its run is its_status text =
+    play_output bytes i kind script false shows played ran status written ready its run.0 (λ alone. run.1) is its_status text
 
-pub output_in_threads : (bytes : List ℕ) (i : Declared) (kind : ServiceKind) (script : Script) (shows : Shows) (played : Ended) (ended : Option Ended) (status : Status) (written : List ℕ)
+pub output_in_threads : (bytes : List ℕ) (i : Declared) (kind : ServiceKind) (script : Script) (shows : Shows) (played : Ended) (ran : Ran) (status : Status) (written : List ℕ)
     → IsReady services bytes i script → facts_by kind ≡ i.facts → IsRunOf i (answering kind) script played
-    → ended ≡ Some played → status ≡ ended_status played.ends → IsShown shows i played written
-    → IsPlayOutput bytes true shows ended status written
-output_in_threads bytes i kind script shows played ended status written ready its run is its_status text =
-    play_output bytes i kind script true shows played ended status written ready its run (λ alone. absurd (cc alone)) is its_status text
+    → ran ≡ One played → status ≡ ended_status played.ends → IsShown shows i played written
+    → IsPlayOutput bytes true shows ran status written
+output_in_threads bytes i kind script shows played ran status written ready its run is its_status text =
+    play_output bytes i kind script true shows played ran status written ready its run (λ alone. absurd (cc alone)) is its_status text
 
 -- what is made of a load
-pub own_output : (kind : ServiceKind) (number : ℕ) (played : Ended) (ended : Option Ended) (status : Status) (written : List ℕ)
+pub own_output : (kind : ServiceKind) (number : ℕ) (played : Ended) (ran : Ran) (status : Status) (written : List ℕ)
     → IsPlayable (standard kind) (generated kind number) → IsRunInOrder (standard kind) (answering kind) (generated kind number) played
-    → ended ≡ Some played → status ≡ ended_status played.ends → written ≡ load_line_of (facts_by kind).name number played
-    → IsOwnOutput (Load kind number) ended status written
-own_output kind number played ended status written playable run is its_status text =
+    → ran ≡ One played → status ≡ ended_status played.ends → written ≡ load_line_of (facts_by kind).name number played
+    → IsOwnOutput (Load kind number) ran status written
+own_output kind number played ran status written playable run is its_status text =
     subst (λ e. IsOwnOutput (Load kind number) e status written) (sym is) (
       its_status,
       record { run = run.0; schedule = run.1; few = few_of_load kind (generated kind number) played playable run.0; output = text },

@@ -1,5 +1,5 @@
 -- What the program answers: by which words, with which status, and why.
-use Rattle.std.specs.Prelude.{ℕ, ◌≡◌, ◌+◌, ◌<◌, ◌≤◌, ◌⊎◌, Bool, true, false, if◌then◌else◌, List, [], ◌∷◌, ◌++◌, None, Some, IsSome, IfSome, length, map, take, codes, string_bytes}
+use Rattle.std.specs.Prelude.{ℕ, ◌≡◌, ◌+◌, ◌*◌, ◌<◌, ◌≤◌, ◌⊎◌, Bool, true, false, if◌then◌else◌, List, [], ◌∷◌, ◌++◌, None, Some, IfSome, length, map, take, codes, string_bytes}
 use Rattle.std.specs.declared.option.Option.{Option}
 use Rattle.std.specs.Io.KnownBytes.{Appends, Consumes, IsAtEnd}
 use Rattle.std.specs.declared.string.String.{String}
@@ -19,7 +19,12 @@ use Rattle.sg_input.specs.declared.outcome.Verdict.TheVariants.{Accepted as acce
 use Rattle.sg_input.specs.Verdicts.{IsCompiled, IsUpgraded, IsVerdict}
 use Rattle.sg_input.specs.declared.input.Input.TheVariants.{Refused as refused_input}
 use Rattle.sg_input.specs.Inputs.{IsInputOf, IsReady, IsRunInputOf, IsRunReady, most_interface, most_run, most_script}
+use Rattle.sg_input.specs.declared.multi_input.MultiInput.TheVariants.{Refused as refused_multi}
 use Rattle.sg_input.specs.declared.run_input.RunInput.TheVariants.{Refused as refused_run}
+use Rattle.sg_input.specs.MultiInputs.{IsMultiInputOf}
+use Rattle.sg_multi.specs.Played.{MultiCame}
+use Rattle.sg_multi.specs.declared.ended.MultiEnd.{MultiEnd}
+use Rattle.sg_multi.specs.declared.ended.MultiEnd.TheVariants.{Done as MultiDone, Blocked as MultiBlocked}
 use Rattle.sg_input.specs.Lines.{too_long_line}
 use Rattle.sg_input.specs.sg_lex.Table.{IsNumber}
 use Rattle.sg_load.specs.Services.{facts_by}
@@ -34,9 +39,11 @@ use Rattle.sg_verify.specs.Lines.{verdict_line_of}
 use Rattle.sg_verify.specs.Verdicts.{IsVerdictOf}
 use Rattle.sg_verify.specs.declared.verdict.Verdict.{Verdict as Judgement}
 use Rattle.sg_verify.specs.declared.verdict.Verdict.TheVariants.{Legal}
-use Rattle.sg_top.specs.Headline.{IsRunOfLoad, IsRunOfInput, answering, played_services}
+use Rattle.sg_top.specs.Headline.{IsPlayOfMembers, IsRunOfLoad, IsRunOfInput, answering, played_services}
 use Rattle.sg_top.specs.declared.command.Command.{Command}
-use Rattle.sg_top.specs.declared.command.Command.TheVariants.{Play, Check, Compile, Upgrade, Explain, Explore, Verify, Load}
+use Rattle.sg_top.specs.declared.command.Command.TheVariants.{Play, Check, Compile, Upgrade, Explain, Explore, Verify, Multi, Load}
+use Rattle.sg_top.specs.declared.output.Ran.{Ran}
+use Rattle.sg_top.specs.declared.output.Ran.TheVariants.{Nothing, One, Several}
 use Rattle.sg_top.specs.declared.command.Shows.{Shows}
 use Rattle.sg_top.specs.declared.command.Shows.TheVariants.{Run, Trace, Costs, Picture, Columns}
 use Rattle.sg_top.specs.declared.status.Status.{Status}
@@ -62,12 +69,14 @@ IsCommand words (Explore most) =
     ((most ≡ 0) × (map string_bytes words ≡ codes "explore" ∷ []))
     ⊎ ((digits : List ℕ) × (IsNumber digits × (value_of_digits digits ≡ most) × (most ≤ most_paired)) × (map string_bytes words ≡ codes "explore" ∷ digits ∷ []))
 IsCommand words Verify = map string_bytes words ≡ codes "verify" ∷ []
+IsCommand words (Multi false) = map string_bytes words ≡ codes "multi" ∷ []
+IsCommand words (Multi true) = map string_bytes words ≡ codes "multi" ∷ codes "trace" ∷ []
 IsCommand words (Load service number) = (digits : List ℕ) × (IsNumber digits × (value_of_digits digits ≡ number) × (number ≤ last_count))
     × (map string_bytes words ≡ codes "load" ∷ (facts_by service).name ∷ digits ∷ [])
 
 -- whether a command is a play
 abbrev pub is_play : Command → Bool
-is_play command = elim command [ Play threads shows ↦ true | Load service number ↦ true | _ ↦ false ]
+is_play command = elim command [ Play threads shows ↦ true | Multi trace ↦ true | Load service number ↦ true | _ ↦ false ]
 
 -- whether a command takes threads: a play whose clients have threads of their own, or runs that are made on all processors
 abbrev pub is_in_threads : Command → Bool
@@ -90,6 +99,7 @@ most_bytes command = elim command [
   | Explain ↦ most_interface + 4 + most_script
   | Explore most ↦ most_interface + 4 + most_script
   | Verify ↦ most_interface + 4 + most_run
+  | Multi trace ↦ 7 * most_interface + most_script
   | Load service number ↦ 0
   | _ ↦ most_interface
 ]
@@ -134,10 +144,21 @@ pub record IsExploredAs (bytes : List ℕ) (most : ℕ) (status : Status) (outpu
   pub answered : status ≡ (if found.waits then Waits else Done)
   pub text : output ≡ found.text
 
+-- the status of a play over several services that came to its end: whether some client waits there
+abbrev pub multi_status : List (ℕ × MultiEnd) → Status
+multi_status ends = if list_any (λ e. elim e.1 [ MultiDone ↦ false | MultiBlocked member call ↦ true ]) ends then Waits else Done
+
 -- the output of a play, and its status: what is printed of the run, or the line of an input that is refused
-abbrev pub IsPlayOutput : List ℕ → Bool → Shows → Option Ended → Status → List ℕ → Type 0
-IsPlayOutput bytes in_threads shows None status output = (status ≡ Refused) × IsInputOf services bytes (refused_input output)
-IsPlayOutput bytes in_threads shows (Some ended) status output = (status ≡ ended_status ended.ends) × IsRunOfInput played_services bytes in_threads shows ended output
+abbrev pub IsPlayOutput : List ℕ → Bool → Shows → Ran → Status → List ℕ → Type 0
+IsPlayOutput bytes in_threads shows Nothing status output = (status ≡ Refused) × IsInputOf services bytes (refused_input output)
+IsPlayOutput bytes in_threads shows (One ended) status output = (status ≡ ended_status ended.ends) × IsRunOfInput played_services bytes in_threads shows ended output
+IsPlayOutput bytes in_threads shows (Several came) status output = ⊥
+
+-- the output of a play over several services, and its status: what is printed of it, or the line of an input that is refused
+abbrev pub IsMultiOutput : List ℕ → Bool → Ran → Status → List ℕ → Type 0
+IsMultiOutput bytes with_trace Nothing status output = (status ≡ Refused) × IsMultiInputOf services bytes (refused_multi output)
+IsMultiOutput bytes with_trace (One ended) status output = ⊥
+IsMultiOutput bytes with_trace (Several came) status output = (status ≡ multi_status came.ends) × IsPlayOfMembers played_services bytes with_trace came output
 
 -- the output of a command that judges a text, and its status: of a text that is accepted, or of one that is refused
 abbrev pub IsOfText : (Verdict → Type 0) → Status → List ℕ → Type 0
@@ -146,22 +167,23 @@ IsOfText Is status output = ((status ≡ Done) × Is (accepted output)) ⊎ ((st
 -- the output of a command for an input, its status, and the run where there was one, which only a play has: what is printed of the run; the
 -- line of a text that is accepted, its tables, or its text in version 2; what is explained of an input; what is said of a history; or the line
 -- of what is refused
-abbrev pub IsOutput : Command → List ℕ → Option Ended → Status → List ℕ → Type 0
-IsOutput (Play threads shows) bytes ended status output = IsPlayOutput bytes threads shows ended status output
-IsOutput Check bytes ended status output = (ended ≡ None) × IsOfText (IsVerdict services bytes) status output
-IsOutput Compile bytes ended status output = (ended ≡ None) × IsOfText (IsCompiled services bytes) status output
-IsOutput Upgrade bytes ended status output = (ended ≡ None) × IsOfText (IsUpgraded services bytes) status output
-IsOutput Explain bytes ended status output = (ended ≡ None) × IsOfText (IsExplained services bytes) status output
-IsOutput (Explore most) bytes ended status output =
-    (ended ≡ None) × (IsExploredAs bytes most status output ⊎ ((status ≡ Refused) × IsInputOf services bytes (refused_input output)))
-IsOutput Verify bytes ended status output =
-    (ended ≡ None) × (IsJudgedAs bytes status output ⊎ ((status ≡ Refused) × IsRunInputOf services bytes (refused_run output)))
-IsOutput (Load service number) bytes ended status output = ⊥
+abbrev pub IsOutput : Command → List ℕ → Ran → Status → List ℕ → Type 0
+IsOutput (Play threads shows) bytes ran status output = IsPlayOutput bytes threads shows ran status output
+IsOutput (Multi trace) bytes ran status output = IsMultiOutput bytes trace ran status output
+IsOutput Check bytes ran status output = (ran ≡ Nothing) × IsOfText (IsVerdict services bytes) status output
+IsOutput Compile bytes ran status output = (ran ≡ Nothing) × IsOfText (IsCompiled services bytes) status output
+IsOutput Upgrade bytes ran status output = (ran ≡ Nothing) × IsOfText (IsUpgraded services bytes) status output
+IsOutput Explain bytes ran status output = (ran ≡ Nothing) × IsOfText (IsExplained services bytes) status output
+IsOutput (Explore most) bytes ran status output =
+    (ran ≡ Nothing) × (IsExploredAs bytes most status output ⊎ ((status ≡ Refused) × IsInputOf services bytes (refused_input output)))
+IsOutput Verify bytes ran status output =
+    (ran ≡ Nothing) × (IsJudgedAs bytes status output ⊎ ((status ≡ Refused) × IsRunInputOf services bytes (refused_run output)))
+IsOutput (Load service number) bytes ran status output = ⊥
 
 -- the output of a command without an input, its status and its run
-abbrev pub IsOwnOutput : Command → Option Ended → Status → List ℕ → Type 0
-IsOwnOutput (Load service number) (Some ended) status output = (status ≡ ended_status ended.ends) × IsRunOfLoad service number ended output
-IsOwnOutput command ended status output = ⊥
+abbrev pub IsOwnOutput : Command → Ran → Status → List ℕ → Type 0
+IsOwnOutput (Load service number) (One ended) status output = (status ≡ ended_status ended.ends) × IsRunOfLoad service number ended output
+IsOwnOutput command ran status output = ⊥
 
 -- the output of a command that refuses these bytes: the line of an input or text that is refused, or what is explained of one; or what is
 -- written of more bytes than an input may have
@@ -172,12 +194,25 @@ IsRefusal command bytes output =
       | Explain ↦ IsExplained services bytes (refused output)
       | Explore most ↦ IsInputOf services bytes (refused_input output)
       | Verify ↦ IsRunInputOf services bytes (refused_run output)
+      | Multi trace ↦ IsMultiInputOf services bytes (refused_multi output)
       | Load service number ↦ ⊥
       | _ ↦ IsVerdict services bytes (refused output)
     ]))
     ⊎ ((has_input command ≡ true) × (most_bytes command < length bytes) × (output ≡ too_long_output command))
 
 -- ---- answers
+
+-- the run of a script over one service, where that was run
+abbrev pub one_in : Ran → Option Ended
+one_in ran = elim ran [ One ended ↦ Some ended | _ ↦ None ]
+
+-- what a script over several services came to, where that was run
+abbrev pub multi_in : Ran → Option MultiCame
+multi_in ran = elim ran [ Several came ↦ Some came | _ ↦ None ]
+
+-- whether something was run: a script over one service, or over several
+abbrev pub has_run : Ran → Bool
+has_run ran = elim ran [ Nothing ↦ false | _ ↦ true ]
 
 -- the bytes of a source, as far as they are told, and how often it failed; those of a sink likewise
 pub record Ends : Type 0 where
@@ -186,23 +221,23 @@ pub record Ends : Type 0 where
 
 -- an input was read to its end, and an output for it is to be written with this status; or one byte more than an input may
 -- have was read, and the input is refused; or the command has no input, nothing was read, and its output is to be written
-pub record HasRead (command : Command) (before after : Ends) (ended : Option Ended) (status : Status) (output : List ℕ) : Type 0 where
-  pub read : ((bytes : List ℕ) × (length bytes ≤ most_bytes command) × Consumes before.told after.told bytes × IsAtEnd after.told × IsOutput command bytes ended status output)
-      ⊎ ((bytes : List ℕ) × (has_input command ≡ true) × (length bytes ≡ most_bytes command + 1) × Consumes before.told after.told bytes × (ended ≡ None) × (status ≡ Refused) × (output ≡ too_long_output command))
-      ⊎ ((after ≡ before) × IsOwnOutput command ended status output)
+pub record HasRead (command : Command) (before after : Ends) (ran : Ran) (status : Status) (output : List ℕ) : Type 0 where
+  pub read : ((bytes : List ℕ) × (length bytes ≤ most_bytes command) × Consumes before.told after.told bytes × IsAtEnd after.told × IsOutput command bytes ran status output)
+      ⊎ ((bytes : List ℕ) × (has_input command ≡ true) × (length bytes ≡ most_bytes command + 1) × Consumes before.told after.told bytes × (ran ≡ Nothing) × (status ≡ Refused) × (output ≡ too_long_output command))
+      ⊎ ((after ≡ before) × IsOwnOutput command ran status output)
 
 -- what an answer says, by its status, where the words say this command
-pub record IsAnswer (said : Command → Type 0) (source source' sink sink' : Ends) (status : Status) (ended : Option Ended) : Type 0 where
+pub record IsAnswer (said : Command → Type 0) (source source' sink sink' : Ends) (status : Status) (ran : Ran) : Type 0 where
   -- other words: they are no command's, and nothing is read or written
-  pub words : status ≡ OtherWords → ((command : Command) → said command → ⊥) × (source' ≡ source) × (sink' ≡ sink) × (ended ≡ None)
+  pub words : status ≡ OtherWords → ((command : Command) → said command → ⊥) × (source' ≡ source) × (sink' ≡ sink) × (ran ≡ Nothing)
   pub other_words : ((command : Command) → said command → ⊥) → status ≡ OtherWords
   -- done: the input is played and no client waits, or it is accepted, compiled or upgraded, or nothing is wrong with it, or its history is legal; waits: it is played,
   -- and some client waits at the end; illegal: its history isn't legal. Its report, line, tables or text are written
   pub answered : (status ≡ Done) ⊎ (status ≡ Waits) ⊎ (status ≡ Illegal)
-      → (command : Command) × said command × (output : List ℕ) × HasRead command source source' ended status output × Appends sink.told sink'.told output
+      → (command : Command) × said command × (output : List ℕ) × HasRead command source source' ran status output × Appends sink.told sink'.told output
   -- refused: the input is refused, and the line that refuses it is written
-  pub refused : status ≡ Refused → (ended ≡ None)
-      × ((command : Command) × said command × (output : List ℕ) × HasRead command source source' ended Refused output × Appends sink.told sink'.told output
+  pub refused : status ≡ Refused → (ran ≡ Nothing)
+      × ((command : Command) × said command × (output : List ℕ) × HasRead command source source' ran Refused output × Appends sink.told sink'.told output
       × IfSome source.told (λ bytes. IsRefusal command bytes output))
   -- an input that is refused is never answered as played: the status says that it is refused, or that there was a fault or no memory
   pub refuses : (command : Command) → said command → IfSome source.told (λ bytes. (output : List ℕ) → IsRefusal command bytes output
@@ -212,21 +247,21 @@ pub record IsAnswer (said : Command → Type 0) (source source' sink sink' : End
       → (command ≡ Verify) × (length bytes ≤ most_bytes command) × IsJudgedAs bytes Illegal output
       → (status ≡ Illegal) ⊎ (status ≡ ReadFault) ⊎ (status ≡ WriteFault) ⊎ (status ≡ NoMemory))
   -- a read fault: a read failed, and nothing is written; no other status is answered where the source's count of faults rose
-  pub read_fault : status ≡ ReadFault → (ended ≡ None) × Rose source.faults source'.faults × (sink' ≡ sink)
+  pub read_fault : status ≡ ReadFault → (ran ≡ Nothing) × Rose source.faults source'.faults × (sink' ≡ sink)
   pub only_read_fault : source.faults < source'.faults → status ≡ ReadFault
   -- a command without an input reads nothing, and so no read of it fails
   pub no_read : (command : Command) → said command → has_input command ≡ false → (source' ≡ source) × (status ≡ ReadFault → ⊥)
   -- a write fault: a write failed, and what is written is a proper prefix of the output; no other status is answered where the
   -- sink's count of faults rose
   pub write_fault : status ≡ WriteFault → Rose sink.faults sink'.faults
-      × ((command : Command) × said command × (output : List ℕ) × (wanted : Status) × (written : ℕ) × HasRead command source source' ended wanted output
+      × ((command : Command) × said command × (output : List ℕ) × (wanted : Status) × (written : ℕ) × HasRead command source source' ran wanted output
       × (written < length output) × Appends sink.told sink'.told (take written output))
   pub only_write_fault : sink.faults < sink'.faults → status ≡ WriteFault
   -- no memory: nothing is written
-  pub no_memory : status ≡ NoMemory → (ended ≡ None) × (sink' ≡ sink)
+  pub no_memory : status ≡ NoMemory → (ran ≡ Nothing) × (sink' ≡ sink)
   -- a run is there where a play came to its end, and never of another command
-  pub played : (status ≡ Done) ⊎ (status ≡ Waits) → (command : Command) → said command → is_play command ≡ true → IsSome ended
-  pub only_played : IsSome ended → (command : Command) × said command × (is_play command ≡ true)
+  pub played : (status ≡ Done) ⊎ (status ≡ Waits) → (command : Command) → said command → is_play command ≡ true → has_run ran ≡ true
+  pub only_played : has_run ran ≡ true → (command : Command) × said command × (is_play command ≡ true)
   -- the counts of faults never fall
   pub reads : source.faults ≤ source'.faults
   pub writes : sink.faults ≤ sink'.faults

@@ -1,6 +1,6 @@
--- Which services are played, and what is promised of a run of an input and of a load.
+-- Which services are played, and what is promised of a run of an input, over one service or over several, and of a load.
 use Rattle.std.specs.Prelude.{ℕ, ◌≡◌, Bool, true, false, List, [], ◌∷◌, ◌++◌, map}
-use Rattle.std.specs.List.{Contains}
+use Rattle.std.specs.List.{AllZip, Contains}
 use Rattle.sg_load.specs.Services.sg_event.EventFacts.{event_facts}
 use Rattle.sg_load.specs.Services.sg_event.EventTable.{event_parts, event_table}
 use Rattle.sg_cost.specs.Costs.{AreFew, costs_at}
@@ -10,6 +10,7 @@ use Rattle.sg_facts.specs.Interface.{Declared}
 use Rattle.sg_facts.specs.Tables.{AreTables}
 use Rattle.sg_facts.specs.Trace.{Boot, run_of}
 use Rattle.sg_facts.specs.declared.tables.WalkLine.{WalkLine}
+use Rattle.sg_verify.specs.sg_report.sg_hist.Recovered.{Stubs}
 use Rattle.sg_verify.specs.sg_report.sg_hist.declared.ended.Ended.{Ended}
 use Rattle.sg_input.specs.Inputs.{IsReady}
 use Rattle.sg_load.specs.Generated.{generated}
@@ -27,7 +28,11 @@ use Rattle.sg_load.specs.Services.sg_sched.SchedFacts.{sched_facts}
 use Rattle.sg_load.specs.Services.sg_sched.SchedTable.{sched_parts, sched_table}
 use Rattle.sg_load.specs.Services.sg_timer.TimerFacts.{timer_facts}
 use Rattle.sg_load.specs.Services.sg_timer.TimerTable.{timer_parts, timer_table}
+use Rattle.sg_input.specs.MultiInputs.{IsMultiReady}
+use Rattle.sg_input.specs.sg_script.declared.multi.MultiScript.{MultiScript}
 use Rattle.sg_input.specs.sg_script.declared.script.Script.{Script}
+use Rattle.sg_multi.specs.Played.{IsMultiPlayed, MultiCame}
+use Rattle.sg_multi.specs.Report.{multi_text_of}
 use Rattle.sg_explore.specs.sg_shared.Runs.{Answering, IsRunOf}
 use Rattle.sg_explore.specs.sg_shared.sg_sim.Played.{FollowsSchedule}
 use Rattle.sg_top.specs.declared.command.Shows.{Shows}
@@ -92,3 +97,26 @@ pub record IsRunOfLoad (kind : ServiceKind) (number : ℕ) (ended : Ended) (writ
   pub few : HasFewReplays (standard kind) ended
   -- the bytes written are the line of the load
   pub output : written ≡ load_line_of (facts_by kind).name number ended
+
+-- ---- several services
+
+-- by this a run under an interface is judged: by what its service answers, and by the walks of the interface's tables
+pub record IsMember (services : List Answering) (i : Declared) (stubs : Stubs) : Type 0 where
+  pub service : Answering
+  pub is_served : Contains services service
+  pub its : service.facts ≡ i.facts
+  pub walks : List WalkLine
+  pub tables : AreTables i walks
+  pub is : stubs ≡ record { interface = i; ask = service.ask; parts = service.parts; walks = walks }
+
+-- an input is interfaces of some of these services, no two of one service, and a script for them, and this is a play of it over them, with
+-- its output
+pub record IsPlayOfMembers (services : List Answering) (bytes : List ℕ) (with_trace : Bool) (came : MultiCame) (written : List ℕ) : Type 0 where
+  pub interfaces : List Declared
+  pub script : MultiScript
+  pub ready : IsMultiReady (map (λ s. s.facts) services) bytes interfaces script
+  pub members : List Stubs
+  pub are : AllZip (IsMember services) interfaces members
+  pub play : IsMultiPlayed members script came
+  -- the bytes written are what is to be printed of the play
+  pub output : written ≡ multi_text_of (map (λ i. i.facts) interfaces) play.merged came with_trace

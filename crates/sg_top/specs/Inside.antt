@@ -2,4 +2,5 @@
 pub mod Delivery
 pub mod Pieces
 pub mod Plays
+pub mod Several
 pub mod Words

@@ -9,7 +9,7 @@ ghost use Rattle.sg_top.specs.Inside.Words.{AreDigitsOf, IsPairOf};
 use crate::services::kind_named;
 use sg_explain::TOO_LONG_EXPLAINED;
 use sg_explore::MOST_PAIRED;
-use sg_input::{MOST_INPUT, MOST_INTERFACE, MOST_RUN_INPUT, TOO_LONG};
+use sg_input::{MOST_INPUT, MOST_INTERFACE, MOST_MULTI_INPUT, MOST_RUN_INPUT, TOO_LONG};
 use sg_load::ServiceKind;
 
 /// What is printed of a run.
@@ -47,6 +47,9 @@ pub enum Command {
     Explore { most: u64 },
     /// `verify`: says whether the entries of a printed run are a history that a service which never failed could have given.
     Verify,
+    /// `multi`: plays one script over several services, each with stops of its own, and prints the report; with `trace` after it too what
+    /// was done to each service.
+    Multi { trace: bool },
     /// `load SERVICE NUMBER`: plays the script that is generated for a service from a number, and prints one line. It has no input.
     Load { service: ServiceKind, number: u64 },
 }
@@ -98,6 +101,7 @@ impl Command {
             "explain" => Some(Command::Explain),
             "explore" => Some(Command::Explore { most: 0 }),
             "verify" => Some(Command::Verify),
+            "multi" => Some(Command::Multi { trace: false }),
             _ => None,
         }
     }
@@ -132,6 +136,7 @@ impl Command {
                 threads: true,
                 shows: Shows::Trace,
             }),
+            "multi" => Some(Command::Multi { trace: true }),
             _ => None,
         }
     }
@@ -166,6 +171,7 @@ impl Command {
             Command::Play { .. } | Command::Explain | Command::Explore { .. } => MOST_INPUT,
             Command::Check | Command::Compile | Command::Upgrade => MOST_INTERFACE,
             Command::Verify => MOST_RUN_INPUT,
+            Command::Multi { .. } => MOST_MULTI_INPUT,
             Command::Load { .. } => 0,
         }
     }
@@ -183,6 +189,7 @@ impl Command {
             | Command::Upgrade
             | Command::Explore { .. }
             | Command::Verify
+            | Command::Multi { .. }
             | Command::Load { .. } => TOO_LONG,
         }
     }

@@ -1,11 +1,13 @@
 //! The program as a call: reads an interface and a script, plays it, and writes every reply; or says whether an interface is
 //! accepted, prints its tables, or prints it as one of version 2; or explains why an input is refused; or draws a
-//! run, or tries all stops; or plays a generated script.
+//! run, or tries all stops; or plays a script over several services, or a
+//! generated script.
 //!
 //! - `top`: what the words, the source and the sink come to (`superglue`, `serial`, `Answer`)
 //! - `status`: how a call ends, and the number of that (`Status`)
 //! - `command`: what the words ask for (`Command`)
-//! - `output`: what a command makes of its input
+//! - `output`: what a command makes of its input, and what was run for it (`Ran`)
+//! - `members`: the members of a play over several services, and the play over them
 //! - `laws`: what a run prints is read to its history (`printed_runs_are_read`)
 //! - `services`: the services, their shapes and names, and the runs of scripts on them
 //!
@@ -14,6 +16,7 @@
 
 mod command;
 mod laws;
+mod members;
 mod output;
 mod services;
 mod status;
@@ -21,6 +24,7 @@ mod top;
 
 pub use command::{Command, Shows};
 pub use laws::printed_runs_are_read;
+pub use output::Ran;
 pub use sg_edge::{Gate, MemSink, MemSource, NoMemory, OpenGate, StdSink, StdSource};
 pub use sg_explore::{MOST_PAIRED, NoProgress, Played, Progress};
 pub use sg_facts::{Interface, MOST_FUNS};
@@ -29,6 +33,7 @@ pub use sg_input::{
     read_input,
 };
 pub use sg_load::{Arg, Script, ScriptCall, ServiceKind, check, generate, standard};
+pub use sg_multi::{MemberList, MultiEnd, MultiEndList, MultiEnded};
 pub use sg_verify::{End, EndList, Ended, History, text};
 pub use status::Status;
 pub use top::{Answer, serial, superglue};

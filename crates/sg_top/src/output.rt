@@ -1,5 +1,5 @@
 // What a command makes of its input.
-ghost use Rattle.std.specs.Prelude.{◌≡◌, ◌≤◌, ℕ, List, true, false, if◌then◌else◌, IfOk, None, Some};
+ghost use Rattle.std.specs.Prelude.{◌≡◌, ◌≤◌, ℕ, List, true, false, if◌then◌else◌, IfOk};
 ghost use Rattle.sg_explain.specs.Explained.{IsExplained};
 ghost use Rattle.sg_verify.specs.sg_report.sg_hist.Recovered.{is_blocked};
 ghost use Rattle.sg_load.specs.sg_plain.Playing.Playable.{IsPlayable};
@@ -7,19 +7,22 @@ ghost use Rattle.sg_load.specs.sg_plain.Inside.Kept.{somebody_waits};
 ghost use Rattle.sg_input.specs.Verdicts.{IsCompiled, IsUpgraded, IsVerdict};
 ghost use Rattle.sg_load.specs.Generated.{generated};
 ghost use Rattle.sg_load.specs.Services.{facts_by, standard};
-ghost use Rattle.sg_top.specs.Answer.{IsOfText, IsOutput, IsOwnOutput, ended_status, has_input, is_in_threads, services, IsPlayOutput};
+ghost use Rattle.sg_top.specs.Answer.{IsOfText, IsOutput, IsMultiOutput, IsOwnOutput, ended_status, has_input, is_in_threads, multi_status, services, IsPlayOutput};
 ghost use Rattle.sg_explore.specs.Tried.{most_paired};
 ghost use Rattle.sg_top.specs.Inside.Pieces.{IsExploration, IsVerified, verdict_status};
 ghost use Rattle.sg_verify.specs.Lines.{verdict_line_of};
 ghost use Rattle.sg_top.specs.Headline.{IsShown, answering};
 ghost use Rattle.sg_explore.specs.sg_shared.Runs.{IsRunInOrder};
 ghost use Rattle.sg_top.specs.declared.command.Command.TheVariants.{Load as load};
+ghost use Rattle.sg_top.specs.Inside.Several.{is_waiting, some_waits};
+ghost use Rattle.sg_top.specs.declared.output.Ran.TheVariants.{Nothing as nothing, One as one, Several as many};
 ghost use Rattle.sg_top.specs.declared.status.Status.TheVariants.{Done as done_status, Refused as refused_status, Waits as waits_status};
 ghost use Rattle.sg_top.specs.Inside.Delivery.{IsSaid};
 ghost use Rattle.sg_top.specs.Inside.Plays.{IsPlayOf};
 ghost use Rattle.sg_top.specs.declared.command.Shows.TheVariants.{Costs as shows_costs};
 
 use crate::command::{Command, Shows};
+use crate::members::{members_of, play_over};
 use crate::services::{
     cost_kind, explore_kind, kind_of, shapes, share_kind, simulate_kind, verify_kind,
 };
@@ -31,29 +34,39 @@ use sg_explain::explain;
 use sg_explore::{Explored, Played, Progress};
 use sg_facts::{Bytes, Interface, NoMemory};
 use sg_input::{
-    History, Input, RunInput, Script, Verdict, compile, compiled, read_input, read_run, upgraded,
-    verdict,
+    History, Input, MultiInput, RunInput, Script, Verdict, compile, compiled, read_input,
+    read_multi_input, read_run, upgraded, verdict,
 };
 use sg_load::{Accepted, ServiceKind, generate, standard};
+use sg_multi::{MultiEnd, MultiEnded, multi_text};
 use sg_verify::{End, Verdict as Judgement, load_line, text, verdict_line};
 use std::alloc::Global;
 use std::sync::Wait;
 use std::thread::Threads;
 
-/// What a command makes: the bytes to be written, the status where they are written whole, and the run of a play
-/// that came to its end.
+/// What was run to its end, if anything was.
+#[derive(Debug, Drop)]
+pub enum Ran {
+    Nothing,
+    /// A script over one service.
+    One(Played),
+    /// A script over several services.
+    Several(MultiEnded),
+}
+
+/// What a command makes: the bytes to be written, the status where they are written whole, and what was run for it.
 #[derive(Debug, Drop)]
 pub struct Output {
     pub text: Bytes,
     pub status: Status,
-    pub ended: Option<Played>,
+    pub ran: Ran,
 }
 
 /// What a command with an input makes of it in one thread.
 pub fn output_of(alloc: Global, command: Command, bytes: &[u8]) -> Result<Output, NoMemory>
     requires has { has_input command ≡ true }
     requires alone { is_in_threads command ≡ false }
-    ensures { IfOk result (λ o. IsOutput command bytes.now o.ended o.status o.text) }
+    ensures { IfOk result (λ o. IsOutput command bytes.now o.ran o.status o.text) }
 {
     match command {
         Command::Play { shows, .. } => simulated(alloc, bytes, shows),
@@ -62,13 +75,14 @@ pub fn output_of(alloc: Global, command: Command, bytes: &[u8]) -> Result<Output
         Command::Upgrade => upgrade(alloc, bytes),
         Command::Explain => explained(alloc, bytes),
         Command::Verify => verified(alloc, bytes),
+        Command::Multi { trace } => several(alloc, bytes, trace),
         Command::Explore { .. } | Command::Load { .. } => unreachable!(),
     }
 }
 
 // The line of a text, which says that it is accepted or why it is refused.
 fn checked(alloc: Global, text: &[u8]) -> Result<Output, NoMemory>
-    ensures ended { IfOk result (λ o. o.ended ≡ None) }
+    ensures ran { IfOk result (λ o. o.ran ≡ nothing) }
     ensures line { IfOk result (λ o. IsOfText (IsVerdict services text.now) o.status o.text) }
 {
     let said = verdict(alloc, text, &shapes())?;
@@ -77,7 +91,7 @@ fn checked(alloc: Global, text: &[u8]) -> Result<Output, NoMemory>
 
 // The text of the tables of an interface that is accepted, or else the line that refuses it.
 fn tabled(alloc: Global, text: &[u8]) -> Result<Output, NoMemory>
-    ensures ended { IfOk result (λ o. o.ended ≡ None) }
+    ensures ran { IfOk result (λ o. o.ran ≡ nothing) }
     ensures tables { IfOk result (λ o. IsOfText (IsCompiled services text.now) o.status o.text) }
 {
     let said = compiled(alloc, text, &shapes())?;
@@ -86,7 +100,7 @@ fn tabled(alloc: Global, text: &[u8]) -> Result<Output, NoMemory>
 
 // The text of an interface that is accepted, as one of version 2, or else the line that refuses it.
 fn upgrade(alloc: Global, text: &[u8]) -> Result<Output, NoMemory>
-    ensures ended { IfOk result (λ o. o.ended ≡ None) }
+    ensures ran { IfOk result (λ o. o.ran ≡ nothing) }
     ensures text { IfOk result (λ o. IsOfText (IsUpgraded services text.now) o.status o.text) }
 {
     let said = upgraded(alloc, text, &shapes())?;
@@ -95,7 +109,7 @@ fn upgrade(alloc: Global, text: &[u8]) -> Result<Output, NoMemory>
 
 // What is explained of an input.
 fn explained(alloc: Global, bytes: &[u8]) -> Result<Output, NoMemory>
-    ensures ended { IfOk result (λ o. o.ended ≡ None) }
+    ensures ran { IfOk result (λ o. o.ran ≡ nothing) }
     ensures said { IfOk result (λ o. IsOfText (IsExplained services bytes.now) o.status o.text) }
 {
     let said = explain(alloc, bytes, &shapes())?;
@@ -104,7 +118,7 @@ fn explained(alloc: Global, bytes: &[u8]) -> Result<Output, NoMemory>
 
 // What is said of the history that an input prints; or the line of an input that is refused.
 fn verified(alloc: Global, bytes: &[u8]) -> Result<Output, NoMemory>
-    ensures ended { IfOk result (λ o. o.ended ≡ None) }
+    ensures ran { IfOk result (λ o. o.ran ≡ nothing) }
     ensures said { IfOk result (λ o. IsVerified bytes.now o.status o.text) }
 {
     match read_run(alloc, bytes, &shapes())? {
@@ -125,7 +139,7 @@ fn judged(
     history: &History,
     said: &Judgement,
 ) -> Result<Output, NoMemory>
-    ensures ended { IfOk result (λ o. o.ended ≡ None) }
+    ensures ran { IfOk result (λ o. o.ran ≡ nothing) }
     ensures status { IfOk result (λ o. o.status ≡ verdict_status said.now) }
     ensures line { IfOk result (λ o. o.text ≡ verdict_line_of iface.now.facts history.now.items said.now) }
 {
@@ -133,7 +147,7 @@ fn judged(
     Ok(Output {
         text,
         status: status_saying(said),
-        ended: None,
+        ran: Ran::Nothing,
     })
 }
 
@@ -149,7 +163,7 @@ fn status_saying(said: &Judgement) -> Status
 
 // The output that says this of a text, with the status that belongs to it.
 fn output_saying(said: Verdict) -> Output
-    ensures ended { result.ended ≡ None }
+    ensures ran { result.ran ≡ nothing }
     ensures said { IsSaid said result.status result.text }
 {
     let (text, status) = match said {
@@ -159,13 +173,13 @@ fn output_saying(said: Verdict) -> Output
     Output {
         text,
         status,
-        ended: None,
+        ran: Ran::Nothing,
     }
 }
 
 // The run of an input in one thread, with its report; or the line of an input that is refused.
 fn simulated(alloc: Global, bytes: &[u8], shows: Shows) -> Result<Output, NoMemory>
-    ensures { IfOk result (λ o. IsPlayOutput bytes.now false shows o.ended o.status o.text) }
+    ensures { IfOk result (λ o. IsPlayOutput bytes.now false shows o.ran o.status o.text) }
 {
     match read_input(alloc, bytes, &shapes())? {
         Input::Ready(accepted, script) => {
@@ -185,7 +199,7 @@ pub fn output_of_threads<R: Threads + Wait + Sync, G: Gate>(
     shows: Shows,
     gate: &G,
 ) -> Result<Output, NoMemory>
-    ensures { IfOk result (λ o. IsPlayOutput bytes.now true shows o.ended o.status o.text) }
+    ensures { IfOk result (λ o. IsPlayOutput bytes.now true shows o.ran o.status o.text) }
 {
     match read_input(alloc, bytes, &shapes())? {
         Input::Ready(accepted, script) => {
@@ -206,7 +220,7 @@ pub fn explored<R: Threads + Sync, P: Progress>(
     progress: &P,
 ) -> Result<Output, NoMemory>
     requires most { most ≤ most_paired }
-    ensures ended { IfOk result (λ o. o.ended ≡ None) }
+    ensures ran { IfOk result (λ o. o.ran ≡ nothing) }
     ensures found { IfOk result (λ o. IsExploration bytes.now most o.status o.text) }
 {
     match read_input(alloc, bytes, &shapes())? {
@@ -221,7 +235,7 @@ pub fn explored<R: Threads + Sync, P: Progress>(
 
 // The output that tells what was found.
 fn output_finding(found: Explored) -> Output
-    ensures ended { result.ended ≡ None }
+    ensures ran { result.ran ≡ nothing }
     ensures status { result.status ≡ (if found.waits then waits_status else done_status) }
     ensures text { result.text ≡ found.text }
 {
@@ -229,20 +243,62 @@ fn output_finding(found: Explored) -> Output
     Output {
         text,
         status: status_where(waits),
-        ended: None,
+        ran: Ran::Nothing,
     }
+}
+
+// The play of an input over several services, with its report; or the line of an input that is refused.
+fn several(alloc: Global, bytes: &[u8], with_trace: bool) -> Result<Output, NoMemory>
+    ensures { IfOk result (λ o. IsMultiOutput bytes.now with_trace o.ran o.status o.text) }
+{
+    match read_multi_input(alloc, bytes, &shapes())? {
+        MultiInput::Ready(interfaces, script) => {
+            let members = members_of(alloc, interfaces.as_slice())?;
+            let came = play_over(alloc, members.as_slice(), script)?;
+            let text = multi_text(alloc, members.as_slice(), &came, with_trace)?;
+            Ok(output_of_members(came, text))
+        }
+        MultiInput::Refused(line) => Ok(refusing(line)),
+    }
+}
+
+// The output of a play over several services: this text, and the status of its ends.
+fn output_of_members(came: MultiEnded, text: Bytes) -> Output
+    ensures text { result.text ≡ text }
+    ensures status { result.status ≡ multi_status came.ends }
+    ensures ran { result.ran ≡ many came }
+{
+    Output {
+        text,
+        status: status_where(some_waits(came.ends().as_slice())),
+        ran: Ran::Several(came),
+    }
+}
+
+// Whether some client waits at the end of a play over several services.
+fn some_waits(ends: &[(u8, MultiEnd)]) -> bool
+    ensures { result ≡ some_waits ends.now }
+{
+    ends.iter().any(|end| is_waiting(&end.1))
+}
+
+// Whether a client waits at its end, in a call of some member.
+fn is_waiting(end: &MultiEnd) -> bool
+    ensures { result ≡ is_waiting end.now }
+{
+    matches!(end, MultiEnd::Blocked { .. })
 }
 
 // The output that refuses an input with this line.
 fn refusing(line: Bytes) -> Output
-    ensures ended { result.ended ≡ None }
+    ensures ran { result.ran ≡ nothing }
     ensures status { result.status ≡ refused_status }
     ensures line { result.text ≡ line }
 {
     Output {
         text: line,
         status: Status::Refused,
-        ended: None,
+        ran: Ran::Nothing,
     }
 }
 
@@ -258,7 +314,7 @@ fn reported(
     requires run { IsPlayOf accepted.now (answering kind) played }
     ensures text { IfOk result (λ o. IsShown shows accepted.now played o.text) }
     ensures status { IfOk result (λ o. o.status ≡ ended_status played.ends) }
-    ensures ended { IfOk result (λ o. o.ended ≡ Some played) }
+    ensures ran { IfOk result (λ o. o.ran ≡ one played) }
 {
     let text = shown(alloc, kind, accepted, &played, shows)?;
     Ok(output_of_run(played, text))
@@ -303,7 +359,7 @@ fn costs_shown(
 
 /// The run of the script that is generated for a service from a number, with its line.
 pub fn loaded(alloc: Global, service: ServiceKind, number: u64) -> Result<Output, NoMemory>
-    ensures { IfOk result (λ o. IsOwnOutput (load service number) o.ended o.status o.text) }
+    ensures { IfOk result (λ o. IsOwnOutput (load service number) o.ran o.status o.text) }
 {
     let played = load_of(alloc, service, number)?;
     let line = load_line(alloc, &service.shape(), number, played.ended())?;
@@ -324,12 +380,12 @@ fn load_of(alloc: Global, service: ServiceKind, number: u64) -> Result<Played, N
 fn output_of_run(played: Played, text: Bytes) -> Output
     ensures text { result.text ≡ text }
     ensures status { result.status ≡ ended_status played.ends }
-    ensures ended { result.ended ≡ Some played }
+    ensures ran { result.ran ≡ one played }
 {
     Output {
         text,
         status: status_of(played.ended().ends.as_slice()),
-        ended: Some(played),
+        ran: Ran::One(played),
     }
 }
 

@@ -1,11 +1,11 @@
 -- What a command's output says, and how an output is written.
-use Rattle.std.specs.Prelude.{ℕ, ◌≡◌, ◌<◌, ◌⊎◌, List, None, length, take}
-use Rattle.std.specs.declared.option.Option.{Option}
+use Rattle.std.specs.Prelude.{ℕ, ◌≡◌, ◌<◌, ◌⊎◌, List, length, take}
 use Rattle.std.specs.Io.KnownBytes.{Appends}
 use Rattle.sg_edge.specs.Edge.{Rose}
-use Rattle.sg_verify.specs.sg_report.sg_hist.declared.ended.Ended.{Ended}
 use Rattle.sg_input.specs.declared.outcome.Verdict.{Verdict}
 use Rattle.sg_input.specs.declared.outcome.Verdict.TheVariants.{Accepted as accepted, Refused as refused}
+use Rattle.sg_top.specs.declared.output.Ran.{Ran}
+use Rattle.sg_top.specs.declared.output.Ran.TheVariants.{Nothing}
 use Rattle.sg_top.specs.declared.status.Status.{Status}
 use Rattle.sg_top.specs.declared.status.Status.TheVariants.{Done, Refused, WriteFault, NoMemory}
 use Rattle.sg_top.specs.Answer.{Ends}
@@ -23,7 +23,7 @@ IsWritten sink sink' output wanted status =
     ⊎ ((status ≡ WriteFault) × Rose sink.faults sink'.faults × ((written : ℕ) × (written < length output) × Appends sink.told sink'.told (take written output)))
 
 -- an output that is one of these was written, or there was no memory for it and nothing is written
-abbrev pub IsDelivered : (Option Ended → Status → List ℕ → Type 0) → Ends → Ends → Status → Option Ended → Type 0
-IsDelivered IsOne sink sink' status ended =
-    ((output : List ℕ) × (wanted : Status) × IsOne ended wanted output × IsWritten sink sink' output wanted status)
-    ⊎ ((status ≡ NoMemory) × (ended ≡ None) × (sink' ≡ sink))
+abbrev pub IsDelivered : (Ran → Status → List ℕ → Type 0) → Ends → Ends → Status → Ran → Type 0
+IsDelivered IsOne sink sink' status ran =
+    ((output : List ℕ) × (wanted : Status) × IsOne ran wanted output × IsWritten sink sink' output wanted status)
+    ⊎ ((status ≡ NoMemory) × (ran ≡ Nothing) × (sink' ≡ sink))

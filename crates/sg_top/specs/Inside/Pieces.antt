@@ -1,16 +1,18 @@
 -- The parts of what a command makes, by themselves.
 use Rattle.std.specs.Prelude.{ℕ, ◌≡◌, ◌≤◌, ◌⊎◌, List, length}
 use Rattle.sg_input.specs.declared.input.Input.TheVariants.{Refused as refused_input}
+use Rattle.sg_input.specs.declared.multi_input.MultiInput.TheVariants.{Refused as refused_multi}
 use Rattle.sg_input.specs.declared.outcome.Verdict.TheVariants.{Refused as refused}
 use Rattle.sg_input.specs.declared.run_input.RunInput.TheVariants.{Refused as refused_run}
 use Rattle.sg_input.specs.Inputs.{IsInputOf, IsRunInputOf}
+use Rattle.sg_input.specs.MultiInputs.{IsMultiInputOf}
 use Rattle.sg_explain.specs.Explained.{IsExplained}
 use Rattle.sg_input.specs.Verdicts.{IsVerdict}
 use Rattle.sg_verify.specs.declared.verdict.Verdict.{Verdict as Judgement}
 use Rattle.sg_verify.specs.declared.verdict.Verdict.TheVariants.{Legal}
 use Rattle.sg_top.specs.Answer.{IsExploredAs, IsJudgedAs, IsRefusal, services, most_bytes}
 use Rattle.sg_top.specs.declared.command.Command.{Command}
-use Rattle.sg_top.specs.declared.command.Command.TheVariants.{Play, Explain, Explore, Verify, Load}
+use Rattle.sg_top.specs.declared.command.Command.TheVariants.{Play, Explain, Explore, Verify, Multi, Load}
 use Rattle.sg_top.specs.declared.status.Status.{Status}
 use Rattle.sg_top.specs.declared.status.Status.TheVariants.{Done, Refused, ReadFault, WriteFault, NoMemory, Illegal}
 
@@ -33,6 +35,7 @@ IsRefusedAs command bytes output = elim command as (λ c. Type 0) [
   | Explain ↦ IsExplained services bytes (refused output)
   | Explore most ↦ IsInputOf services bytes (refused_input output)
   | Verify ↦ IsRunInputOf services bytes (refused_run output)
+  | Multi trace ↦ IsMultiInputOf services bytes (refused_multi output)
   | Load service number ↦ ⊥
   | _ ↦ IsVerdict services bytes (refused output)
 ]

@@ -6,7 +6,7 @@ use Rattle.sg_input.specs.sg_lex.Table.{IsNumber}
 use Rattle.sg_facts.specs.sg_base.Counts.{last_count}
 use Rattle.sg_input.specs.sg_script.Numbers.{value_of_digits}
 use Rattle.sg_top.specs.declared.command.Command.{Command}
-use Rattle.sg_top.specs.declared.command.Command.TheVariants.{Play, Check, Compile, Upgrade, Explain, Explore, Verify, Load}
+use Rattle.sg_top.specs.declared.command.Command.TheVariants.{Play, Check, Compile, Upgrade, Explain, Explore, Verify, Multi, Load}
 use Rattle.sg_top.specs.declared.command.Shows.TheVariants.{Run, Trace, Costs, Picture, Columns}
 
 -- digits, at least one, stand for a number of 64 bits
@@ -29,6 +29,7 @@ IsWordOf word Upgrade = word ≡ codes "upgrade"
 IsWordOf word Explain = word ≡ codes "explain"
 IsWordOf word (Explore most) = (most ≡ 0) × (word ≡ codes "explore")
 IsWordOf word Verify = word ≡ codes "verify"
+IsWordOf word (Multi false) = word ≡ codes "multi"
 IsWordOf word _ = ⊥
 
 -- a word and a second one say a command
@@ -36,6 +37,7 @@ abbrev pub IsPairOf : List ℕ → List ℕ → Command → Type 0
 IsPairOf word more (Play false Trace) = (word ≡ codes "sim") × (more ≡ codes "trace")
 IsPairOf word more (Play true Trace) = (word ≡ codes "run") × (more ≡ codes "trace")
 IsPairOf word more (Play false Columns) = (word ≡ codes "draw") × (more ≡ codes "text")
+IsPairOf word more (Multi true) = (word ≡ codes "multi") × (more ≡ codes "trace")
 IsPairOf word more (Explore most) = (word ≡ codes "explore") × AreBoundOf most more
 IsPairOf word more _ = ⊥
 

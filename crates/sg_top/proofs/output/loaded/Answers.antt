@@ -9,8 +9,8 @@ use Rattle.sg_top.proofs.output.loaded.Goals as goal
 
 pub returns : goal.returns
 returns c =
-    own_output c.args.service c.args.number c.in_ok-played.played c.output_of_run.result.ended c.output_of_run.result.status c.output_of_run.result.text
-    c.in_ok-played.ensures.playable c.in_ok-played.ensures.run c.output_of_run.ensures.ended c.output_of_run.ensures.status
+    own_output c.args.service c.args.number c.in_ok-played.played c.output_of_run.result.ran c.output_of_run.result.status c.output_of_run.result.text
+    c.in_ok-played.ensures.playable c.in_ok-played.ensures.run c.output_of_run.ensures.ran c.output_of_run.ensures.status
     (c.output_of_run.ensures.text ∙ c.in_ok-line.ensures
     ∙ ap (λ (f : Facts). load_line_of f.name c.args.number c.ended.result.now) c.shape.ensures
     ∙ ap (λ (e : Ended). load_line_of (facts_by c.args.service).name c.args.number e) c.ended.ensures)

@@ -44,15 +44,15 @@ pub returns-in_ok-played-in-Ready : goal.returns-in_ok-played-in-Ready
 returns-in_ok-played-in-Ready g c =
     let ready : IsReady services c.args.bytes.now c.in-Ready.accepted c.in-Ready.script = ready_for c.args.bytes.now (map facts_of c.shapes.result) c.in_ok-accepted.field-0 c.in-Ready.accepted c.in-Ready.accepted c.in-Ready.script c.shapes.ensures.facts c.in-Ready.is refl c.in_ok-accepted.ensures.input in
     of_three c.reported.result _ _ _ _
-    (λ o text status ended.
-    output_in_threads c.args.bytes.now c.in-Ready.accepted c.kind_of-kind.result c.in-Ready.script c.args.shows c.in_ok-played-in-Ready.played o.ended o.status o.text ready
+    (λ o text status ran.
+    output_in_threads c.args.bytes.now c.in-Ready.accepted c.kind_of-kind.result c.in-Ready.script c.args.shows c.in_ok-played-in-Ready.played o.ran o.status o.text ready
     (c.kind_of-kind.ensures ∙ ap (λ (i : Declared). i.facts) c.interface.ensures.same) c.in_ok-played-in-Ready.ensures
-    ended status text)
-    c.reported.ensures.text c.reported.ensures.status c.reported.ensures.ended
+    ran status text)
+    c.reported.ensures.text c.reported.ensures.status c.reported.ensures.ran
 
 pub returns-in-Refused : goal.returns-in-Refused
 returns-in-Refused g c =
-    subst (λ e. IsPlayOutput c.args.bytes.now true c.args.shows e c.refusing.result.status c.refusing.result.text) (sym c.refusing.ensures.ended) (
+    subst (λ e. IsPlayOutput c.args.bytes.now true c.args.shows e c.refusing.result.status c.refusing.result.text) (sym c.refusing.ensures.ran) (
       c.refusing.ensures.status,
       subst (λ t. IsInputOf services c.args.bytes.now (refused_input t)) (sym c.refusing.ensures.line)
           (subst (λ x. IsInputOf services c.args.bytes.now x) c.in-Refused.is

@@ -35,14 +35,14 @@ returns-in_ok-said-in-Ready-clause-said c =
     let ready : IsRunReady services c.args.bytes.now c.in-Ready.accepted c.in-Ready.history.items =
     printed_for c.args.bytes.now (map facts_of c.shapes.result) c.in_ok-accepted.field-0 c.in-Ready.accepted c.in-Ready.history c.shapes.ensures.facts c.in-Ready.is c.in_ok-accepted.ensures.input in
     of_three c.judged.result _ _ _ _
-    (λ o ended status line.
+    (λ o ran status line.
     judged_output c.args.bytes.now c.in-Ready.accepted c.kind_of-kind.result c.in-Ready.history.items c.in_ok-said-in-Ready.said o.status o.text ready
     (c.kind_of-kind.ensures ∙ ap (λ (i : Declared). i.facts) c.interface.ensures.same)
     (subst (λ i. IsVerdictOf i (answering c.kind_of-kind.result).ask c.in-Ready.history.items c.in_ok-said-in-Ready.said) c.in_ok-tables-in-Ready.ensures.iface
     c.in_ok-said-in-Ready.ensures.is)
     status
     (line ∙ ap (λ (i : Declared). verdict_line_of i.facts c.in-Ready.history.items c.in_ok-said-in-Ready.said) c.interface-in-Ready.ensures.same))
-    c.judged.ensures.ended c.judged.ensures.status c.judged.ensures.line
+    c.judged.ensures.ran c.judged.ensures.status c.judged.ensures.line
 
 pub returns-in-Refused-clause-said : goal.returns-in-Refused-clause-said
 returns-in-Refused-clause-said c =

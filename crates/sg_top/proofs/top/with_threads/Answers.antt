@@ -17,5 +17,5 @@ pub returns-in-Ok-TooLong-clause-answer : goal.returns-in-Ok-TooLong-clause-answ
 returns-in-Ok-TooLong-clause-answer g c =
     too_long_answer _ _ _ _ _ _ _ (Play true c.args.shows) _ _ refl refl (one_given (Play true c.args.shows)) refl refl
     (subst (TakesIn (most_interface + 4 + most_script) _ _) (c.in-Ok-TooLong.is ∙ ap Ok c.in-Ok-TooLong.field-0-is) c.read_all.ensures.taken)
-    c.deliver.ensures.ended c.deliver.ensures.written (c.read_all.ensures.steady (λ failed. absurd (cc (failed, c.in-Ok-TooLong.is))))
+    c.deliver.ensures.ran c.deliver.ensures.written (c.read_all.ensures.steady (λ failed. absurd (cc (failed, c.in-Ok-TooLong.is))))
     c.deliver.ensures.count

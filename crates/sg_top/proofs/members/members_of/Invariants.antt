@@ -1,0 +1,7 @@
+-- The interfaces so far are those of the members so far.
+use Rattle.std.proofs.Common.{take}
+use Rattle.sg_top.specs.Inside.Several.{AreMembersOf}
+use Rattle.sg_top.proofs.members.members_of.Given as goal
+
+abbrev pub invariant-interfaces : goal.invariant-interfaces
+invariant-interfaces l = AreMembersOf (take l.iface-index l.interfaces) l.members
