@@ -73,7 +73,7 @@ fn sizes_of(ended: &Ended) -> Sizes {
 
 /// What is looked at of an answer: its status, and the sizes of its run, if it has one. The answer is dropped here alone.
 pub fn said(answer: Answer) -> (Status, Option<Sizes>) {
-    let sizes = match &answer.ended {
+    let sizes = match answer.ended() {
         Some(played) => Some(sizes_of(played.ended())),
         None => None,
     };

@@ -8,6 +8,7 @@
 //! - `drawn`: pictures of runs: what stands beside the lanes, how texts stand in a document, and how long one is
 //! - `gate`: two clients in threads of their own, of which one waits for the other at the gate
 //! - `inputs`: runs whose inputs are made: long ones, other interfaces, and what is refused
+//! - `several`: plays over several services
 //! - `stops`: runs with a stop at each point, and with two
 #![tactic(auto)]
 
@@ -23,6 +24,8 @@ mod gate;
 mod inputs;
 #[cfg(test)]
 mod runs;
+#[cfg(test)]
+mod several;
 #[cfg(test)]
 mod stops;
 #[cfg(test)]

@@ -1,13 +1,41 @@
 -- A script that is ready is played over its members.
-use Rattle.std.proofs.Common.{◌≡◌, ◌∙◌, map, refl, sym, subst}
+use Rattle.std.proofs.Common.{◌≡◌, ◌∙◌, ap, map, sym, subst}
 use Rattle.sg_facts.specs.Facts.{facts_of}
-use Rattle.sg_input.specs.MultiInputs.{IsMultiReady}
+use Rattle.sg_input.specs.MultiInputs.{IsMultiInputOf, IsMultiReady}
+use Rattle.sg_input.specs.declared.multi_input.MultiInput.TheVariants.{Refused as refused_multi}
 use Rattle.sg_top.specs.Answer.{IsMultiOutput, services}
 use Rattle.sg_top.proofs.Several.{members_fit, members_playable, members_served, not_several, several_for, several_output}
 use Rattle.sg_top.proofs.output.several.Goals as goal
 
 pub members_of-requires : goal.members_of-requires
 members_of-requires c =
-    let made = c.in_ok-read_multi_input.field-0 in
-    let ready = several_for c.args.bytes.now (map facts_of c.shapes.result) made c.in-Ready.interfaces c.in-Ready.script c.shapes.ensures.facts c.in-Ready.is c.in_ok-read_multi_input.ensures.input in
-    members_fit c.args.bytes.now made c.in-Ready.interfaces c.in-Ready.script c.in-Ready.is c.in_ok-read_multi_input.ensures.fit ready
+    let made = c.in_ok-interfaces.field-0 in
+    let ready : IsMultiReady services c.args.bytes.now c.in-Ready.interfaces c.in-Ready.script =
+    several_for c.args.bytes.now (map facts_of c.shapes.result) made c.in-Ready.interfaces c.in-Ready.script c.shapes.ensures.facts c.in-Ready.is c.in_ok-interfaces.ensures.input in
+    members_fit c.args.bytes.now made c.in-Ready.interfaces c.in-Ready.script c.in-Ready.is c.in_ok-interfaces.ensures.fit ready
+
+pub play_over-requires-clause-services : goal.play_over-requires-clause-services
+play_over-requires-clause-services c = members_served c.in-Ready.interfaces c.in_ok-members-in-Ready.members c.in_ok-members-in-Ready.ensures
+
+pub play_over-requires-clause-playable : goal.play_over-requires-clause-playable
+play_over-requires-clause-playable c =
+    members_playable c.args.bytes.now c.in-Ready.interfaces c.in-Ready.script c.in_ok-members-in-Ready.members
+    (several_for c.args.bytes.now (map facts_of c.shapes.result) c.in_ok-interfaces.field-0 c.in-Ready.interfaces c.in-Ready.script c.shapes.ensures.facts c.in-Ready.is c.in_ok-interfaces.ensures.input)
+    c.in_ok-members-in-Ready.ensures
+
+pub returns-in_ok-text-in-Ready : goal.returns-in_ok-text-in-Ready
+returns-in_ok-text-in-Ready c =
+    let ready : IsMultiReady services c.args.bytes.now c.in-Ready.interfaces c.in-Ready.script =
+    several_for c.args.bytes.now (map facts_of c.shapes.result) c.in_ok-interfaces.field-0 c.in-Ready.interfaces c.in-Ready.script c.shapes.ensures.facts c.in-Ready.is c.in_ok-interfaces.ensures.input in
+    let play = c.in_ok-came-in-Ready.ensures in
+    several_output c.args.bytes.now c.in-Ready.interfaces c.in-Ready.script c.in_ok-members-in-Ready.members c.args.with_trace c.in_ok-came-in-Ready.came c.output_of_members.result.ran
+    c.output_of_members.result.status c.output_of_members.result.text ready c.in_ok-members-in-Ready.ensures play c.output_of_members.ensures.ran c.output_of_members.ensures.status
+    (c.output_of_members.ensures.text ∙ c.in_ok-text-in-Ready.ensures play.merged play.merges)
+
+pub returns-in-Refused : goal.returns-in-Refused
+returns-in-Refused c =
+    subst (λ r. IsMultiOutput c.args.bytes.now c.args.with_trace r c.refusing.result.status c.refusing.result.text) (sym c.refusing.ensures.ran) (
+      c.refusing.ensures.status,
+      not_several c.args.bytes.now (map facts_of c.shapes.result) c.in_ok-interfaces.field-0 c.in-Refused.line c.refusing.result.text c.shapes.ensures.facts c.in-Refused.is c.refusing.ensures.line
+          c.in_ok-interfaces.ensures.input,
+    )

@@ -1,0 +1,157 @@
+// Plays of one script over several services come out as they are written.
+use crate::runs::comes_to;
+use std::alloc::Global;
+use std::process::Abort;
+use std::sync::Wait;
+use std::test::Fail;
+use std::thread::Threads;
+use test_interfaces::{EVENT, LOCK, MM, RAMFS, SCHED, TIMER};
+
+// Plays: words and status; the services, in the order of their interfaces; the script; and what is printed, where two points stand for any
+// lines.
+const PLAYS: &str = "multi: 0
+lock event
+setup { lock_alloc(); evt_split(); } client 1 { lock_take($1); evt_trigger($2, 1); lock_release($1); } client 2 { evt_wait(1); lock_take(1); } stop lock 9;
+c1.1 lock_alloc() = ok #1
+c1.2 evt_split() = ok #1
+c1.3 lock_take(1) = ok
+c1.4 evt_trigger(1, 1) = ok
+c2.1 evt_wait(1) = ok
+c1.5 lock_release(1) = ok
+c2.2 lock_take(1) = ok
+client 1 done
+client 2 done
+service lock: calls 4 boots 2 replays 2
+service event: calls 3 boots 1 replays 0
+
+multi trace: 0
+lock event
+setup { lock_alloc(); evt_split(); } client 1 { lock_take($1); evt_trigger($2, 1); lock_release($1); } client 2 { evt_wait(1); lock_take(1); } stop lock 9;
+..
+service event: calls 3 boots 1 replays 0
+trace lock
+boot 1
+call c1.1 lock_alloc() replied
+call c1.3 lock_take(1) stopped
+stop 9
+boot 2
+walk 1.1 for c1 by c1 lock_alloc() replied
+call c1.3 lock_take(1) replied
+..
+points 25
+trace event
+boot 1
+call c1.2 evt_split() replied
+call c1.4 evt_trigger(1, 1) replied
+call c2.1 evt_wait(1) replied
+points 14
+
+multi: 3
+lock event
+setup { lock_alloc(); evt_split(); } client 1 { lock_take(1); evt_wait(1); } client 2 { lock_take(1); evt_trigger(1, 1); } schedule 1 1;
+c1.1 lock_alloc() = ok #1
+c1.2 evt_split() = ok #1
+c1.3 lock_take(1) = ok
+client 1 blocked evt_wait(1)
+client 2 blocked lock_take(1)
+service lock: calls 2 boots 1 replays 0
+service event: calls 1 boots 1 replays 0
+
+multi trace: 3
+lock event
+setup { lock_alloc(); evt_split(); } client 1 { lock_take(1); evt_wait(1); } client 2 { lock_take(1); evt_trigger(1, 1); } schedule 1 1;
+..
+trace lock
+boot 1
+call c1.1 lock_alloc() replied
+call c1.3 lock_take(1) replied
+call c2.1 lock_take(1) blocked
+..
+trace event
+boot 1
+call c1.2 evt_split() replied
+call c1.4 evt_wait(1) blocked
+..
+
+multi: 2
+lock lock
+
+interface 2 refused at 2:15: DuplicateService
+
+multi: 2
+lock event
+client 1 { lock_alloc(); } stop timer 3;
+script refused at 1:33: UnknownService
+
+multi: 0
+timer
+client 1 { tmr_create(5, 7); tmr_tick($1, 22); tmr_wait($1); } stop timer 9;
+c1.1 tmr_create(5, 7) = ok #1
+c1.2 tmr_tick(1, 22) = ok
+c1.3 tmr_wait(1) = ok 5
+client 1 done
+..
+
+multi: 0
+mm ramfs sched
+
+service mm: calls 0 boots 1 replays 0
+service ramfs: calls 0 boots 1 replays 0
+service sched: calls 0 boots 1 replays 0";
+
+// The interface of a service.
+fn interface_of(name: &str) -> Result<&'static [u8], Fail> {
+    Ok(match name {
+        "lock" => LOCK,
+        "event" => EVENT,
+        "mm" => MM,
+        "ramfs" => RAMFS,
+        "sched" => SCHED,
+        "timer" => TIMER,
+        _ => Err("no service")?,
+    })
+}
+
+// An input: the interfaces of services, each before the dividing line, and a script.
+fn input_of(alloc: Global, services: &str, script: &str) -> Result<Vec<u8>, Fail> {
+    let mut input = Vec::new(alloc);
+    for name in services.split_whitespace() {
+        input.extend_from_slice(interface_of(name)?)?;
+        input.extend_from_slice(b"%%\n")?;
+    }
+    input.extend_from_slice(script.as_bytes())?;
+    Ok(input)
+}
+
+// Whether the play that a text tells comes out as it is written.
+fn comes_out<R: Threads + Wait + Sync>(rt: &R, alloc: Global, told: &str) -> Result<bool, Fail> {
+    let (head, rest) = told.split_once("\n").ok_or("no words")?;
+    let (words, status) = head.split_once(": ").ok_or("no status")?;
+    let (services, rest) = rest.split_once("\n").ok_or("no services")?;
+    let (script, printed) = rest.split_once("\n").ok_or("no script")?;
+    let status = status.parse::<u8>().ok().ok_or("no number")?;
+    let input = input_of(alloc, services, script)?;
+    Ok(comes_to(rt, alloc, words, &input, status, printed)?)
+}
+
+// Each comes out as it is written.
+fn try_each<R: Threads + Wait + Sync + Abort>(
+    rt: &R,
+    alloc: Global,
+    plays: &str,
+) -> Result<(), Fail> {
+    for told in plays.split("\n\nmulti") {
+        let text = if told.starts_with("multi") {
+            told.to_string(alloc)?
+        } else {
+            format!(in alloc; "multi{told}")?
+        };
+        assert!(rt; comes_out(rt, alloc, &text)?, "{text}");
+    }
+    Ok(())
+}
+
+#[test]
+fn plays_over_several_services(rt: HostRuntime) -> Result<(), Fail> {
+    try_each(&rt, rt.alloc(), PLAYS)
+}
