@@ -7,6 +7,9 @@ pub mod Growing
 pub mod Keeping
 pub mod Member
 pub mod Merging
+pub mod NumberingCalls
 pub mod Own
+pub mod PrintedMembers
+pub mod ReadingMerged
 pub mod Stepping
 pub mod Turning

@@ -3,4 +3,5 @@ pub mod Callers
 pub mod Ended
 pub mod Keeps
 pub mod Member
+pub mod Numbers
 pub mod Turns

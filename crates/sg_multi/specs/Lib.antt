@@ -6,3 +6,4 @@ pub mod Merged
 pub mod Playable
 pub mod Played
 pub mod Playing
+pub mod Report
