@@ -5,3 +5,4 @@ pub mod Refusing
 pub mod Searching
 pub mod Seams
 pub mod Telling
+pub use Rattle.sg_input.proofs as sg_input

@@ -4,3 +4,4 @@ pub mod Places
 pub mod Rebuilt
 pub mod Stuck
 pub mod Words
+pub use Rattle.sg_input.specs as sg_input

@@ -7,3 +7,4 @@ pub mod Playable
 pub mod Played
 pub mod Playing
 pub mod Report
+pub use Rattle.sg_members.specs as sg_members

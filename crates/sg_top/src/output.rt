@@ -4,7 +4,7 @@ ghost use Rattle.sg_explain.specs.Explained.{IsExplained};
 ghost use Rattle.sg_verify.specs.sg_report.sg_hist.Recovered.{is_blocked};
 ghost use Rattle.sg_load.specs.sg_plain.Playing.Playable.{IsPlayable};
 ghost use Rattle.sg_load.specs.sg_plain.Inside.Kept.{somebody_waits};
-ghost use Rattle.sg_input.specs.Verdicts.{IsCompiled, IsUpgraded, IsVerdict};
+ghost use Rattle.sg_explain.specs.sg_input.Verdicts.{IsCompiled, IsUpgraded, IsVerdict};
 ghost use Rattle.sg_load.specs.Generated.{generated};
 ghost use Rattle.sg_load.specs.Services.{facts_by, standard};
 ghost use Rattle.sg_top.specs.Answer.{IsOfText, IsOutput, IsMultiOutput, IsOwnOutput, ended_status, has_input, is_in_threads, multi_status, services, IsPlayOutput};
@@ -31,12 +31,12 @@ use sg_cost::cost_text;
 use sg_draw::{columns, picture};
 use sg_edge::Gate;
 use sg_explain::explain;
-use sg_explore::{Explored, Played, Progress};
-use sg_facts::{Bytes, Interface, NoMemory};
-use sg_input::{
+use sg_explain::inputs::{
     History, Input, MultiInput, RunInput, Script, Verdict, compile, compiled, read_input,
     read_multi_input, read_run, upgraded, verdict,
 };
+use sg_explore::{Explored, Played, Progress};
+use sg_facts::{Bytes, Interface, NoMemory};
 use sg_load::{Accepted, ServiceKind, generate, standard};
 use sg_multi::{MultiEnd, MultiEnded, multi_text};
 use sg_verify::{End, Verdict as Judgement, load_line, text, verdict_line};

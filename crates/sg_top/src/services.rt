@@ -21,9 +21,9 @@ ghost use Rattle.sg_top.specs.Inside.Plays.{IsPlayOf, IsPlayed, IsVerdictBy};
 
 use sg_cost::{Costs, costs_of};
 use sg_edge::Gate;
+use sg_explain::inputs::{History, Script};
 use sg_explore::{Explored, Played, Progress, explore, share, simulate};
 use sg_facts::{Interface, NoMemory, Service, Shape, Tables};
-use sg_input::{History, Script};
 use sg_load::kind::{
     EventService, LockService, MmService, RamfsService, SchedService, TimerService,
 };

@@ -1,9 +1,9 @@
 -- A script of files, and its play. The functions: 1 tsplit, 2 tread, 3 twrite, 4 tseek, 5 trelease.
 use Rattle.std.specs.Prelude.{List, [], ◌∷◌, codes}
-use Rattle.sg_facts.specs.sg_base.declared.reply.Code.TheVariants.{NoDesc}
-use Rattle.sg_facts.specs.sg_base.declared.reply.Reply.TheVariants.{Refused}
-use Rattle.sg_facts.specs.sg_base.declared.value.Value.TheVariants.{Word as word, Text as text}
-use Rattle.sg_facts.specs.declared.entry.Entry.{Entry}
+use Rattle.test_recovery.specs.sg_facts.sg_base.declared.reply.Code.TheVariants.{NoDesc}
+use Rattle.test_recovery.specs.sg_facts.sg_base.declared.reply.Reply.TheVariants.{Refused}
+use Rattle.test_recovery.specs.sg_facts.sg_base.declared.value.Value.TheVariants.{Word as word, Text as text}
+use Rattle.test_recovery.specs.sg_facts.declared.entry.Entry.{Entry}
 use Rattle.sg_plain.specs.sg_script.declared.script.Arg.TheVariants.{Number, Text, Back}
 use Rattle.sg_plain.specs.sg_script.declared.script.Script.{Script}
 use Rattle.test_plays.specs.LockPlays.{entry_of, made, ok_desc}

@@ -1,9 +1,9 @@
 -- Scripts of locks, and their plays. The functions: 1 lock_alloc, 2 lock_take, 3 lock_release, 4 lock_free.
 use Rattle.std.specs.Prelude.{ℕ, List, [], ◌∷◌}
-use Rattle.sg_facts.specs.sg_base.declared.call.Call.{Call}
-use Rattle.sg_facts.specs.sg_base.declared.reply.Reply.{Reply}
-use Rattle.sg_facts.specs.sg_base.declared.reply.Reply.TheVariants.{Ok}
-use Rattle.sg_facts.specs.declared.entry.Entry.{Entry}
+use Rattle.test_recovery.specs.sg_facts.sg_base.declared.call.Call.{Call}
+use Rattle.test_recovery.specs.sg_facts.sg_base.declared.reply.Reply.{Reply}
+use Rattle.test_recovery.specs.sg_facts.sg_base.declared.reply.Reply.TheVariants.{Ok}
+use Rattle.test_recovery.specs.sg_facts.declared.entry.Entry.{Entry}
 use Rattle.sg_plain.specs.sg_hist.declared.ended.End.{End}
 use Rattle.sg_plain.specs.sg_hist.declared.ended.End.TheVariants.{Done, Blocked}
 use Rattle.sg_plain.specs.sg_script.declared.script.Arg.{Arg}

@@ -1,9 +1,9 @@
 -- Scripts with stops, and what is wrong with some of their runs. The runs are those of `test_recovery`.
 use Rattle.std.specs.Prelude.{List, [], ◌∷◌, None}
-use Rattle.sg_facts.specs.declared.entry.Entry.{Entry}
-use Rattle.sg_facts.specs.declared.outcome.Outcome.TheVariants.{Blocks}
-use Rattle.sg_facts.specs.declared.trace.Item.{Item}
-use Rattle.sg_facts.specs.Trace.{Run}
+use Rattle.test_recovery.specs.sg_facts.declared.entry.Entry.{Entry}
+use Rattle.test_recovery.specs.sg_facts.declared.outcome.Outcome.TheVariants.{Blocks}
+use Rattle.test_recovery.specs.sg_facts.declared.trace.Item.{Item}
+use Rattle.test_recovery.specs.sg_facts.Trace.{Run}
 use Rattle.sg_plain.specs.sg_script.declared.script.Arg.TheVariants.{Number, Back}
 use Rattle.sg_plain.specs.sg_script.declared.script.Script.{Script}
 use Rattle.test_recovery.specs.test_histories.Written.{entry, ok, ok_at}

@@ -1,5 +1,5 @@
 // Plays of files.
-ghost use Rattle.sg_facts.specs.Laws.{whole};
+ghost use Rattle.test_recovery.specs.sg_facts.Laws.{whole};
 ghost use Rattle.test_plays.specs.FilePlays.{held_reply, held_reply_history};
 ghost use Rattle.sg_plain.specs.Inside.Turns.{IsPlainPlay};
 ghost use Rattle.test_recovery.specs.test_histories.sg_ramfs.RamfsFacts.{ramfs_facts};

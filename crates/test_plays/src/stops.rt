@@ -2,7 +2,7 @@
 ghost use Rattle.std.specs.Prelude.{◌≡◌, [], false, true};
 ghost use Rattle.test_recovery.specs.test_histories.sg_event.EventFacts.{event_facts};
 ghost use Rattle.test_recovery.specs.test_histories.sg_event.EventTable.{event_table};
-ghost use Rattle.sg_facts.specs.Laws.{whole};
+ghost use Rattle.test_recovery.specs.sg_facts.Laws.{whole};
 ghost use Rattle.test_recovery.specs.test_histories.sg_lock.LockFacts.{lock_facts};
 ghost use Rattle.test_recovery.specs.test_histories.sg_lock.LockTable.{lock_table};
 ghost use Rattle.sg_plain.specs.Calls.{AreEnds};

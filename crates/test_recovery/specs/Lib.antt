@@ -8,3 +8,4 @@ pub mod SchedRuns
 pub mod StrictRuns
 pub mod Written
 pub use Rattle.test_histories.specs as test_histories
+pub use Rattle.sg_facts.specs as sg_facts

@@ -4,7 +4,7 @@ use Rattle.std.specs.List.{Contains}
 use Rattle.sg_facts.specs.Facts.{Facts}
 use Rattle.sg_facts.specs.Interface.{Declared}
 use Rattle.sg_facts.specs.declared.entry.Entry.{Entry}
-use Rattle.sg_input.specs.sg_script.declared.script.Script.{Script}
+use Rattle.sg_explain.specs.sg_input.sg_script.declared.script.Script.{Script}
 use Rattle.sg_load.specs.sg_plain.Playing.Playable.{IsPlayable}
 use Rattle.sg_verify.specs.sg_report.sg_hist.declared.ended.Ended.{Ended}
 use Rattle.sg_explore.specs.sg_shared.Runs.{Answering, IsRunOf}

@@ -1,5 +1,5 @@
 -- What a run prints is read to its history, for an interface of one of the services.
-use Rattle.sg_input.proofs.sg_entries.Backwards.{has_history}
+use Rattle.sg_explain.proofs.sg_input.sg_entries.Backwards.{has_history}
 use Rattle.sg_top.proofs.Fitting.{interface_service}
 use Rattle.sg_top.proofs.Named.{names_of}
 use Rattle.sg_top.proofs.laws.printed_runs_are_read.Goals as goal

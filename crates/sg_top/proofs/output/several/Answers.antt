@@ -1,8 +1,8 @@
 -- A script that is ready is played over its members.
 use Rattle.std.proofs.Common.{◌≡◌, ◌∙◌, ap, map, sym, subst}
 use Rattle.sg_facts.specs.Facts.{facts_of}
-use Rattle.sg_input.specs.MultiInputs.{IsMultiInputOf, IsMultiReady}
-use Rattle.sg_input.specs.declared.multi_input.MultiInput.TheVariants.{Refused as refused_multi}
+use Rattle.sg_explain.specs.sg_input.MultiInputs.{IsMultiInputOf, IsMultiReady}
+use Rattle.sg_explain.specs.sg_input.declared.multi_input.MultiInput.TheVariants.{Refused as refused_multi}
 use Rattle.sg_top.specs.Answer.{IsMultiOutput, services}
 use Rattle.sg_top.proofs.Several.{members_fit, members_playable, members_served, not_several, several_for, several_output}
 use Rattle.sg_top.proofs.output.several.Goals as goal

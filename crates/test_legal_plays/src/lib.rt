@@ -1,18 +1,17 @@
-//! Plays with stops, compared with worlds that never stop: each reply of a play is what a world replies that is asked one call after
-//! another.
+//! Plays with stops, judged: of each what it prints is read again, and judged a history that a service which never failed could have given.
 //!
-//! - `again`: whether the entries of a history come again
+//! - `judged`: plays, and whether they are judged legal
 //!
 //! The tests:
 //! - `eager`: plays under interfaces that rebuild all descriptors first, with one stop at each point and with each two
 //! - `replays`: plays with one stop at each point, of locks, pages, files and threads
-//! - `shared`: plays with a thread for each client, of all services
+//! - `shared`: plays with a thread for each client, of five services
 #![tactic(auto)]
 
 #[cfg(test)]
-mod again;
-#[cfg(test)]
 mod eager;
+#[cfg(test)]
+mod judged;
 #[cfg(test)]
 mod replays;
 #[cfg(test)]
