@@ -294,6 +294,7 @@ no_service word name digits none Upgrade is = is
 no_service word name digits none Explain is = is
 no_service word name digits none (Explore most) is = is
 no_service word name digits none Verify is = is
+no_service word name digits none (Multi trace) is = is
 no_service word name digits none (Load s n) is = none s is.1
 
 load_of : (word name digits : String Global) (command : Command) → IsCommand (word ∷ name ∷ digits ∷ []) command → IsLoadOf (string_bytes word) (string_bytes name) (string_bytes digits) command

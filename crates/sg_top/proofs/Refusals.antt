@@ -1,5 +1,5 @@
 -- An output that isn't a refusal refuses nothing: a text has one verdict, and an input is one thing.
-use Rattle.std.proofs.Common.{◌≡◌, ℕ, ◌≤◌, inl, inr, Bool, false, List, None, Some, arith, length}
+use Rattle.std.proofs.Common.{◌≡◌, ℕ, ◌≤◌, inl, inr, Bool, false, List, arith, length}
 use Rattle.sg_verify.specs.sg_report.sg_hist.declared.ended.Ended.{Ended}
 use Rattle.sg_explain.proofs.Alone.{explained_alone}
 use Rattle.sg_explain.specs.sg_input.declared.outcome.Verdict.{Verdict}

@@ -26,9 +26,8 @@ use Rattle.sg_multi.specs.Played.{IsMultiPlayed, MultiCame, stubs_by}
 use Rattle.sg_multi.specs.Report.{multi_text_of}
 use Rattle.sg_multi.specs.declared.play.MemberTables.{MemberTables}
 use Rattle.sg_multi.proofs.Flawless.{multi_playable}
-use Rattle.sg_verify.specs.sg_report.sg_hist.Recovered.{Stubs}
 use Rattle.sg_top.specs.Answer.{IsMultiOutput, multi_status, services}
-use Rattle.sg_top.specs.Headline.{IsMember, IsPlayOfMembers, answering, played_services}
+use Rattle.sg_top.specs.Headline.{IsMember, answering, played_services}
 use Rattle.sg_top.specs.Inside.Plays.{IsPlayed}
 use Rattle.sg_top.specs.Inside.Several.{AreMembersOf, IsMemberOf}
 use Rattle.sg_top.specs.declared.output.Ran.{Ran}
@@ -66,6 +65,10 @@ pub members_fit : (bytes : List ℕ) (made : MultiInput) (interfaces : List Decl
 members_fit bytes made interfaces script is fit ready = fit_each ready.texts interfaces ready.accepted.accepted (subst AreFit is fit)
 
 -- ---- members
+
+-- the members of interfaces, where both lists are shown under other names
+pub shown_members : (interfaces shown : List Declared) (members lent : List MemberTables) → shown ≡ interfaces → lent ≡ members → AreMembersOf shown members → AreMembersOf interfaces lent
+shown_members interfaces shown members lent same is are = subst (λ l. AreMembersOf l lent) same (subst (AreMembersOf shown) (sym is) are)
 
 -- the tables of the members are those of their services
 pub members_served : (interfaces : List Declared) (members : List MemberTables) → AreMembersOf interfaces members

@@ -1,18 +1,18 @@
 -- One interface more has a member.
-use Rattle.std.proofs.Common.{sym, subst}
+use Rattle.std.proofs.Common.{[], sym, subst}
 use Rattle.sg_facts.specs.Fits.{Fits}
 use Rattle.sg_facts.specs.Interface.{Declared}
 use Rattle.sg_load.specs.sg_check.Shapes.{IsSmall}
 use Rattle.sg_top.specs.Inside.Plays.{IsPlayed}
 use Rattle.sg_top.specs.Inside.Several.{AreMembersOf}
-use Rattle.sg_top.proofs.Several.{each_at, members_all, members_more}
+use Rattle.sg_top.proofs.Several.{members_all, members_more}
 use Rattle.sg_top.proofs.members.members_of.Goals as goal
 
 abbrev IsReady : Declared → Type 0
 IsReady i = IsPlayed i.facts × Fits i × IsSmall i
 
 pub interfaces-init : goal.interfaces-init
-interfaces-init c = subst (AreMembersOf []) (sym c.new.ensures) tt
+interfaces-init c = subst (AreMembersOf []) (sym c.new-members.ensures) tt
 
 pub interfaces-preserved : goal.interfaces-preserved
 interfaces-preserved c =

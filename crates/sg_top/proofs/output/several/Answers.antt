@@ -1,10 +1,17 @@
 -- A script that is ready is played over its members.
-use Rattle.std.proofs.Common.{◌≡◌, ◌∙◌, ap, map, sym, subst}
+use Rattle.std.proofs.Common.{◌≡◌, ◌∙◌, List, ap, map, sym, subst}
 use Rattle.sg_facts.specs.Facts.{facts_of}
-use Rattle.sg_explain.specs.sg_input.MultiInputs.{IsMultiInputOf, IsMultiReady}
-use Rattle.sg_explain.specs.sg_input.declared.multi_input.MultiInput.TheVariants.{Refused as refused_multi}
+use Rattle.sg_facts.specs.Fits.{Fits}
+use Rattle.sg_facts.specs.Interface.{Declared}
+use Rattle.sg_facts.specs.sg_base.Lists.{Each}
+use Rattle.sg_explain.specs.sg_input.MultiInputs.{IsMultiReady}
+use Rattle.sg_load.specs.sg_check.Shapes.{IsSmall}
+use Rattle.sg_multi.specs.Report.{multi_text_of}
+use Rattle.sg_multi.specs.declared.play.MemberTables.{MemberTables}
 use Rattle.sg_top.specs.Answer.{IsMultiOutput, services}
-use Rattle.sg_top.proofs.Several.{members_fit, members_playable, members_served, not_several, several_for, several_output}
+use Rattle.sg_top.specs.Inside.Plays.{IsPlayed}
+use Rattle.sg_top.specs.Inside.Several.{AreMembersOf}
+use Rattle.sg_top.proofs.Several.{members_fit, members_playable, members_served, not_several, several_for, several_output, shown_members}
 use Rattle.sg_top.proofs.output.several.Goals as goal
 
 pub members_of-requires : goal.members_of-requires
@@ -12,25 +19,32 @@ members_of-requires c =
     let made = c.in_ok-interfaces.field-0 in
     let ready : IsMultiReady services c.args.bytes.now c.in-Ready.interfaces c.in-Ready.script =
     several_for c.args.bytes.now (map facts_of c.shapes.result) made c.in-Ready.interfaces c.in-Ready.script c.shapes.ensures.facts c.in-Ready.is c.in_ok-interfaces.ensures.input in
-    members_fit c.args.bytes.now made c.in-Ready.interfaces c.in-Ready.script c.in-Ready.is c.in_ok-interfaces.ensures.fit ready
+    subst (Each (λ (i : Declared). IsPlayed i.facts × Fits i × IsSmall i)) (sym c.as_slice.ensures)
+    (members_fit c.args.bytes.now made c.in-Ready.interfaces c.in-Ready.script c.in-Ready.is c.in_ok-interfaces.ensures.fit ready)
 
 pub play_over-requires-clause-services : goal.play_over-requires-clause-services
-play_over-requires-clause-services c = members_served c.in-Ready.interfaces c.in_ok-members-in-Ready.members c.in_ok-members-in-Ready.ensures
+play_over-requires-clause-services c =
+    members_served c.in-Ready.interfaces c.as_slice-in-Ready.result.now
+    (shown_members c.in-Ready.interfaces _ _ _ c.as_slice.ensures c.as_slice-in-Ready.ensures c.in_ok-members-in-Ready.ensures)
 
 pub play_over-requires-clause-playable : goal.play_over-requires-clause-playable
 play_over-requires-clause-playable c =
-    members_playable c.args.bytes.now c.in-Ready.interfaces c.in-Ready.script c.in_ok-members-in-Ready.members
+    members_playable c.args.bytes.now c.in-Ready.interfaces c.in-Ready.script c.as_slice-in-Ready.result.now
     (several_for c.args.bytes.now (map facts_of c.shapes.result) c.in_ok-interfaces.field-0 c.in-Ready.interfaces c.in-Ready.script c.shapes.ensures.facts c.in-Ready.is c.in_ok-interfaces.ensures.input)
-    c.in_ok-members-in-Ready.ensures
+    (shown_members c.in-Ready.interfaces _ _ _ c.as_slice.ensures c.as_slice-in-Ready.ensures c.in_ok-members-in-Ready.ensures)
 
 pub returns-in_ok-text-in-Ready : goal.returns-in_ok-text-in-Ready
 returns-in_ok-text-in-Ready c =
     let ready : IsMultiReady services c.args.bytes.now c.in-Ready.interfaces c.in-Ready.script =
     several_for c.args.bytes.now (map facts_of c.shapes.result) c.in_ok-interfaces.field-0 c.in-Ready.interfaces c.in-Ready.script c.shapes.ensures.facts c.in-Ready.is c.in_ok-interfaces.ensures.input in
+    let members = c.as_slice-in-Ready.result.now in
+    let are : AreMembersOf c.in-Ready.interfaces members = shown_members c.in-Ready.interfaces _ _ _ c.as_slice.ensures c.as_slice-in-Ready.ensures c.in_ok-members-in-Ready.ensures in
     let play = c.in_ok-came-in-Ready.ensures in
-    several_output c.args.bytes.now c.in-Ready.interfaces c.in-Ready.script c.in_ok-members-in-Ready.members c.args.with_trace c.in_ok-came-in-Ready.came c.output_of_members.result.ran
-    c.output_of_members.result.status c.output_of_members.result.text ready c.in_ok-members-in-Ready.ensures play c.output_of_members.ensures.ran c.output_of_members.ensures.status
-    (c.output_of_members.ensures.text ∙ c.in_ok-text-in-Ready.ensures play.merged play.merges)
+    let same : c.as_slice-in-Ready-2.result.now ≡ members = c.as_slice-in-Ready-2.ensures ∙ sym c.as_slice-in-Ready.ensures in
+    several_output c.args.bytes.now c.in-Ready.interfaces c.in-Ready.script members c.args.with_trace c.in_ok-came-in-Ready.came c.output_of_members.result.ran
+    c.output_of_members.result.status c.output_of_members.result.text ready are play c.output_of_members.ensures.ran c.output_of_members.ensures.status
+    (c.output_of_members.ensures.text ∙ c.in_ok-text-in-Ready.ensures play.merged play.merges
+    ∙ ap (λ (l : List MemberTables). multi_text_of (map (λ (t : MemberTables). t.tables.iface.facts) l) play.merged c.in_ok-came-in-Ready.came c.args.with_trace) same)
 
 pub returns-in-Refused : goal.returns-in-Refused
 returns-in-Refused c =
