@@ -32,16 +32,19 @@ service event: calls 3 boots 1 replays 0
 trace lock
 boot 1
 call c1.1 lock_alloc() replied
-call c1.3 lock_take(1) stopped
+call c1.3 lock_take(1) replied
 stop 9
 boot 2
-walk 1.1 for c1 by c1 lock_alloc() replied
-call c1.3 lock_take(1) replied
-..
+walk 1.1 for c2 by c1 lock_alloc() replied
+walk 1.2 for c1 by c1 lock_take(1) replied
+call c2.2 lock_take(1) blocked
+call c1.5 lock_release(1) replied
+call c2.2 lock_take(1) replied
 points 25
 trace event
 boot 1
 call c1.2 evt_split() replied
+call c2.1 evt_wait(1) blocked
 call c1.4 evt_trigger(1, 1) replied
 call c2.1 evt_wait(1) replied
 points 14
@@ -66,12 +69,12 @@ boot 1
 call c1.1 lock_alloc() replied
 call c1.3 lock_take(1) replied
 call c2.1 lock_take(1) blocked
-..
+points 10
 trace event
 boot 1
 call c1.2 evt_split() replied
 call c1.4 evt_wait(1) blocked
-..
+points 6
 
 multi: 2
 lock lock
@@ -86,11 +89,23 @@ script refused at 1:33: UnknownService
 multi: 0
 timer
 client 1 { tmr_create(5, 7); tmr_tick($1, 22); tmr_wait($1); } stop timer 9;
-c1.1 tmr_create(5, 7) = ok #1
+c1.1 tmr_create(5, 7) = ok #1 5
 c1.2 tmr_tick(1, 22) = ok
 c1.3 tmr_wait(1) = ok 5
 client 1 done
+service timer: calls 3 boots 2 replays 2
+
+multi: 0
+lock event ramfs
+setup { lock_alloc(); evt_split(); } client 1 { lock_take(1); tsplit(0, \"log\"); twrite($4, \"one\"); lock_release(1); evt_trigger(1, 1); } client 2 { evt_wait(1); lock_take(1); tsplit(0, \"log\"); tseek($3, 3); twrite($3, \" two\"); tseek($3, 0); tread($3, 16); lock_release(1); } stop lock 9; stop event 11; stop ramfs 20;
 ..
+c2.7 tread(2, 16) = ok 7 \"one two\"
+c2.8 lock_release(1) = ok
+client 1 done
+client 2 done
+service lock: calls 5 boots 2 replays 2
+service event: calls 3 boots 2 replays 2
+service ramfs: calls 7 boots 2 replays 2
 
 multi: 0
 mm ramfs sched
