@@ -78,7 +78,7 @@ pub fn is_legal(alloc: Global, interface: &[u8], report: &[u8]) -> Result<bool, 
     input.extend_from_slice(b"%%\n")?;
     input.extend_from_slice(report)?;
     let said = printed(alloc, "verify", &input)?;
-    Ok(said.starts_with(b"legal ") && said.as_slice() != b"legal 0\n")
+    Ok(said.starts_with(b"legal ") && said.as_slice() != b"legal 0\n".as_slice())
 }
 
 /// Whether the play of a script with stops is judged legal.
