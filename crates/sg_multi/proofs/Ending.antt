@@ -47,7 +47,8 @@ use Rattle.sg_multi.specs.Inside.Callers.{IsSeatOf}
 use Rattle.sg_multi.specs.Inside.Ended.{AreEndedMembers}
 use Rattle.sg_multi.specs.Inside.Keeps.{IsMultiCaller, KeepsMulti, interfaces_of}
 use Rattle.sg_multi.specs.Inside.Member.{KeepsMember}
-use Rattle.sg_multi.specs.Inside.Turns.{NobodyGoesOn, end_of_client, ends_up_to, next_of, seat_at}
+use Rattle.sg_multi.specs.Inside.Turns.{end_of_client, ends_up_to}
+use Rattle.sg_multi.specs.Inside.Whose.{NobodyGoesOn, next_of, seat_at}
 use Rattle.sg_multi.specs.Merged.{Merges, MultiEntry, entries_at, own_in}
 use Rattle.sg_multi.specs.Played.{IsMemberPlayed, IsMultiPlayed, stubs_in}
 use Rattle.sg_multi.specs.declared.ended.MultiEnd.{MultiEnd}

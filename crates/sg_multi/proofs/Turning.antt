@@ -37,7 +37,8 @@ use Rattle.sg_members.specs.sg_sim.sg_world.Steps.{AnswersLast, HasStepped, Want
 use Rattle.sg_members.specs.sg_sim.sg_world.declared.did.Did.{Did}
 use Rattle.sg_multi.specs.Calls.{IsCallOf, multi_calls}
 use Rattle.sg_multi.specs.Inside.Keeps.{KeepsMulti, interfaces_of, is_multi_setting_up}
-use Rattle.sg_multi.specs.Inside.Turns.{KeepsRunning, SameMembers, next_of, seat_at}
+use Rattle.sg_multi.specs.Inside.Turns.{KeepsRunning, SameMembers}
+use Rattle.sg_multi.specs.Inside.Whose.{next_of, seat_at}
 use Rattle.sg_multi.specs.Merged.{MultiEntry, entries_at, entries_in, own_in}
 use Rattle.sg_multi.specs.Playable.{FitsMember}
 use Rattle.sg_multi.specs.Played.{AreOfMembers, stubs_in}

@@ -1,7 +1,9 @@
 -- What the contracts of private functions cite.
 pub mod Callers
 pub mod Ended
+pub mod Following
 pub mod Keeps
 pub mod Member
 pub mod Numbers
 pub mod Turns
+pub mod Whose

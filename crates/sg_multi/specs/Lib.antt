@@ -7,4 +7,5 @@ pub mod Playable
 pub mod Played
 pub mod Playing
 pub mod Report
+pub mod SeveralServices
 pub use Rattle.sg_members.specs as sg_members

@@ -2,9 +2,11 @@
 use Rattle.std.specs.Prelude.{ℕ, ◌≡◌, ◌+◌, nat_le, List, [], Some, filter, length, map, slice_get}
 use Rattle.sg_facts.specs.Legal.{IsLegal}
 use Rattle.sg_facts.specs.Trace.{run_of}
+use Rattle.sg_facts.specs.sg_base.Lists.{Each}
 use Rattle.sg_members.specs.Members.{setting_by, setting_in, view_in}
 use Rattle.sg_members.specs.declared.member.Member.{Member}
 use Rattle.sg_members.specs.sg_sim.Played.{IsOfWorld}
+use Rattle.sg_members.specs.sg_sim.sg_plain.Plain.{IsPlay}
 use Rattle.sg_members.specs.sg_sim.sg_plain.Promises.{AreWoken}
 use Rattle.sg_members.specs.sg_sim.sg_play.sg_hist.Clients.{AreNumbered}
 use Rattle.sg_members.specs.sg_sim.sg_play.sg_hist.Ending.{HasRecovered}
@@ -15,6 +17,7 @@ use Rattle.sg_members.specs.sg_sim.sg_world_laws.Setting.{stubs_of}
 use Rattle.sg_multi.specs.Calls.{AreMultiCalls}
 use Rattle.sg_multi.specs.Ends.{AreMultiEnds, ends_at}
 use Rattle.sg_multi.specs.Merged.{Merges, MultiEntry}
+use Rattle.sg_multi.specs.SeveralServices.{multi_workload, several_services}
 use Rattle.sg_multi.specs.declared.ended.MultiEnd.{MultiEnd}
 use Rattle.sg_multi.specs.declared.play.MemberTables.{MemberTables}
 
@@ -58,6 +61,8 @@ pub record IsMultiPlayed (members : List Stubs) (script : MultiScript) (came : M
   pub calls : AreMultiCalls (map (λ s. s.interface) members) script merged
   -- each client with a call is done, or waits in its next call, which its member can't answer
   pub ends : AreMultiEnds members merged script came.ends
+  -- where no member was stopped, they are the entries of the play without stops
+  pub plain : Each (λ e. struck_in (run_of e.trace) ≡ []) came.members → IsPlay (several_services members script) (multi_workload script) merged
 
 -- these runs are what the worlds of the members have done, place by place
 abbrev pub AreOfMembers : List Member → List Ended → Type 0

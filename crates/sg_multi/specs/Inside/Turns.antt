@@ -1,39 +1,19 @@
--- Whose turn it may be over several services, and how clients end.
-use Rattle.std.specs.Prelude.{ℕ, ◌≡◌, ◌-◌, ◌<◌, ◌≤◌, Bool, if◌then◌else◌, not, false, List, [], ◌∷◌, length, filter, map, slice_get}
+-- How clients end over several services, and the parts of a play that change.
+use Rattle.std.specs.Prelude.{ℕ, ◌≡◌, ◌-◌, ◌<◌, ◌≤◌, Bool, if◌then◌else◌, true, false, List, [], ◌∷◌, Some, filter, map, slice_get}
 use Rattle.std.specs.Option.{option_map_or}
-use Rattle.std.specs.declared.option.Option.{Option}
-use Rattle.sg_members.specs.Members.{view_in}
 use Rattle.sg_members.specs.declared.member.Member.{Member}
 use Rattle.sg_members.specs.sg_sim.Inside.Givens.{lists_of}
 use Rattle.sg_members.specs.sg_sim.sg_plain.Calls.{ascending_from, most_client}
-use Rattle.sg_members.specs.sg_sim.sg_plain.Playing.Given.{given_in}
-use Rattle.sg_members.specs.sg_sim.sg_script.declared.multi.MultiCall.{MultiCall}
 use Rattle.sg_members.specs.sg_sim.sg_script.declared.multi.MultiScript.{MultiScript}
-use Rattle.sg_members.specs.sg_sim.sg_seat.WorldView.{Seat, is_blocked_phase, no_seat, seat_of}
-use Rattle.sg_multi.specs.Calls.{has_multi_calls, multi_calls}
+use Rattle.sg_multi.specs.Calls.{has_multi_calls}
+use Rattle.sg_multi.specs.Inside.Following.{FollowsMulti, IsNextMultiTurn, NoneStruck, stage_now}
 use Rattle.sg_multi.specs.Inside.Keeps.{KeepsMulti, is_multi_setting_up}
+use Rattle.sg_multi.specs.Inside.Whose.{NobodyGoesOn, may_go_on, next_of, seat_at}
+use Rattle.sg_multi.specs.Merged.{MultiEntry}
 use Rattle.sg_multi.specs.Played.{stubs_in}
 use Rattle.sg_multi.specs.declared.ended.MultiEnd.{MultiEnd}
 use Rattle.sg_multi.specs.declared.ended.MultiEnd.TheVariants.{Done, Blocked}
 use Rattle.sg_multi.specs.declared.running.Running.{Running}
-
--- ---- whose turn it may be
-
--- the seat of a client in the world at a place, from 0; that of nobody where there is no such place
-abbrev pub seat_at : List Member → ℕ → ℕ → Seat
-seat_at members place client = option_map_or (λ m. seat_of (view_in m) client) (slice_get members place) no_seat
-
--- the call that a client has under way or makes next, over all members
-abbrev pub next_of : MultiScript → List (List ℕ) → ℕ → Option MultiCall
-next_of script given client = slice_get (multi_calls script client) (length (given_in given client))
-
--- whether a client may take a turn: it has a call under way, or one more, and doesn't wait
-abbrev pub may_go_on : List Member → MultiScript → List (List ℕ) → ℕ → Bool
-may_go_on members script given client = option_map_or (λ c. not (is_blocked_phase (seat_at members (c.member - 1) client).phase)) (next_of script given client) false
-
--- no client may take a turn
-abbrev pub NobodyGoesOn : List Member → MultiScript → List (List ℕ) → Type 0
-NobodyGoesOn members script given = (client : ℕ) → 1 ≤ client → client ≤ most_client script.clients → may_go_on members script given client ≡ false
 
 -- ---- how clients end
 
@@ -51,10 +31,12 @@ ends_up_to members script given last = map (λ c. (c, end_of_client members scri
 
 -- ---- the parts of a play that change
 
--- they keep what a play keeps, and the client of the last turn is one of the play's
+-- they keep what a play keeps, the client of the last turn is one of the play's, and where no member was stopped so far the play follows the
+-- play without stops
 pub record KeepsRunning (script : MultiScript) (r : Running) : Type 0 where
   pub keeps : KeepsMulti r.members script (lists_of r.given) r.order.items
   pub last_there : r.last ≤ most_client script.clients
+  pub follows : NoneStruck r.members → FollowsMulti r.members script (lists_of r.given) keeps.merged r.passed r.last
 
 -- the members are of the services that they were of, with their tables
 abbrev pub SameMembers : List Member → List Member → Type 0
@@ -75,3 +57,23 @@ NoneBehind script r behind last = (client : ℕ) → behind < client → client 
 -- no client may
 abbrev pub NobodyGoesNow : MultiScript → Running → Type 0
 NobodyGoesNow script r = NobodyGoesOn r.members script (lists_of r.given)
+
+-- no client may, and the setup is done
+pub record IsOverNow (script : MultiScript) (r : Running) : Type 0 where
+  pub nobody : NobodyGoesNow script r
+  pub settled : is_at_setup script r ≡ false
+
+-- no client of the turns of the schedule up to one may take it
+abbrev pub NoneScheduled : MultiScript → Running → ℕ → Type 0
+NoneScheduled script r to = (k client : ℕ) → r.passed ≤ k → k < to → slice_get script.schedule k ≡ Some client → 1 ≤ client → client ≤ most_client script.clients → may_go_now script r client ≡ false
+
+-- the first client after one, and up to another, that may
+pub record IsFirstBehind (script : MultiScript) (r : Running) (behind last client : ℕ) : Type 0 where
+  pub above : behind < client
+  pub within : client ≤ last
+  pub may : may_go_now script r client ≡ true
+  pub before : (other : ℕ) → behind < other → other < client → may_go_now script r other ≡ false
+
+-- a client takes the next turn, and so many turns of the schedule are taken or passed over then, whatever the entries are
+abbrev pub TakesNextTurn : MultiScript → Running → ℕ → ℕ → Type 0
+TakesNextTurn script r client later = (merged : List MultiEntry) → IsNextMultiTurn script (stage_now r.members script (lists_of r.given) merged r.passed r.last) client later
