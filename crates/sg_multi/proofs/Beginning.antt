@@ -104,7 +104,7 @@ module _ (tables : List MemberTables) (script : MultiScript) (members : List Mem
       stubs_alike (kind_in x) t.service m.kind_is (world_in x).tables t.tables m.tables_are)
 
   -- what is known of each
-  view_new : (q : ℕ) (x : Member) → slice_get members q ≡ Some x → view_in x ≡ new_world (replicate n no_seat)
+  pub view_new : (q : ℕ) (x : Member) → slice_get members q ≡ Some x → view_in x ≡ new_world (replicate n no_seat)
   view_new q x there =
       let t = there_is tables q (omega (arith, new.count, there_within members q x there)) in
       let plan = there_is script.stops q (omega (arith, new.count, stops_count, there_within members q x there)) in

@@ -23,6 +23,7 @@ use Rattle.sg_members.specs.sg_load.declared.kind.ServiceKind.TheVariants.{Locks
 use Rattle.sg_members.specs.declared.member.Member.{Member}
 use Rattle.sg_members.specs.sg_sim.Played.{IsOfWorld}
 use Rattle.sg_members.specs.sg_sim.sg_plain.Calls.{ascending_from, most_client}
+use Rattle.sg_members.specs.sg_sim.sg_plain.Plain.{IsPlay}
 use Rattle.sg_members.specs.sg_sim.sg_plain.Playing.Callers.{is_receipted}
 use Rattle.sg_members.specs.sg_sim.sg_plain.Playing.Given.{given_in}
 use Rattle.sg_members.specs.sg_sim.sg_plain.Playing.Ends.{ends_from}
@@ -51,6 +52,7 @@ use Rattle.sg_multi.specs.Inside.Turns.{end_of_client, ends_up_to}
 use Rattle.sg_multi.specs.Inside.Whose.{NobodyGoesOn, next_of, seat_at}
 use Rattle.sg_multi.specs.Merged.{Merges, MultiEntry, entries_at, own_in}
 use Rattle.sg_multi.specs.Played.{IsMemberPlayed, IsMultiPlayed, stubs_in}
+use Rattle.sg_multi.specs.SeveralServices.{multi_workload, several_services}
 use Rattle.sg_multi.specs.declared.ended.MultiEnd.{MultiEnd}
 use Rattle.sg_multi.specs.declared.ended.MultiEnd.TheVariants.{Done, Blocked}
 use Rattle.sg_multi.proofs.Calling.{fits_at, no_more}
@@ -432,8 +434,9 @@ module _ (members : List Member) (script : MultiScript) (given : List (List ℕ)
 
   -- what the members' runs came to is what the play promises
   pub multi_played : (eds : List Ended) → AreEndedMembers members (ends_up_to members script given (most_client script.clients)) eds
+      → (Each (λ e. struck_in (run_of e.trace) ≡ []) eds → IsPlay (several_services (map stubs_in members) script) (multi_workload script) is.merged)
       → IsMultiPlayed (map stubs_in members) script (record { order = order; members = eds; ends = ends_up_to members script given (most_client script.clients) })
-  multi_played eds are = let each = are.each in record {
+  multi_played eds are plain = let each = are.each in record {
     count = are.count ∙ sym (length_mapped stubs_in members);
     each = λ q s stops e member stop there.
         let found = at_mapped stubs_in members q s member in
@@ -446,4 +449,5 @@ module _ (members : List Member) (script : MultiScript) (given : List (List ℕ)
     merges = subst (λ h. Merges order h is.merged) (sym (shown_alike (λ (e : Ended). e.history.items) (λ (x : Member). (view_in x).history) eds members are.count (λ q e x there here. (each q x e here there).its.0))) is.merges;
     calls = multi_calls_are;
     ends = multi_ends_are (λ q x there. let e = there_is eds q (omega (arith, are.count, there_within members q x there)) in (each q x e.0 there e.1).told);
+    plain = plain;
   }

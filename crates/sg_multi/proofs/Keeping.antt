@@ -45,12 +45,12 @@ use Rattle.sg_multi.proofs.Stepping.{Answers, Enters, GoesOn, GoesQuietly, Hands
 
 -- ---- lists of descriptors
 
-given_here : (given : List (List ℕ)) (c : ℕ) (new : List ℕ) → 1 ≤ c → c ≤ length given → given_in (slice_set given (c - 1) new) c ≡ new
+pub given_here : (given : List (List ℕ)) (c : ℕ) (new : List ℕ) → 1 ≤ c → c ≤ length given → given_in (slice_set given (c - 1) new) c ≡ new
 given_here given c new first last =
     let old = there_is given (c - 1) (omega (arith, first, last)) in
     ap (λ o. unwrap_or o []) (set_there given (c - 1) old.0 new old.1)
 
-given_there : (given : List (List ℕ)) (c d : ℕ) (new : List ℕ) → 1 ≤ c → 1 ≤ d → d ≢ c → given_in (slice_set given (c - 1) new) d ≡ given_in given d
+pub given_there : (given : List (List ℕ)) (c d : ℕ) (new : List ℕ) → 1 ≤ c → 1 ≤ d → d ≢ c → given_in (slice_set given (c - 1) new) d ≡ given_in given d
 given_there given c d new first from other = ap (λ o. unwrap_or o []) (set_elsewhere given (c - 1) (d - 1) new (λ same. other (omega (arith, first, from, same))))
 
 -- ---- the setup
@@ -91,10 +91,10 @@ below n m is = grind (arith, nat_tests)
 is_below : (n m : ℕ) → n < m → nat_lt n m ≡ true
 is_below n m is = grind (arith, nat_tests)
 
-never_less : (n m : ℕ) → m ≡ n → nat_lt n m ≡ false
+pub never_less : (n m : ℕ) → m ≡ n → nat_lt n m ≡ false
 never_less n m same = grind (arith, nat_tests, same)
 
-one_less : (n m : ℕ) → m ≡ n + 1 → nat_lt n m ≡ true
+pub one_less : (n m : ℕ) → m ≡ n + 1 → nat_lt n m ≡ true
 one_less n m same = grind (arith, nat_tests, same)
 
 bool_cases : (b : Bool) → (b ≡ true) ⊎ (b ≡ false)
@@ -152,13 +152,13 @@ module _ (members later : List Member) (script : MultiScript) (given : List (Lis
   same_members = ap (map stubs_in) changes.are ∙ map_kept stubs_in members place m changes.new changes.there (stubs_moved m changes.new changes.kind changes.tables)
 
   -- the members after the change
-  later_cases : (q : ℕ) (x : Member) → slice_get later q ≡ Some x → ((q ≡ place) × (x ≡ changes.new)) ⊎ ((q ≢ place) × (slice_get members q ≡ Some x))
+  pub later_cases : (q : ℕ) (x : Member) → slice_get later q ≡ Some x → ((q ≡ place) × (x ≡ changes.new)) ⊎ ((q ≢ place) × (slice_get members q ≡ Some x))
   later_cases q x there = set_cases members place changes.new q x (ap (λ l. slice_get l q) (sym changes.are) ∙ there)
 
-  new_there : slice_get later place ≡ Some changes.new
+  pub new_there : slice_get later place ≡ Some changes.new
   new_there = ap (λ l. slice_get l place) changes.are ∙ set_there members place m changes.new changes.there
 
-  still_there : (q : ℕ) (x : Member) → q ≢ place → slice_get members q ≡ Some x → slice_get later q ≡ Some x
+  pub still_there : (q : ℕ) (x : Member) → q ≢ place → slice_get members q ≡ Some x → slice_get later q ≡ Some x
   still_there q x other there = ap (λ l. slice_get l q) changes.are ∙ set_elsewhere members place q changes.new other ∙ there
 
   seat_new : (d : ℕ) → seat_of (view_in changes.new) d ≡ seat_of now d

@@ -1,6 +1,6 @@
 -- What a turn of a client does to the worlds of the members and to how far the clients have come.
-use Rattle.std.proofs.Common.{◌≡◌, ℕ, zero, suc, ◌+◌, ◌-◌, ◌<◌, ◌≤◌, ◌^◌, Bool, true, false, cond, List, [], ◌∷◌, ◌++◌, Some, filter, length, map, take, refl, sym, ◌∙◌, ap, subst, arith, slice_set}
-use Rattle.std.specs.Prelude.{◌==◌, OnErr, OnOk, nat_lt, slice_get, slice_index_or}
+use Rattle.std.proofs.Common.{◌≡◌, ℕ, zero, suc, ◌+◌, ◌-◌, ◌<◌, ◌≤◌, ◌^◌, Bool, true, false, cond, List, [], ◌∷◌, ◌++◌, None, Some, drop, filter, length, map, take, refl, sym, ◌∙◌, ap, subst, arith, slice_set}
+use Rattle.std.specs.Prelude.{◌==◌, OnErr, OnOk, nat_lt, option_map, slice_get, slice_index_or}
 use Rattle.std.specs.Option.{option_map_or}
 use Rattle.std.specs.declared.option.Option.{Option}
 use Rattle.std.specs.declared.result.Result.{Result}
@@ -13,6 +13,8 @@ use Rattle.sg_facts.specs.Interface.{Declared, declares}
 use Rattle.sg_facts.specs.Kinds.{AreWords, FitsKinds}
 use Rattle.sg_facts.specs.Limits.{most_script_calls}
 use Rattle.sg_facts.specs.Tables.{Compiled}
+use Rattle.sg_members.proofs.Places.{ok_so}
+use Rattle.sg_members.proofs.sg_sim.sg_play.sg_plain.sg_seat.Lines.{seat_here}
 use Rattle.sg_members.specs.Members.{ChangesAt, kind_in, setting_by, setting_in, view_in, world_in}
 use Rattle.sg_members.specs.declared.member.Member.{Member}
 use Rattle.sg_members.specs.sg_load.declared.kind.ServiceKind.{ServiceKind}
@@ -30,7 +32,7 @@ use Rattle.sg_members.specs.sg_sim.sg_play.sg_hist.Clients.{calls_of}
 use Rattle.sg_members.specs.sg_sim.sg_play.sg_hist.Recovered.{Stubs}
 use Rattle.sg_members.specs.sg_sim.sg_script.declared.multi.MultiCall.{MultiCall}
 use Rattle.sg_members.specs.sg_sim.sg_script.declared.multi.MultiScript.{MultiScript}
-use Rattle.sg_members.specs.sg_sim.sg_seat.WorldView.{IsFree, WorldView, happened, no_seat, offered, seat_of}
+use Rattle.sg_members.specs.sg_sim.sg_seat.WorldView.{IsFree, Seat, WorldView, happened, no_seat, offered, seat_of}
 use Rattle.sg_members.specs.sg_sim.sg_seat.declared.phase.Phase.{Phase}
 use Rattle.sg_members.specs.sg_sim.sg_seat.declared.phase.Phase.TheVariants.{Idle, Asked, Held, Receipted, Blocked, Left}
 use Rattle.sg_members.specs.sg_sim.sg_world.Steps.{AnswersLast, HasStepped, WantsMemory}
@@ -38,6 +40,8 @@ use Rattle.sg_members.specs.sg_sim.sg_world.declared.did.Did.{Did}
 use Rattle.sg_multi.specs.Calls.{IsCallOf, multi_calls}
 use Rattle.sg_multi.specs.Inside.Keeps.{KeepsMulti, interfaces_of, is_multi_setting_up}
 use Rattle.sg_multi.specs.Inside.Turns.{KeepsRunning, SameMembers}
+use Rattle.sg_multi.specs.Inside.Following.{FollowsMulti, IsNextMultiTurn, NoneStruck, players_now, stage_now}
+use Rattle.sg_multi.specs.Inside.Turns.{KeepsRunning, SameMembers, TakesNextTurn}
 use Rattle.sg_multi.specs.Inside.Whose.{next_of, seat_at}
 use Rattle.sg_multi.specs.Merged.{MultiEntry, entries_at, entries_in, own_in}
 use Rattle.sg_multi.specs.Playable.{FitsMember}
@@ -49,9 +53,11 @@ use Rattle.sg_members.specs.sg_sim.sg_play.sg_hist.declared.ended.Ended.{Ended}
 use Rattle.sg_multi.specs.declared.running.Running.{Running}
 use Rattle.sg_multi.proofs.Beginning.{first_client, its_interface}
 use Rattle.sg_multi.proofs.Calling.{fits_at}
+use Rattle.sg_multi.proofs.Following.{StillKeeps, follows_idle, follows_turn, happened_back, happened_never, happened_stays, offer_back, offer_never, offer_stays, still, wanted_back, wanted_never, wanted_stays}
 use Rattle.sg_multi.proofs.Keeping.{all_handed, kept_happened, kept_offered, kept_step, kept_wanted, same_members, seats_stay}
 use Rattle.sg_multi.proofs.Member.{MayBeOffered, may_be_offered}
 use Rattle.sg_multi.proofs.Merging.{at_mapped, calls_at, calls_in, length_mapped, mapped_at, set_there, there_within}
+use Rattle.sg_multi.proofs.Stages.{seat_now}
 use Rattle.sg_multi.proofs.Own.{call_literal, desc_literal, literal_call, values_literal}
 
 -- ---- lists
@@ -86,6 +92,10 @@ take_whole (x ∷ xs) (suc n) is = ap (λ l. x ∷ l) (take_whole xs n (omega (a
 pub either : {A E : Type 0} (P Q R : Type 0) (r : Result A E) → OnOk r P → OnErr r Q → (P → R) → (Q → R) → R
 either P Q R (Ok a) p q one other = one p
 either P Q R (Err e) p q one other = other q
+
+pub on_err : {A E : Type 0} (P : Type 0) (r : Result A E) → P → OnErr r P
+on_err P (Ok a) is = tt
+on_err P (Err e) is = is
 
 pub free_is : (p : Phase) → is_free_phase p ≡ true → IsFree p
 free_is Idle free = tt
@@ -229,20 +239,36 @@ module _ (members : List Member) (script : MultiScript) (lists : List (Roomy ℕ
               (resolved.args ∙ ap (λ es. values_of es (fun_at (world_in m).tables.iface.facts.funs call.call.fun).kinds call.call.args) (sym (calls_in is.merged client)));
         }
 
-        pub offered_keeps : (later : List Member) → ChangesAt members place m (happened (offered w client given_call)) later → KeepsMulti later script given order
-        offered_keeps later changes = kept_offered members later script given order place m (happened (offered w client given_call)) changes is client first last free call next its_place given_call its refl may_offer.keeps
+        pub offered_keeps : (later : List Member) → ChangesAt members place m (happened (offered w client given_call)) later → StillKeeps members later script given order is
+        offered_keeps later changes =
+            let now = happened (offered w client given_call) in
+            let within : client ≤ length w.seats = (seats_there place m there).1 in
+            still members later script given order place m now changes is refl (offer_back members later script given order place m now changes is client given_call first within free refl)
+            (offer_never members later script given order place m now changes is client given_call first within free refl) (offer_stays members later script given order place m now changes is client given_call first within free refl)
+            (kept_offered members later script given order place m now changes is client first last free call next its_place given_call its refl may_offer.keeps)
 
         -- what the offer came to
         pub offered_at : {E : Type 0} (n : ℕ) → n ≡ call.member → (later : List Member) (r : Result Unit E) → ((x : Member) → slice_get members (n - 1) ≡ Some x → OnOk r (ChangesAt members (n - 1) x (happened (offered (view_in x) client (record { client = client; seq = (seat_of (view_in x) client).seq + 1; fun = made.fun; desc = made.desc; args = made.args }))) later))
-            → ((x : Member) → slice_get members (n - 1) ≡ Some x → OnErr r (ChangesAt members (n - 1) x (happened (view_in x)) later)) → KeepsMulti later script given order × SameMembers members later
+            → ((x : Member) → slice_get members (n - 1) ≡ Some x → OnErr r (ChangesAt members (n - 1) x (happened (view_in x)) later)) → StillKeeps members later script given order is
         offered_at n same later r ok err =
             let its_there = ap (λ k. slice_get members (k - 1)) same ∙ there in
-            either (ChangesAt members (n - 1) m (happened (offered w client given_call)) later) (ChangesAt members (n - 1) m (happened w) later) (KeepsMulti later script given order × SameMembers members later) r
+            either (ChangesAt members (n - 1) m (happened (offered w client given_call)) later) (ChangesAt members (n - 1) m (happened w) later) (StillKeeps members later script given order is) r
             (ok m its_there) (err m its_there)
-            (λ changes. let at = subst (λ k. ChangesAt members (k - 1) m (happened (offered w client given_call)) later) same changes in
-            (offered_keeps later at, same_members members later script given order place m (happened (offered w client given_call)) at is))
+            (λ changes. offered_keeps later (subst (λ k. ChangesAt members (k - 1) m (happened (offered w client given_call)) later) same changes))
             (λ changes. let at = subst (λ k. ChangesAt members (k - 1) m (happened w) later) same changes in
-            (kept_happened members later script given order place m (happened w) at is refl, same_members members later script given order place m (happened w) at is))
+            still members later script given order place m (happened w) at is refl (happened_back members later script given order place m (happened w) at is refl)
+            (happened_never members later script given order place m (happened w) at is refl) (happened_stays members later script given order place m (happened w) at is refl)
+            (kept_happened members later script given order place m (happened w) at is refl))
+
+        -- the client's call is under way then
+        pub offered_asks : {E : Type 0} (n : ℕ) → n ≡ call.member → (later : List Member) (r : Result Unit E) → ((x : Member) → slice_get members (n - 1) ≡ Some x → OnOk r (ChangesAt members (n - 1) x (happened (offered (view_in x) client (record { client = client; seq = (seat_of (view_in x) client).seq + 1; fun = made.fun; desc = made.desc; args = made.args }))) later))
+            → OnOk r (is_free_phase (seat_at later place client).phase ≡ false)
+        offered_asks n same later r ok =
+            ok_so (ChangesAt members (n - 1) m (happened (offered w client given_call)) later) (is_free_phase (seat_at later place client).phase ≡ false) r
+            (λ changes. let at = subst (λ k. ChangesAt members (k - 1) m (happened (offered w client given_call)) later) same changes in
+            ap (λ (s : Seat). is_free_phase s.phase) (seat_now members script given order is later place m (happened (offered w client given_call)) at client
+            ∙ seat_here w.seats client (record (seat_of w client) { phase = Asked; call = given_call }) first (seats_there place m there).1))
+            (ok m (ap (λ k. slice_get members (k - 1)) same ∙ there))
 
 -- ---- a step
 
@@ -289,12 +315,36 @@ module _ (members : List Member) (script : MultiScript) (given : List (List ℕ)
           let new : x ≡ changes.new = cc both in
           ap (λ (y : Member). length (view_in y).seats) new ∙ ap (λ (v : WorldView). length v.seats) changes.view_is ∙ seats_stay members later script given order (n - 1) m now changes is client first last did steps ∙ is.clients (n - 1) m place_there
 
+  -- the play without stops is followed on, where it is the client's turn there
+  pub stepped_follows : (written : MultiCall) → next_of script given client ≡ Some written → written.member ≡ member → is_free_phase (seat_of (view_in m) client).phase ≡ false → RecoversSoFar (setting_in m) (view_in m)
+      → (did : Did) (x : Member) → slice_get later (member - 1) ≡ Some x → RecoversSoFar (setting_in x) (view_in x)
+      → ((y : Member) → slice_get members (n - 1) ≡ Some y → (now : WorldView) × ChangesAt members (n - 1) y now later × HasStepped (setting_in y) (view_in y) client did now × AnswersLast now client did)
+      → (kept : KeepsMulti later script (with_handed given client (handed_by did)) (cond (nat_lt (seat_of (view_in m) client).seq (seat_of (view_in x) client).seq) (order ++ member ∷ []) order)) (passed latest taken : ℕ)
+      → IsNextMultiTurn script (stage_now members script given is.merged passed latest) client taken → (NoneStruck members → FollowsMulti members script given is.merged passed latest)
+      → NoneStruck later → FollowsMulti later script (with_handed given client (handed_by did)) kept.merged taken client
+  stepped_follows written next own busy before did x at told came kept passed latest taken turn follows none = by (came m place_there)
+    where
+      by : (now : WorldView) × ChangesAt members (n - 1) m now later × HasStepped (setting_in m) (view_in m) client did now × AnswersLast now client did
+          → FollowsMulti later script (with_handed given client (handed_by did)) kept.merged taken client
+      by (now, changes, steps, answers) =
+          let both : Some x ≡ Some changes.new = sym at ∙ ap (λ k. slice_get later (k - 1)) (sym its) ∙ ap (λ l. slice_get l (n - 1)) changes.are ∙ set_there members (n - 1) m changes.new changes.there in
+          let new : x ≡ changes.new = cc both in
+          let view : view_in x ≡ now = ap (λ (y : Member). view_in y) new ∙ changes.view_is in
+          let behind : RecoversSoFar (setting_in m) now = told_back m changes.new now changes.kind changes.tables changes.view_is (subst (λ (y : Member). RecoversSoFar (setting_in y) (view_in y)) new told) in
+          follows_turn members later script given order (n - 1) m now changes is client first last written next (number_is ∙ sym own) busy before behind did steps
+          (cond (nat_lt (seat_of (view_in m) client).seq (seat_of (view_in x) client).seq) (order ++ member ∷ []) order)
+          (ap (λ k. cond (nat_lt (seat_of (view_in m) client).seq (seat_of now client).seq) (order ++ k ∷ []) order) number_is
+          ∙ ap (λ v. cond (nat_lt (seat_of (view_in m) client).seq (seat_of v client).seq) (order ++ member ∷ []) order) (sym view)) kept passed latest taken turn follows none
+
   -- a step that wanted memory
-  pub wanted_at : ((y : Member) → slice_get members (n - 1) ≡ Some y → (now : WorldView) × ChangesAt members (n - 1) y now later × WantsMemory (setting_in y) (view_in y) client now)
-      → KeepsMulti later script given order × SameMembers members later
-  wanted_at came =
-      let k = came m place_there in
-      (kept_wanted members later script given order (n - 1) m k.0 k.1 is client k.2, same_members members later script given order (n - 1) m k.0 k.1 is)
+  pub wanted_at : ((y : Member) → slice_get members (n - 1) ≡ Some y → (now : WorldView) × ChangesAt members (n - 1) y now later × WantsMemory (setting_in y) (view_in y) client now) → StillKeeps members later script given order is
+  wanted_at came = by (came m place_there)
+    where
+      by : (now : WorldView) × ChangesAt members (n - 1) m now later × WantsMemory (setting_in m) (view_in m) client now → StillKeeps members later script given order is
+      by (now, changes, wants) =
+          still members later script given order (n - 1) m now changes is (ap (λ (y : WorldView). y.history) wants.counted) (wanted_back members later script given order (n - 1) m now changes is client wants)
+          (wanted_never members later script given order (n - 1) m now changes is client wants) (wanted_stays members later script given order (n - 1) m now changes is client wants)
+          (kept_wanted members later script given order (n - 1) m now changes is client wants)
 
 -- as many members
 pub as_many : (members later : List Member) → SameMembers members later → length later ≡ length members
@@ -302,13 +352,31 @@ as_many members later same = sym (length_mapped stubs_in later) ∙ ap (λ (l : 
 
 -- ---- all that changes
 
+-- what a play keeps of its parts
+abbrev pub KeepsParts : MultiScript → List Member → List (List ℕ) → List ℕ → ℕ → ℕ → Type 0
+KeepsParts script members given order passed last = (k : KeepsMulti members script given order) × (NoneStruck members → FollowsMulti members script given k.merged passed last)
+
+-- parts that are equal
+pub parts_same : (script : MultiScript) (members now : List Member) (given later : List (List ℕ)) (order noted : List ℕ) (passed last : ℕ) → now ≡ members → later ≡ given → noted ≡ order
+    → KeepsParts script members given order passed last → KeepsParts script now later noted passed last
+parts_same script members now given later order noted passed last same lists items is =
+    subst (λ ms. KeepsParts script ms later noted passed last) (sym same) (subst (λ l. KeepsParts script members l noted passed last) (sym lists) (subst (λ o. KeepsParts script members given o passed last) (sym items) is))
+
 -- memory was taken
-pub reserved_keeps : (script : MultiScript) (r q : Running) → q.members ≡ r.members → lists_of q.given ≡ lists_of r.given → q.order.items ≡ r.order.items → q.last ≡ r.last → KeepsRunning script r → KeepsRunning script q
-reserved_keeps script r q members lists items last is = record {
-  keeps = subst (λ ms. KeepsMulti ms script (lists_of q.given) q.order.items) (sym members)
-      (subst (λ l. KeepsMulti r.members script l q.order.items) (sym lists) (subst (KeepsMulti r.members script (lists_of r.given)) (sym items) is.keeps));
-  last_there = subst (λ n. n ≤ most_client script.clients) (sym last) is.last_there;
-}
+pub reserved_keeps : (script : MultiScript) (r q : Running) → q.members ≡ r.members → lists_of q.given ≡ lists_of r.given → q.order.items ≡ r.order.items → q.passed ≡ r.passed → q.last ≡ r.last → KeepsRunning script r → KeepsRunning script q
+reserved_keeps script r q members lists items passed last is =
+    let parts = parts_same script r.members q.members (lists_of r.given) (lists_of q.given) r.order.items q.order.items q.passed q.last members lists items
+    (subst (λ k. KeepsParts script r.members (lists_of r.given) r.order.items k q.last) (sym passed) (subst (KeepsParts script r.members (lists_of r.given) r.order.items r.passed) (sym last) (is.keeps, is.follows))) in
+    record { keeps = parts.0; last_there = subst (λ n. n ≤ most_client script.clients) (sym last) is.last_there; follows = parts.1 }
+
+-- and the next turn is the same
+pub reserved_turn : (script : MultiScript) (r q : Running) (client taken : ℕ) → q.members ≡ r.members → lists_of q.given ≡ lists_of r.given → q.passed ≡ r.passed → q.last ≡ r.last → TakesNextTurn script r client taken → (merged : List MultiEntry)
+    → IsNextMultiTurn script (stage_now q.members script (lists_of q.given) merged q.passed q.last) client taken
+reserved_turn script r q client taken members lists passed last turn merged =
+    subst (λ ms. IsNextMultiTurn script (stage_now ms script (lists_of q.given) merged q.passed q.last) client taken) (sym members)
+    (subst (λ l. IsNextMultiTurn script (stage_now r.members script l merged q.passed q.last) client taken) (sym lists)
+    (subst (λ k. IsNextMultiTurn script (stage_now r.members script (lists_of r.given) merged k q.last) client taken) (sym passed)
+    (subst (λ k. IsNextMultiTurn script (stage_now r.members script (lists_of r.given) merged r.passed k) client taken) (sym last) (turn merged))))
 
 -- there is a first client
 pub first_there : (script : MultiScript) (r : Running) → KeepsRunning script r → 1 ≤ most_client script.clients
@@ -317,19 +385,40 @@ first_there script r is = first_client 0 script.clients is.keeps.playable.client
 -- the member of an entry was noted where one was made, and then what the client was given where a reply was handed over
 pub noted_keeps : (script : MultiScript) (q : Running) (later : List Member) (a b : Running) (client member : ℕ) (did : Did) (handed : Option ℕ) (made : Bool) (old new : ℕ) → made ≡ nat_lt old new → handed ≡ handed_by did
     → a.order.items ≡ cond made (q.order.items ++ member ∷ []) q.order.items → a ≡ record q { members = later; order = a.order }
-    → lists_of b.given ≡ with_handed (lists_of a.given) client handed → b ≡ record a { given = b.given } → q.last ≤ most_client script.clients
-    → KeepsMulti later script (with_handed (lists_of q.given) client (handed_by did)) (cond (nat_lt old new) (q.order.items ++ member ∷ []) q.order.items) → KeepsRunning script b
-noted_keeps script q later a b client member did handed made old new is_made is_handed items rest_a lists rest_b last kept =
+    → lists_of b.given ≡ with_handed (lists_of a.given) client handed → b ≡ record a { given = b.given } → client ≤ most_client script.clients → (taken : ℕ)
+    → KeepsParts script later (with_handed (lists_of q.given) client (handed_by did)) (cond (nat_lt old new) (q.order.items ++ member ∷ []) q.order.items) taken client
+    → KeepsRunning script (record b { passed = taken; last = client })
+noted_keeps script q later a b client member did handed made old new is_made is_handed items rest_a lists rest_b within taken kept =
     let members : b.members ≡ later = ap (λ (x : Running). x.members) rest_b ∙ ap (λ (x : Running). x.members) rest_a in
     let given : lists_of b.given ≡ with_handed (lists_of q.given) client (handed_by did)
     = lists ∙ ap (λ (x : Running). with_handed (lists_of x.given) client handed) rest_a ∙ ap (with_handed (lists_of q.given) client) is_handed in
     let order : b.order.items ≡ cond (nat_lt old new) (q.order.items ++ member ∷ []) q.order.items
     = ap (λ (x : Running). x.order.items) rest_b ∙ items ∙ ap (λ t. cond t (q.order.items ++ member ∷ []) q.order.items) is_made in
-    record {
-      keeps = subst (λ ms. KeepsMulti ms script (lists_of b.given) b.order.items) (sym members)
-          (subst (λ l. KeepsMulti later script l b.order.items) (sym given) (subst (KeepsMulti later script (with_handed (lists_of q.given) client (handed_by did))) (sym order) kept));
-      last_there = subst (λ n. n ≤ most_client script.clients) (sym (ap (λ (x : Running). x.last) rest_b ∙ ap (λ (x : Running). x.last) rest_a)) last;
-    }
+    let parts = parts_same script later b.members (with_handed (lists_of q.given) client (handed_by did)) (lists_of b.given)
+    (cond (nat_lt old new) (q.order.items ++ member ∷ []) q.order.items) b.order.items taken client members given order kept in
+    record { keeps = parts.0; last_there = within; follows = parts.1 }
+
+-- a client's next call is of a member
+pub its_next : (o : Option MultiCall) (member : ℕ) → option_map (λ (c : MultiCall). c.member) o ≡ Some member → (written : MultiCall) × (o ≡ Some written) × (written.member ≡ member)
+its_next None member is = absurd (cc is)
+its_next (Some c) member is = (c, refl, cc is)
+
+-- a client that has no call more takes its turn: nothing is done
+pub idle_turn : (script : MultiScript) (r : Running) (client taken : ℕ) → KeepsRunning script r → 1 ≤ client → client ≤ most_client script.clients → next_of script (lists_of r.given) client ≡ None → TakesNextTurn script r client taken
+    → KeepsRunning script (record r { passed = taken; last = client })
+idle_turn script r client taken is first last none turn = record {
+  keeps = is.keeps;
+  last_there = last;
+  follows = λ unstruck. follows_idle r.members script (lists_of r.given) is.keeps.merged r.passed r.last client taken first last none (turn is.keeps.merged) (is.follows unstruck);
+}
+
+-- where it was a client's turn, it is so behind its offer
+pub turn_behind_offer : (script : MultiScript) (r q : Running) (client taken : ℕ) → players_now q.members script (lists_of q.given) ≡ players_now r.members script (lists_of r.given) → q.passed ≡ r.passed → q.last ≡ r.last
+    → TakesNextTurn script r client taken → TakesNextTurn script q client taken
+turn_behind_offer script r q client taken players passed last turn merged =
+    subst (λ ps. IsNextMultiTurn script (record { history = merged; players = ps; schedule = drop q.passed script.schedule; last = q.last }) client taken) (sym players)
+    (subst (λ k. IsNextMultiTurn script (record { history = merged; players = players_now r.members script (lists_of r.given); schedule = drop k script.schedule; last = q.last }) client taken) (sym passed)
+    (subst (λ k. IsNextMultiTurn script (record { history = merged; players = players_now r.members script (lists_of r.given); schedule = drop r.passed script.schedule; last = k }) client taken) (sym last) (turn merged)))
 
 -- there are no more members than there may be
 pub few_members : (script : MultiScript) (r : Running) → KeepsRunning script r → length r.members ≤ most_members

@@ -10,7 +10,7 @@ ghost use Rattle.sg_members.specs.sg_sim.sg_plain.Calls.{most_client};
 ghost use Rattle.sg_members.specs.sg_sim.sg_script.Scripts.{most_members};
 ghost use Rattle.sg_multi.specs.Beginning.{AreNewMembers};
 ghost use Rattle.sg_multi.specs.Inside.Ended.{AreEndedMembers, IsEndedMember};
-ghost use Rattle.sg_multi.specs.Inside.Turns.{KeepsRunning, NobodyGoesNow, SameMembers};
+ghost use Rattle.sg_multi.specs.Inside.Turns.{IsOverNow, KeepsRunning, SameMembers};
 ghost use Rattle.sg_multi.specs.Playable.{IsMultiPlayable};
 ghost use Rattle.sg_multi.specs.Played.{AreOfMembers, IsMultiPlayed, stubs_by, stubs_in};
 
@@ -179,7 +179,7 @@ fn come_to_end(alloc: Global, running: &mut Running, script: &MultiScript) -> Re
     requires keeps { KeepsRunning script.now running.old }
     ensures keeps { KeepsRunning script.now running.new }
     ensures same { SameMembers running.old.members running.new.members }
-    ensures over { OnOk result (NobodyGoesNow script.now running.new) }
+    ensures over { OnOk result (IsOverNow script.now running.new) }
 {
     'turns: for _ in 0..MOST_TURNS {
         let Some(turn) = next_turn(running, script) else {
@@ -195,7 +195,7 @@ fn come_to_end(alloc: Global, running: &mut Running, script: &MultiScript) -> Re
 // What a play came to, where nobody can take a turn.
 fn ended(alloc: Global, running: &Running, script: &MultiScript) -> Result<MultiEnded, NoMemory>
     requires keeps { KeepsRunning script.now running.now }
-    requires over { NobodyGoesNow script.now running.now }
+    requires over { IsOverNow script.now running.now }
     ensures played { IfOk result (IsMultiPlayed (map stubs_in running.now.members) script.now) }
     ensures worlds { IfOk result (λ came. AreOfMembers running.now.members came.members) }
 {

@@ -1,5 +1,5 @@
 // The worlds of the members of a play, and how far its clients have come with their calls.
-ghost use Rattle.std.specs.Prelude.{◌≡◌, ◌++◌, ◌∷◌, ◌≤◌, ◌<◌, ◌-◌, [], if◌then◌else◌, Some, OnOk, true, length, slice_get};
+ghost use Rattle.std.specs.Prelude.{ℕ, ◌≡◌, ◌++◌, ◌∷◌, ◌≤◌, ◌<◌, ◌-◌, [], if◌then◌else◌, Some, OnErr, OnOk, false, true, length, option_map, slice_get};
 ghost use Rattle.std.specs.Option.{option_copied};
 ghost use Rattle.sg_members.specs.Members.{setting_in, view_in};
 ghost use Rattle.sg_members.specs.declared.member.Member.{Member as One};
@@ -12,6 +12,8 @@ ghost use Rattle.sg_members.specs.sg_sim.sg_play.Turning.{handed_by};
 ghost use Rattle.sg_members.specs.sg_sim.sg_play.sg_clients.Clients.{IsClient};
 ghost use Rattle.sg_members.specs.sg_sim.sg_seat.WorldView.{is_blocked_phase, seat_of};
 ghost use Rattle.sg_multi.specs.Inside.Turns.{KeepsRunning, SameMembers, is_at_setup, may_go_now};
+ghost use Rattle.sg_multi.specs.Inside.Following.{players_now};
+ghost use Rattle.sg_multi.specs.Inside.Turns.{KeepsRunning, SameMembers, TakesNextTurn, is_at_setup, may_go_now};
 ghost use Rattle.sg_multi.specs.Inside.Whose.{next_of, seat_at};
 
 use sg_facts::{Call, NoMemory, RoomyList};
@@ -73,7 +75,8 @@ impl Running {
     }
 
     /// A client takes its turn: it offers its next call where it has none under way, and makes a step in the world of that call's member.
-    /// Nothing happens where it has no more. After `NoMemory` the turn may be made again.
+    /// Nothing happens where it has no more. Where it is the client's turn in the play without stops, that is followed on, and so many turns of
+    /// the schedule are taken or passed over then. After `NoMemory` the turn may be made again.
     pub(crate) fn take_turn(
         &mut self,
         alloc: Global,
@@ -84,7 +87,8 @@ impl Running {
         requires last { client ≤ most_client script.now.clients }
         requires setup { is_at_setup script.now self.old ≡ true → client ≡ 1 }
         requires keeps { KeepsRunning script.now self.old }
-        ensures keeps { KeepsRunning script.now self.new }
+        ensures turned { OnOk result ((passed : ℕ) → TakesNextTurn script.now self.old client passed → KeepsRunning script.now (record self.new { passed = passed; last = client })) }
+        ensures keeps { OnErr result (KeepsRunning script.now self.new) }
         ensures same { SameMembers self.old.members self.new.members }
     {
         let Some(call) = self.next_call(script, client) else {
@@ -109,7 +113,10 @@ impl Running {
         ensures keeps { KeepsRunning script.now self.new }
         ensures same { SameMembers self.old.members self.new.members }
         ensures given { self.new.given ≡ self.old.given }
+        ensures passed { self.new.passed ≡ self.old.passed }
         ensures last { self.new.last ≡ self.old.last }
+        ensures players { players_now self.new.members script.now (lists_of self.new.given) ≡ players_now self.old.members script.now (lists_of self.old.given) }
+        ensures asked { OnOk result (is_free_phase (seat_at self.new.members (call.now.member - 1) client).phase ≡ false) }
     {
         let _ = script;
         if !is_free(self.phase(client, call.member)) {
@@ -135,9 +142,12 @@ impl Running {
         requires last { client ≤ most_client script.now.clients }
         requires some { 1 ≤ member }
         requires there { member ≤ length self.old.members }
+        requires next { option_map (λ c. c.member) (next_of script.now (lists_of self.old.given) client) ≡ Some member }
+        requires busy { is_free_phase (seat_at self.old.members (member - 1) client).phase ≡ false }
         requires setup { is_at_setup script.now self.old ≡ true → client ≡ 1 }
         requires keeps { KeepsRunning script.now self.old }
-        ensures keeps { KeepsRunning script.now self.new }
+        ensures turned { OnOk result ((passed : ℕ) → TakesNextTurn script.now self.old client passed → KeepsRunning script.now (record self.new { passed = passed; last = client })) }
+        ensures keeps { OnErr result (KeepsRunning script.now self.new) }
         ensures same { SameMembers self.old.members self.new.members }
     {
         self.reserve(client)?;
@@ -158,6 +168,7 @@ impl Running {
         ensures lists { lists_of self.new.given ≡ lists_of self.old.given }
         ensures items { self.new.order.items ≡ self.old.order.items }
         ensures members { self.new.members ≡ self.old.members }
+        ensures passed { self.new.passed ≡ self.old.passed }
         ensures last { self.new.last ≡ self.old.last }
     {
         self.given.reserve(client)?;

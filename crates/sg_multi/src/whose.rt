@@ -1,7 +1,7 @@
 // Whose turn it is.
-ghost use Rattle.std.specs.Prelude.{◌≡◌, ◌≤◌, ◌<◌, IfSome, None, true};
+ghost use Rattle.std.specs.Prelude.{◌≡◌, ◌≤◌, ◌<◌, IfSome, None, false, length, true};
 ghost use Rattle.sg_members.specs.sg_sim.sg_plain.Calls.{most_client};
-ghost use Rattle.sg_multi.specs.Inside.Turns.{KeepsRunning, NobodyGoesNow, NoneBehind, is_at_setup};
+ghost use Rattle.sg_multi.specs.Inside.Turns.{IsFirstBehind, IsOverNow, KeepsRunning, NobodyGoesNow, NoneBehind, NoneScheduled, TakesNextTurn, is_at_setup};
 
 use crate::running::Running;
 use sg_members::most_client;
@@ -24,7 +24,8 @@ pub(crate) fn next_turn(running: &Running, script: &MultiScript) -> Option<Turn>
     ensures first { IfSome result (λ turn. 1 ≤ turn.client) }
     ensures last { IfSome result (λ turn. turn.client ≤ most_client script.now.clients) }
     ensures setup { IfSome result (λ turn. is_at_setup script.now running.now ≡ true → turn.client ≡ 1) }
-    ensures over { result ≡ None → NobodyGoesNow script.now running.now }
+    ensures next { IfSome result (λ turn. TakesNextTurn script.now running.now turn.client turn.passed) }
+    ensures over { result ≡ None → IsOverNow script.now running.now }
 {
     if running.is_setting_up(script) {
         return Some(Turn {
@@ -40,13 +41,16 @@ pub(crate) fn next_turn(running: &Running, script: &MultiScript) -> Option<Turn>
 
 // The next turn of the schedule whose client can take it.
 fn next_scheduled(running: &Running, script: &MultiScript) -> Option<Turn>
+    requires settled { is_at_setup script.now running.now ≡ false }
     requires keeps { KeepsRunning script.now running.now }
     ensures first { IfSome result (λ turn. 1 ≤ turn.client) }
     ensures last { IfSome result (λ turn. turn.client ≤ most_client script.now.clients) }
+    ensures next { IfSome result (λ turn. TakesNextTurn script.now running.now turn.client turn.passed) }
+    ensures none { result ≡ None → NoneScheduled script.now running.now (length script.now.schedule) }
 {
     let schedule = script.schedule.as_slice();
     let clients = most_client(script.clients.as_slice());
-    for at in running.passed..schedule.len() {
+    'turns: for at in running.passed..schedule.len() {
         let client = schedule[at];
         if client >= FIRST && client <= clients && running.can_go(script, client) {
             return Some(Turn {
@@ -61,9 +65,12 @@ fn next_scheduled(running: &Running, script: &MultiScript) -> Option<Turn>
 // The turn of the next client that can take one: in ascending numbers after the client of the last turn, and then from 1 on. The schedule
 // is over then.
 fn next_in_circle(running: &Running, script: &MultiScript) -> Option<Turn>
+    requires settled { is_at_setup script.now running.now ≡ false }
+    requires none { NoneScheduled script.now running.now (length script.now.schedule) }
     requires keeps { KeepsRunning script.now running.now }
     ensures first { IfSome result (λ turn. 1 ≤ turn.client) }
     ensures last { IfSome result (λ turn. turn.client ≤ most_client script.now.clients) }
+    ensures next { IfSome result (λ turn. TakesNextTurn script.now running.now turn.client turn.passed) }
     ensures over { result ≡ None → NobodyGoesNow script.now running.now }
 {
     let passed = script.schedule.len();
@@ -81,8 +88,7 @@ fn next_in_circle(running: &Running, script: &MultiScript) -> Option<Turn>
 fn next_behind(running: &Running, script: &MultiScript, behind: u8, last: u8) -> Option<u8>
     requires keeps { KeepsRunning script.now running.now }
     requires last { last ≤ most_client script.now.clients }
-    ensures first { IfSome result (λ client. 1 ≤ client) }
-    ensures last { IfSome result (λ client. client ≤ last) }
+    ensures found { IfSome result (IsFirstBehind script.now running.now behind last) }
     ensures none { result ≡ None → NoneBehind script.now running.now behind last }
 {
     'clients: for before in behind..last {

@@ -36,6 +36,14 @@ player_now members script given client = record {
 abbrev pub stage_with : List Member → MultiScript → List (List ℕ) → List MultiEntry → List ℕ → ℕ → Stage MultiEntry
 stage_with members script given merged schedule last =
     record { history = merged; players = map (player_now members script given) (ascending_from 1 (most_client script.clients)); schedule = schedule; last = last }
+-- the players of all clients
+abbrev pub players_now : List Member → MultiScript → List (List ℕ) → List Player
+players_now members script given = map (player_now members script given) (ascending_from 1 (most_client script.clients))
+
+-- the stage with these members, calls that were given and entries, where this is left of the schedule, and this client took the last turn
+abbrev pub stage_with : List Member → MultiScript → List (List ℕ) → List MultiEntry → List ℕ → ℕ → Stage MultiEntry
+stage_with members script given merged schedule last =
+    record { history = merged; players = players_now members script given; schedule = schedule; last = last }
 
 -- the same where so many turns of the schedule were taken or passed over
 abbrev pub stage_now : List Member → MultiScript → List (List ℕ) → List MultiEntry → ℕ → ℕ → Stage MultiEntry

@@ -6,7 +6,7 @@ pub turns-init : goal.turns-init
 turns-init c = (c.requires.keeps, refl)
 
 pub turns-preserved : goal.turns-preserved
-turns-preserved c = (record { keeps = c.take_turn.ensures.keeps.keeps; last_there = c.in-Some.ensures.last }, c.take_turn.ensures.same ∙ c.turns.invariant.1)
+turns-preserved c = (c.in_ok-take_turn.ensures.turned c.in-Some.turn.passed c.in-Some.ensures.next, c.take_turn.ensures.same ∙ c.turns.invariant.1)
 
 pub returns-in_err-take_turn-clause-same : goal.returns-in_err-take_turn-clause-same
 returns-in_err-take_turn-clause-same c = c.take_turn.ensures.same ∙ c.turns.invariant.1

@@ -1,8 +1,9 @@
 -- The next after the client of the last turn, and then from 1 on.
-use Rattle.std.proofs.Common.{◌∙◌, ap, arith, subst}
+use Rattle.std.proofs.Common.{◌∙◌, ap, arith, subst, sym}
 use Rattle.sg_members.specs.sg_sim.sg_plain.Calls.{most_client}
-use Rattle.sg_multi.specs.Inside.Turns.{NoneBehind}
+use Rattle.sg_multi.specs.Inside.Turns.{IsFirstBehind, NoneBehind, TakesNextTurn}
 use Rattle.sg_multi.proofs.EndLists.{nobody}
+use Rattle.sg_multi.proofs.NextTurn.{from_around, from_behind}
 use Rattle.sg_multi.proofs.whose.next_in_circle.Goals as goal
 
 pub next_behind-requires-clause-last : goal.next_behind-requires-clause-last
@@ -11,11 +12,33 @@ next_behind-requires-clause-last c = omega (arith, c.most_client-clients.ensures
 pub next_behind-requires-2-clause-last : goal.next_behind-requires-2-clause-last
 next_behind-requires-2-clause-last c = c.requires.keeps.last_there
 
+pub returns-in-Some-clause-first : goal.returns-in-Some-clause-first
+returns-in-Some-clause-first c = omega (arith, c.in-Some.ensures.found.above)
+
 pub returns-in-Some-clause-last : goal.returns-in-Some-clause-last
-returns-in-Some-clause-last c = omega (arith, c.in-Some.ensures.last, c.most_client-clients.ensures ∙ ap most_client c.as_slice.ensures)
+returns-in-Some-clause-last c = omega (arith, c.in-Some.ensures.found.within, c.most_client-clients.ensures ∙ ap most_client c.as_slice.ensures)
+
+pub returns-in-Some-clause-next : goal.returns-in-Some-clause-next
+returns-in-Some-clause-next c =
+    let s = c.args.script.now in
+    let r = c.args.running.now in
+    let clients = c.most_client-clients.ensures ∙ ap most_client c.as_slice.ensures in
+    subst (TakesNextTurn s r c.in-Some.client) (sym c.len-passed.ensures)
+    (from_behind s r c.requires.keeps c.requires.settled c.requires.none c.in-Some.client (subst (λ n. IsFirstBehind s r r.last n c.in-Some.client) clients c.in-Some.ensures.found))
+
+pub returns-in-Some-next_behind-clause-first : goal.returns-in-Some-next_behind-clause-first
+returns-in-Some-next_behind-clause-first c = omega (arith, c.in-Some-next_behind.ensures.found.above)
 
 pub returns-in-Some-next_behind-clause-last : goal.returns-in-Some-next_behind-clause-last
-returns-in-Some-next_behind-clause-last c = omega (arith, c.in-Some-next_behind.ensures.last, c.requires.keeps.last_there)
+returns-in-Some-next_behind-clause-last c = omega (arith, c.in-Some-next_behind.ensures.found.within, c.requires.keeps.last_there)
+
+pub returns-in-Some-next_behind-clause-next : goal.returns-in-Some-next_behind-clause-next
+returns-in-Some-next_behind-clause-next c =
+    let s = c.args.script.now in
+    let r = c.args.running.now in
+    let clients = c.most_client-clients.ensures ∙ ap most_client c.as_slice.ensures in
+    subst (TakesNextTurn s r c.in-Some-next_behind.client) (sym c.len-passed.ensures)
+    (from_around s r c.requires.keeps c.requires.settled c.requires.none c.in-Some-next_behind.client (subst (NoneBehind s r r.last) clients (c.next_behind.ensures.none c.in_default.is)) c.in-Some-next_behind.ensures.found)
 
 pub returns-in-None-clause-over : goal.returns-in-None-clause-over
 returns-in-None-clause-over c = λ none.

@@ -1,10 +1,11 @@
 -- Nothing was done in the worlds of a new play.
-use Rattle.std.proofs.Common.{◌∙◌, [], replicate, ap, arith, subst, sym}
+use Rattle.std.proofs.Common.{◌∙◌, [], replicate, ap, arith, refl, subst, sym}
 use Rattle.sg_members.specs.sg_sim.Inside.Givens.{lists_of}
 use Rattle.sg_members.specs.sg_sim.sg_plain.Calls.{most_client}
 use Rattle.sg_multi.specs.Beginning.{AreNewMembers}
-use Rattle.sg_multi.specs.Inside.Keeps.{KeepsMulti}
-use Rattle.sg_multi.proofs.Beginning.{kept_new, stubs_are}
+use Rattle.sg_multi.proofs.Beginning.{kept_new, stubs_are, view_new}
+use Rattle.sg_multi.proofs.Following.{new_follows}
+use Rattle.sg_multi.proofs.Turning.{parts_same}
 use Rattle.sg_multi.proofs.play.MultiPlay.new.Goals as goal
 
 pub members_of-requires-clause-clients : goal.members_of-requires-clause-clients
@@ -16,11 +17,10 @@ invariant_of-result c =
     let worlds = c.in_ok-worlds.worlds in
     let new = subst (λ n. AreNewMembers c.args.members.now c.args.script.stops n worlds) count c.in_ok-worlds.ensures in
     let given = c.in_ok-given.ensures ∙ ap (λ n. replicate n []) count in
-    record {
-      keeps = subst (KeepsMulti worlds c.args.script (lists_of c.in_ok-given.given)) (sym c.new-order.ensures)
-          (subst (λ l. KeepsMulti worlds c.args.script l []) (sym given) (kept_new c.args.members.now c.args.script worlds c.requires.services c.requires.playable new));
-      last_there = omega arith;
-    }
+    let kept = kept_new c.args.members.now c.args.script worlds c.requires.services c.requires.playable new in
+    let parts = parts_same c.args.script worlds worlds (replicate (most_client c.args.script.clients) []) (lists_of c.in_ok-given.given) [] c.new-order.result.items 0 0 refl given c.new-order.ensures
+    (kept, new_follows worlds c.args.script (view_new c.args.members.now c.args.script worlds c.requires.services c.requires.playable new) kept) in
+    record { keeps = parts.0; last_there = omega arith; follows = parts.1 }
 
 pub returns-clause-members : goal.returns-clause-members
 returns-clause-members c =

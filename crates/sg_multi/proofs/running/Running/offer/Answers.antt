@@ -8,7 +8,7 @@ use Rattle.sg_members.specs.sg_sim.sg_plain.Playing.Turns.{is_free_phase}
 use Rattle.sg_members.specs.sg_sim.sg_play.NextCall.{IsResolved}
 use Rattle.sg_members.specs.sg_sim.sg_seat.WorldView.{IsFree, Seat, seat_of}
 use Rattle.sg_multi.specs.Merged.{entries_in, own_in}
-use Rattle.sg_multi.proofs.Turning.{at_place, client_there, declared_here, fits_here, free_is, gave_own, member_within, numbered_here, offered_at, seat_is, seats_there, some_member}
+use Rattle.sg_multi.proofs.Turning.{at_place, client_there, declared_here, fits_here, free_is, gave_own, member_within, numbered_here, offered_asks, offered_at, seat_is, seats_there, some_member}
 use Rattle.sg_multi.proofs.running.Running.offer.Goals as goal
 
 pub phase-requires-clause-some : goal.phase-requires-clause-some
@@ -124,7 +124,8 @@ returns-clause-keeps c =
     let resolved : IsResolved (world_in m).tables.iface.facts own c.args.call.now.call made
     = subst (λ (i : Declared). IsResolved i.facts own c.args.call.now.call made) c.interface-used.ensures
     (c.in_ok-next.ensures.call own (subst (GaveIds own) (sym c.of.ensures) (gave_own r.members c.args.script.now r.given r.order.items c.requires.keeps.keeps c.args.client c.requires.first c.requires.last c.args.call.now c.requires.next m there free))) in
-    record { keeps = (offered_at r.members c.args.script.now r.given r.order.items c.requires.keeps.keeps c.args.client c.requires.first c.requires.last c.args.call.now c.requires.next m there free made resolved c.in_ok-next.ensures.words c.from-place.result c.from-place.ensures c.offer.new.self c.offer.result c.offer.ensures.ok c.offer.ensures.err).0; last_there = c.requires.keeps.last_there }
+    let still = offered_at r.members c.args.script.now r.given r.order.items c.requires.keeps.keeps c.args.client c.requires.first c.requires.last c.args.call.now c.requires.next m there free made resolved c.in_ok-next.ensures.words c.from-place.result c.from-place.ensures c.offer.new.self c.offer.result c.offer.ensures.ok c.offer.ensures.err in
+    record { keeps = still.kept; last_there = c.requires.keeps.last_there; follows = still.follows r.passed r.last c.requires.keeps.follows }
 
 pub returns-clause-same : goal.returns-clause-same
 returns-clause-same c =
@@ -138,4 +139,32 @@ returns-clause-same c =
     let resolved : IsResolved (world_in m).tables.iface.facts own c.args.call.now.call made
     = subst (λ (i : Declared). IsResolved i.facts own c.args.call.now.call made) c.interface-used.ensures
     (c.in_ok-next.ensures.call own (subst (GaveIds own) (sym c.of.ensures) (gave_own r.members c.args.script.now r.given r.order.items c.requires.keeps.keeps c.args.client c.requires.first c.requires.last c.args.call.now c.requires.next m there free))) in
-    (offered_at r.members c.args.script.now r.given r.order.items c.requires.keeps.keeps c.args.client c.requires.first c.requires.last c.args.call.now c.requires.next m there free made resolved c.in_ok-next.ensures.words c.from-place.result c.from-place.ensures c.offer.new.self c.offer.result c.offer.ensures.ok c.offer.ensures.err).1
+    (offered_at r.members c.args.script.now r.given r.order.items c.requires.keeps.keeps c.args.client c.requires.first c.requires.last c.args.call.now c.requires.next m there free made resolved c.in_ok-next.ensures.words c.from-place.result c.from-place.ensures c.offer.new.self c.offer.result c.offer.ensures.ok c.offer.ensures.err).same
+
+pub returns-clause-players : goal.returns-clause-players
+returns-clause-players c =
+    let r = c.args.self.now in
+    let m = c.member_of.result.now in
+    let there = c.member_of.ensures in
+    let own = entries_in (own_in c.args.client c.requires.keeps.keeps.merged) in
+    let made = c.in_ok-next.next in
+    let free : is_free_phase (seat_of (view_in m) c.args.client).phase ≡ true
+    = subst (λ p. is_free_phase p ≡ true) (c.phase.ensures ∙ ap (λ (s : Seat). s.phase) (seat_is r.members (c.args.call.now.member - 1) m c.args.client there)) (sym c.is_free.ensures ∙ c.if-not-is_free.false) in
+    let resolved : IsResolved (world_in m).tables.iface.facts own c.args.call.now.call made
+    = subst (λ (i : Declared). IsResolved i.facts own c.args.call.now.call made) c.interface-used.ensures
+    (c.in_ok-next.ensures.call own (subst (GaveIds own) (sym c.of.ensures) (gave_own r.members c.args.script.now r.given r.order.items c.requires.keeps.keeps c.args.client c.requires.first c.requires.last c.args.call.now c.requires.next m there free))) in
+    (offered_at r.members c.args.script.now r.given r.order.items c.requires.keeps.keeps c.args.client c.requires.first c.requires.last c.args.call.now c.requires.next m there free made resolved c.in_ok-next.ensures.words c.from-place.result c.from-place.ensures c.offer.new.self c.offer.result c.offer.ensures.ok c.offer.ensures.err).players
+
+pub returns-clause-asked : goal.returns-clause-asked
+returns-clause-asked c =
+    let r = c.args.self.now in
+    let m = c.member_of.result.now in
+    let there = c.member_of.ensures in
+    let own = entries_in (own_in c.args.client c.requires.keeps.keeps.merged) in
+    let made = c.in_ok-next.next in
+    let free : is_free_phase (seat_of (view_in m) c.args.client).phase ≡ true
+    = subst (λ p. is_free_phase p ≡ true) (c.phase.ensures ∙ ap (λ (s : Seat). s.phase) (seat_is r.members (c.args.call.now.member - 1) m c.args.client there)) (sym c.is_free.ensures ∙ c.if-not-is_free.false) in
+    let resolved : IsResolved (world_in m).tables.iface.facts own c.args.call.now.call made
+    = subst (λ (i : Declared). IsResolved i.facts own c.args.call.now.call made) c.interface-used.ensures
+    (c.in_ok-next.ensures.call own (subst (GaveIds own) (sym c.of.ensures) (gave_own r.members c.args.script.now r.given r.order.items c.requires.keeps.keeps c.args.client c.requires.first c.requires.last c.args.call.now c.requires.next m there free))) in
+    offered_asks r.members c.args.script.now r.given r.order.items c.requires.keeps.keeps c.args.client c.requires.first c.requires.last c.args.call.now c.requires.next m there free made resolved c.in_ok-next.ensures.words c.from-place.result c.from-place.ensures c.offer.new.self c.offer.result c.offer.ensures.ok
