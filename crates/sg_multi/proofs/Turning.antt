@@ -39,7 +39,6 @@ use Rattle.sg_members.specs.sg_sim.sg_world.Steps.{AnswersLast, HasStepped, Want
 use Rattle.sg_members.specs.sg_sim.sg_world.declared.did.Did.{Did}
 use Rattle.sg_multi.specs.Calls.{IsCallOf, multi_calls}
 use Rattle.sg_multi.specs.Inside.Keeps.{KeepsMulti, interfaces_of, is_multi_setting_up}
-use Rattle.sg_multi.specs.Inside.Turns.{KeepsRunning, SameMembers}
 use Rattle.sg_multi.specs.Inside.Following.{FollowsMulti, IsNextMultiTurn, NoneStruck, players_now, stage_now}
 use Rattle.sg_multi.specs.Inside.Turns.{KeepsRunning, SameMembers, TakesNextTurn}
 use Rattle.sg_multi.specs.Inside.Whose.{next_of, seat_at}

@@ -294,7 +294,7 @@ module _ (z : Setting) (w : WorldView) (c : ℕ) (first : 1 ≤ c) (last : c ≤
       let seats : later.seats ≡ slice_set w.seats (c - 1) new = ap (λ y. y.seats) l.now in
       let history : later.history ≡ w.history = ap (λ y. y.history) l.now in (
         keeps_reseated later new a.items history seats (ap (λ (y : WorldView). y.run.boots) l.now ∙ a.one) (ap (λ (y : WorldView). is_some y.running) l.now ∙ a.up) a.all_there
-        (plain_holds facts new (λ held. cc held) (λ receipted. cc receipted)) (λ held. absurd (cc held)),
+            (plain_holds facts new (λ held. cc held) (λ receipted. cc receipted)) (λ held. absurd (cc held)),
         inr (inl (record { phase = l.phase; reseats = record { history = history; seats = seats }; id = desc_of reply; gives = refl })),
       )
 
@@ -305,7 +305,7 @@ module _ (z : Setting) (w : WorldView) (c : ℕ) (first : 1 ≤ c) (last : c ≤
       let new = seat_behind facts w c reply Idle no_reply in
       let enters : EntersAs z w c Idle reply no_reply later = record { history = ap (λ y. y.history) now; seats = ap (λ y. y.seats) now ∙ answered_seats facts w c reply (its offers) } in (
         keeps_entered later reply no_reply Idle a.items enters (ap (λ (y : WorldView). y.run.boots) now ∙ a.one) (ap (λ (y : WorldView). is_some y.running) now ∙ a.up) there
-        (plain_holds facts new (λ held. cc held) (λ receipted. cc receipted)) (λ held. absurd (cc held)),
+            (plain_holds facts new (λ held. cc held) (λ receipted. cc receipted)) (λ held. absurd (cc held)),
         enters,
       )
 
@@ -345,7 +345,7 @@ module _ (z : Setting) (w : WorldView) (c : ℕ) (first : 1 ≤ c) (last : c ≤
       let history : later.history ≡ w.history = ap (λ y. y.history) l.now in
       let passes = l.asks.reaches.uses.let_in.passes in (
         keeps_reseated later new (a.items ++ l.asks.item ∷ []) history seats (ap (λ (y : WorldView). y.run.boots) l.now ∙ noted_is l.asks.item) (ap (λ (y : WorldView). is_some y.running) l.now ∙ a.up)
-        (there_noted facts w.history a.items l.asks.item a.all_there) (plain_holds facts new (λ held. cc held) (λ receipted. cc receipted)) (λ held. absurd (cc held)),
+            (there_noted facts w.history a.items l.asks.item a.all_there) (plain_holds facts new (λ held. cc held) (λ receipted. cc receipted)) (λ held. absurd (cc held)),
         inr (inr (inr (inr (inl (record {
           phase = l.asks.reaches.uses.let_in.phase;
           passes = passes;
@@ -362,7 +362,7 @@ module _ (z : Setting) (w : WorldView) (c : ℕ) (first : 1 ≤ c) (last : c ≤
       let history : later.history ≡ w.history = ap (λ y. y.history) l.now in
       let passes = l.asks.reaches.uses.let_in.passes in (
         keeps_reseated later new (a.items ++ l.asks.item ∷ []) history seats (ap (λ (y : WorldView). y.run.boots) l.now ∙ noted_is l.asks.item) (ap (λ (y : WorldView). is_some y.running) l.now)
-        (there_noted facts w.history a.items l.asks.item a.all_there) (record { hidden = λ held. l.hidden; receipt = λ receipted. absurd (cc receipted) }) (λ held. ap length a.one),
+            (there_noted facts w.history a.items l.asks.item a.all_there) (record { hidden = λ held. l.hidden; receipt = λ receipted. absurd (cc receipted) }) (λ held. ap length a.one),
         inr (inr (inr (inr (inr (inr (record {
           phase = l.asks.reaches.uses.let_in.phase;
           passes = passes;
@@ -421,7 +421,7 @@ module _ (z : Setting) (w : WorldView) (c : ℕ) (first : 1 ≤ c) (last : c ≤
         let enters : EntersAs z w c Receipted l.reply l.reply later
         = record { history = history ∙ history_now; seats = seats ∙ ap (λ (y : WorldView). y.seats) l.now ∙ given_seats facts w c l.reply (its offering) } in (
           keeps_entered later l.reply l.reply Receipted (a.items ++ l.asks.item ∷ []) enters (boots ∙ boots_now) up (there_then served)
-          (record { hidden = λ held. absurd (cc held); receipt = λ receipted. omega (arith, number offering) }) (λ held. absurd (cc held)),
+              (record { hidden = λ held. absurd (cc held); receipt = λ receipted. omega (arith, number offering) }) (λ held. absurd (cc held)),
           inr (inr (inr (inr (inr (inl (record {
             phase = l.asks.reaches.uses.let_in.phase;
             passes = passing;
@@ -470,10 +470,23 @@ module _ (z : Setting) (w : WorldView) (c : ℕ) (first : 1 ≤ c) (last : c ≤
       by (inr (inr (inr (inr (inl t))))) =
           inr (inr (inr (inr (inl (record { phase = t.phase; passes = t.passes; none = t.none; reseats = record { history = t.reseats.history; seats = t.reseats.seats }; quiet = t.quiet })))))
       by (inr (inr (inr (inr (inr (inl t)))))) = inr (inr (inr (inr (inr (inl (record {
-        phase = t.phase; passes = t.passes; reply = t.reply; answers = t.answers; visible = t.visible; enters = record { history = t.enters.history; seats = t.enters.seats }; quiet = t.quiet;
+        phase = t.phase;
+        passes = t.passes;
+        reply = t.reply;
+        answers = t.answers;
+        visible = t.visible;
+        enters = record { history = t.enters.history; seats = t.enters.seats };
+        quiet = t.quiet;
       }))))))
       by (inr (inr (inr (inr (inr (inr t)))))) = inr (inr (inr (inr (inr (inr (record {
-        phase = t.phase; passes = t.passes; reply = t.reply; answers = t.answers; hidden = t.hidden; boot = t.boot; reseats = record { history = t.reseats.history; seats = t.reseats.seats }; quiet = t.quiet;
+        phase = t.phase;
+        passes = t.passes;
+        reply = t.reply;
+        answers = t.answers;
+        hidden = t.hidden;
+        boot = t.boot;
+        reseats = record { history = t.reseats.history; seats = t.reseats.seats };
+        quiet = t.quiet;
       }))))))
 
   -- a step that no stop struck is a turn of the play without stops

@@ -11,7 +11,6 @@ ghost use Rattle.sg_members.specs.sg_sim.sg_play.Recovering.{RecoversSoFar};
 ghost use Rattle.sg_members.specs.sg_sim.sg_play.Turning.{handed_by};
 ghost use Rattle.sg_members.specs.sg_sim.sg_play.sg_clients.Clients.{IsClient};
 ghost use Rattle.sg_members.specs.sg_sim.sg_seat.WorldView.{is_blocked_phase, seat_of};
-ghost use Rattle.sg_multi.specs.Inside.Turns.{KeepsRunning, SameMembers, is_at_setup, may_go_now};
 ghost use Rattle.sg_multi.specs.Inside.Following.{players_now};
 ghost use Rattle.sg_multi.specs.Inside.Turns.{KeepsRunning, SameMembers, TakesNextTurn, is_at_setup, may_go_now};
 ghost use Rattle.sg_multi.specs.Inside.Whose.{next_of, seat_at};

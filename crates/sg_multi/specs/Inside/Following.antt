@@ -32,10 +32,6 @@ player_now members script given client = record {
   phase = option_map_or (λ c. phase_at (seat_at members (c.member - 1) client)) (next_of script given client) through;
 }
 
--- the stage with these members, calls that were given and entries, where this is left of the schedule, and this client took the last turn
-abbrev pub stage_with : List Member → MultiScript → List (List ℕ) → List MultiEntry → List ℕ → ℕ → Stage MultiEntry
-stage_with members script given merged schedule last =
-    record { history = merged; players = map (player_now members script given) (ascending_from 1 (most_client script.clients)); schedule = schedule; last = last }
 -- the players of all clients
 abbrev pub players_now : List Member → MultiScript → List (List ℕ) → List Player
 players_now members script given = map (player_now members script given) (ascending_from 1 (most_client script.clients))
