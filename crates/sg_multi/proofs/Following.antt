@@ -1,5 +1,5 @@
 -- A play over several services follows the play without stops, from its beginning, over offers and steps, while no member is stopped.
-use Rattle.std.proofs.Common.{◌≡◌, ◌≢◌, ◌⊎◌, ℕ, suc, ◌+◌, ◌-◌, ◌<◌, ◌≤◌, true, false, cond, List, [], ◌∷◌, ◌++◌, None, Some, drop, length, map, refl, sym, ◌∙◌, ap, subst, inl, inr, arith, replicate, zero}
+use Rattle.std.proofs.Common.{◌≡◌, ◌≢◌, ◌⊎◌, ℕ, suc, ◌+◌, ◌-◌, ◌≤◌, true, false, cond, List, [], ◌∷◌, ◌++◌, None, Some, drop, length, map, refl, sym, ◌∙◌, ap, subst, inl, inr, arith, replicate, zero}
 use Rattle.std.specs.Prelude.{nat_lt, slice_get, unwrap_or}
 use Rattle.std.specs.Option.{option_map_or}
 use Rattle.std.specs.declared.option.Option.{Option}
@@ -13,7 +13,7 @@ use Rattle.sg_members.proofs.sg_sim.sg_play.sg_plain.sg_seat.Lines.{same_or_othe
 use Rattle.sg_members.specs.Members.{ChangesAt, kind_in, setting_by, setting_in, view_in, world_in}
 use Rattle.sg_members.specs.declared.member.Member.{Member}
 use Rattle.sg_members.specs.sg_load.declared.kind.ServiceKind.{ServiceKind}
-use Rattle.sg_members.specs.sg_sim.sg_plain.Calls.{ascending_from, most_client}
+use Rattle.sg_members.specs.sg_sim.sg_plain.Calls.{most_client}
 use Rattle.sg_members.specs.sg_sim.sg_plain.Plain.{IsPlay, Player, Stage, first_stage, next_turn, player_at, player_of, ready, stage_from, through, turned}
 use Rattle.sg_members.specs.sg_sim.sg_plain.Playing.Given.{given_in, with_handed}
 use Rattle.sg_members.specs.sg_sim.sg_plain.Playing.Turns.{is_free_phase}
@@ -24,7 +24,7 @@ use Rattle.sg_members.specs.sg_sim.sg_play.sg_hist.Recovered.{Stubs, struck_in}
 use Rattle.sg_members.specs.sg_sim.sg_play.sg_hist.declared.ended.Ended.{Ended}
 use Rattle.sg_members.specs.sg_sim.sg_script.declared.multi.MultiCall.{MultiCall}
 use Rattle.sg_members.specs.sg_sim.sg_script.declared.multi.MultiScript.{MultiScript}
-use Rattle.sg_members.specs.sg_sim.sg_seat.WorldView.{Seat, WorldView, happened, new_world, no_seat, offered, seat_in, seat_of}
+use Rattle.sg_members.specs.sg_sim.sg_seat.WorldView.{Seat, WorldView, happened, new_world, no_seat, offered, seat_of}
 use Rattle.sg_members.specs.sg_sim.sg_seat.declared.phase.Phase.{Phase}
 use Rattle.sg_members.specs.sg_sim.sg_seat.declared.phase.Phase.TheVariants.{Idle, Asked, Held, Receipted, Blocked, Left}
 use Rattle.sg_members.specs.sg_sim.sg_world.declared.did.Did.{Did}
@@ -47,7 +47,7 @@ use Rattle.sg_multi.proofs.Merging.{map_kept, merges_same, there_is, there_withi
 use Rattle.sg_multi.proofs.NextTurn.{nobody_next}
 use Rattle.sg_multi.proofs.Onward.{merged_one, turned_on}
 use Rattle.sg_multi.proofs.Players.{player_in, same_from}
-use Rattle.sg_multi.proofs.Stages.{TurnedInto, player_same, ready_next, turned_into}
+use Rattle.sg_multi.proofs.Stages.{player_same, ready_next, turned_into}
 use Rattle.sg_multi.proofs.Unstopped.{never_new, never_offered, never_wanted, none_before, unstopped}
 
 -- what holds of a member's world at another view holds of the member that has it

@@ -1,7 +1,6 @@
 -- The players of clients in ascending numbers, by look-ups, and where one is another then, or those who wait are woken.
-use Rattle.std.proofs.Common.{◌≡◌, ◌≢◌, ℕ, zero, suc, ◌+◌, ◌-◌, ◌<◌, ◌≤◌, Bool, true, false, cond, List, [], ◌∷◌, None, Some, length, map, refl, sym, ◌∙◌, ap, subst, arith, slice_set}
-use Rattle.std.specs.Prelude.{slice_get, unwrap_or}
-use Rattle.sg_facts.specs.sg_base.declared.reply.Reply.{Reply}
+use Rattle.std.proofs.Common.{◌≡◌, ◌≢◌, ℕ, zero, suc, ◌+◌, ◌-◌, ◌<◌, ◌≤◌, Bool, true, false, ◌∷◌, None, Some, length, map, refl, ◌∙◌, ap, arith, slice_set}
+use Rattle.std.specs.Prelude.{slice_get}
 use Rattle.sg_members.specs.sg_sim.sg_plain.Calls.{ascending_from}
 use Rattle.sg_members.specs.sg_sim.sg_plain.Plain.{PlainPhase, Player, after_wakes, blocked, holding, ready, replied, through, woken_phase}
 

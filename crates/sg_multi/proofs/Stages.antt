@@ -5,7 +5,6 @@ use Rattle.std.specs.Option.{option_map_or}
 use Rattle.std.specs.declared.option.Option.{Option}
 use Rattle.std.proofs.lemmas.Bool.Decides.{nat_tests}
 use Rattle.sg_facts.specs.sg_base.declared.call.Call.{Call}
-use Rattle.sg_facts.specs.sg_base.declared.reply.Code.{Code}
 use Rattle.sg_facts.specs.sg_base.declared.reply.Reply.{Reply}
 use Rattle.sg_facts.specs.sg_base.declared.reply.Reply.TheVariants.{Ok, Refused}
 use Rattle.sg_facts.specs.declared.entry.Entry.{Entry}
@@ -13,7 +12,7 @@ use Rattle.sg_facts.specs.declared.row.Row.{Row}
 use Rattle.sg_facts.specs.Facts.{Facts, is_visible}
 use Rattle.sg_facts.specs.Guard.{guard}
 use Rattle.sg_facts.specs.Interface.{Declared}
-use Rattle.sg_facts.specs.Object.{Object, object_of}
+use Rattle.sg_facts.specs.Object.{object_of}
 use Rattle.sg_facts.proofs.Replaying.Found.{other_test, same_test}
 use Rattle.sg_members.proofs.sg_sim.sg_play.Waking.Shapes.{call_is_next}
 use Rattle.sg_members.proofs.sg_sim.sg_play.sg_plain.sg_seat.Lines.{length_map, same_or_other, seat_here, seat_there, seat_woken}
@@ -22,7 +21,7 @@ use Rattle.sg_members.specs.Members.{ChangesAt, kind_in, setting_in, view_in, wo
 use Rattle.sg_members.specs.declared.member.Member.{Member}
 use Rattle.sg_members.specs.sg_sim.sg_plain.Calls.{ascending_from, most_client, resolved_by}
 use Rattle.sg_members.specs.sg_sim.sg_plain.Inside.Turns.{after_call, after_guard, handed_over, served}
-use Rattle.sg_members.specs.sg_sim.sg_plain.Plain.{PlainPhase, Player, Stage, System, Workload, after_wakes, appended, at_phase, blocked, gone_on, holding, player_at, player_of, ready, replied, through, turned, with_player, woken_phase}
+use Rattle.sg_members.specs.sg_sim.sg_plain.Plain.{PlainPhase, Player, Stage, System, Workload, appended, at_phase, blocked, gone_on, holding, player_at, player_of, ready, replied, through, turned, woken_phase}
 use Rattle.sg_members.specs.sg_sim.sg_plain.Playing.Callers.{is_receipted}
 use Rattle.sg_members.specs.sg_sim.sg_plain.Playing.Given.{given_in, with_handed}
 use Rattle.sg_members.specs.sg_sim.sg_play.Following.Stages.{phase_by}
@@ -51,7 +50,7 @@ use Rattle.sg_multi.proofs.Calling.{fits_at, offers_alone, receipt_alone}
 use Rattle.sg_multi.proofs.Keeping.{given_here, given_there, never_less, one_less}
 use Rattle.sg_multi.proofs.Merging.{at_mapped, map_kept, map_set, mapped_at, merges_push, merges_same, set_elsewhere, set_there}
 use Rattle.sg_multi.proofs.Players.{player_in, same_from, set_from, woken_from, woken_same}
-use Rattle.sg_multi.proofs.Unstopped.{EntersAs, HasToWait, IsCommitted, IsHeld, IsRefused, Reseats, StaysBlocked, TakesHeld, TakesReceipt, TurnsAs}
+use Rattle.sg_multi.proofs.Unstopped.{EntersAs, Reseats, TurnsAs}
 
 -- ---- phases
 

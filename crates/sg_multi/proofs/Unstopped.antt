@@ -1,5 +1,5 @@
 -- A step of a member that never stopped, as a turn of the play without stops.
-use Rattle.std.proofs.Common.{◌≡◌, ◌≢◌, ◌⊎◌, ℕ, ◌+◌, ◌-◌, ◌≤◌, Bool, true, false, List, [], ◌∷◌, ◌++◌, None, Some, IsSome, flat_map, is_some, length, map, refl, sym, ◌∙◌, ap, subst, inl, inr, arith, replicate, slice_set}
+use Rattle.std.proofs.Common.{◌≡◌, ◌≢◌, ◌⊎◌, ℕ, ◌+◌, ◌-◌, ◌≤◌, Bool, true, false, List, [], ◌∷◌, ◌++◌, None, Some, IsSome, flat_map, is_some, length, refl, sym, ◌∙◌, ap, subst, inl, inr, arith, replicate, slice_set}
 use Rattle.std.specs.Option.{option_map_or}
 use Rattle.std.specs.declared.option.Option.{Option}
 use Rattle.sg_facts.specs.sg_base.Lists.{Each}
@@ -33,10 +33,10 @@ use Rattle.sg_members.specs.sg_sim.sg_play.Turning.{handed_by}
 use Rattle.sg_members.specs.sg_sim.sg_play.sg_hist.Clients.{calls_of}
 use Rattle.sg_members.specs.sg_sim.sg_play.sg_hist.Growing.{IsNextItem, booted, noted, place_after, struck}
 use Rattle.sg_members.specs.sg_sim.sg_play.sg_hist.Inside.Parts.{HasItem}
-use Rattle.sg_members.specs.sg_sim.sg_play.sg_hist.Inside.Reads.{after_item, desc_of}
+use Rattle.sg_members.specs.sg_sim.sg_play.sg_hist.Inside.Reads.{desc_of}
 use Rattle.sg_members.specs.sg_sim.sg_play.sg_hist.Recovered.{struck_in}
 use Rattle.sg_members.specs.sg_sim.sg_play.sg_world.sg_recovery_laws.LastItem.LastPlace.{HaveItems, last_place}
-use Rattle.sg_members.specs.sg_sim.sg_seat.WorldView.{Seat, WorldView, answered_to, boot_number, committed, given_to, happened, is_offered, new_world, no_reply, no_seat, offered, seat_in, seat_of, unanswered, wakes_seat, woken_seat}
+use Rattle.sg_members.specs.sg_sim.sg_seat.WorldView.{Seat, WorldView, answered_to, boot_number, committed, happened, is_offered, new_world, no_reply, no_seat, offered, seat_in, seat_of, unanswered, wakes_seat, woken_seat}
 use Rattle.sg_members.specs.sg_sim.sg_seat.declared.phase.Phase.{Phase}
 use Rattle.sg_members.specs.sg_sim.sg_seat.declared.phase.Phase.TheVariants.{Idle, Asked, Held, Receipted, Blocked, Left}
 use Rattle.sg_members.specs.sg_sim.sg_world.declared.did.Did.{Did}

@@ -86,7 +86,8 @@ impl MultiPlay {
     }
 
     /// Plays all that is left, to the end: until no client can take a turn. What it answers has the history and the trace of each member's
-    /// world. `NoMemory` also where a step of some world wanted memory.
+    /// world. Where no service was stopped, its entries are those of the play without stops. `NoMemory` also where a step of some world
+    /// wanted memory.
     pub fn play(&mut self, alloc: Global) -> Result<MultiEnded, NoMemory>
         ensures played { IfOk result (IsMultiPlayed (map stubs_in self.old.members) self.old.script) }
         ensures worlds { IfOk result (λ came. AreOfMembers self.new.members came.members) }

@@ -74,8 +74,8 @@ impl Running {
     }
 
     /// A client takes its turn: it offers its next call where it has none under way, and makes a step in the world of that call's member.
-    /// Nothing happens where it has no more. Where it is the client's turn in the play without stops, that is followed on, and so many turns of
-    /// the schedule are taken or passed over then. After `NoMemory` the turn may be made again.
+    /// Nothing happens where it has no more. Where it was the client's turn in the play without stops, that is followed on, as soon as the turn
+    /// is noted. After `NoMemory` the turn may be made again.
     pub(crate) fn take_turn(
         &mut self,
         alloc: Global,
