@@ -47,6 +47,7 @@ use std::thread::Threads;
 /// What was run to its end, if anything was.
 #[derive(Debug, Drop)]
 pub enum Ran {
+    /// Nothing: the command plays nothing, or its input is refused.
     Nothing,
     /// A script over one service.
     One(Played),
