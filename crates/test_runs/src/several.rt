@@ -1,5 +1,6 @@
 // Plays of one script over several services come out as they are written.
 use crate::runs::comes_to;
+use sg_top::{MemSink, MemSource, NoMemory, serial};
 use std::alloc::Global;
 use std::process::Abort;
 use std::sync::Wait;
@@ -169,4 +170,36 @@ fn try_each<R: Threads + Wait + Sync + Abort>(
 #[test]
 fn plays_over_several_services(rt: HostRuntime) -> Result<(), Fail> {
     try_each(&rt, rt.alloc(), PLAYS)
+}
+
+// Whether an answer to a word hands out a run over one service, and one over several.
+fn hands_out(alloc: Global, word: &str, input: &[u8]) -> Result<(bool, bool), NoMemory> {
+    let mut words = Vec::new(alloc);
+    words.push(word.to_string(alloc)?)?;
+    let mut source = MemSource::new(alloc, input, 4_096, &[])?;
+    let mut sink = MemSink::new(alloc, 4_096, &[])?;
+    let answer = serial(alloc, &words, &mut source, &mut sink);
+    Ok((answer.ended().is_some(), answer.multi().is_some()))
+}
+
+#[test]
+fn what_was_run_is_handed_out(rt: HostRuntime) -> Result<(), Fail> {
+    let alloc = rt.alloc();
+    let one = input_of(alloc, "lock", "client 1 { lock_alloc(); }")?;
+    let waits = input_of(
+        alloc,
+        "lock event",
+        "client 1 { evt_split(); evt_wait($1); }",
+    )?;
+    let refused = input_of(alloc, "lock lock", "")?;
+    for (word, input, wanted) in [
+        ("sim", &one, (true, false)),
+        ("multi", &one, (false, true)),
+        ("multi", &waits, (false, true)),
+        ("multi", &refused, (false, false)),
+        ("check", &one, (false, false)),
+    ] {
+        assert!(rt; hands_out(alloc, word, input)? == wanted, "{word}");
+    }
+    Ok(())
 }
