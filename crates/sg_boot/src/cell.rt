@@ -20,6 +20,7 @@ use std::marker::Model;
 /// trace tells, and for how many items and boots more there is room.
 #[derive(Debug, Drop)]
 pub struct Cell<S: Service> {
+    image: S::Image,
     service: Option<S>,
     journal: Journal,
 }
@@ -36,14 +37,15 @@ impl<S: Service> Model for Cell<S> {
 }
 
 impl<S: Service> Cell<S> {
-    /// A service that is up in its first boot, and to which nothing was done.
-    pub fn new(alloc: Global) -> Result<Cell<S>, NoMemory>
+    /// A service of an image that is up in its first boot, and to which nothing was done.
+    pub fn new(alloc: Global, image: S::Image) -> Result<Cell<S>, NoMemory>
         ensures running { IfOk result (λ cell. cell.running ≡ Some empty_object) }
         ensures run { IfOk result (λ cell. cell.run ≡ record { boots = booted []; points = 0 }) }
     {
         Ok(Cell {
+            image,
             journal: Journal::new(alloc)?,
-            service: Some(S::fresh(alloc)),
+            service: Some(S::fresh(alloc, image)),
         })
     }
 
@@ -190,7 +192,7 @@ impl<S: Service> Cell<S> {
         ensures run { self.new.run ≡ record self.old.run { boots = booted self.old.run.boots } }
     {
         self.journal.boot(alloc);
-        self.service = Some(S::fresh(alloc));
+        self.service = Some(S::fresh(alloc, self.image));
     }
 }
 

@@ -41,6 +41,7 @@ pub struct Explored {
 pub fn explore<R: Threads + Sync, S: Service + Send, P: Progress>(
     rt: &R,
     alloc: Global,
+    image: S::Image,
     accepted: &Accepted,
     script: &Script,
     most: u64,
@@ -53,7 +54,7 @@ pub fn explore<R: Threads + Sync, S: Service + Send, P: Progress>(
     ensures { IfOk result (IsExplored accepted.now (record { facts = S.facts; ask = S.ask; parts = S.parts }) script.now most) }
 {
     let none = PointList::new(alloc);
-    let played = play_with::<S>(alloc, accepted, script, none)?;
+    let played = play_with::<S>(alloc, image, accepted, script, none)?;
     let plain = played.ended();
     let points = plain.trace.points;
     let meter = Meter {
@@ -62,7 +63,7 @@ pub fn explore<R: Threads + Sync, S: Service + Send, P: Progress>(
         at_once: runs_at_once(rt),
     };
     progress.made(1, meter.all);
-    let tally = explore_all::<R, S, P>(rt, alloc, accepted, script, plain, most, &meter)?;
+    let tally = explore_all::<R, S, P>(rt, alloc, image, accepted, script, plain, most, &meter)?;
     let waits = tally.blocked > 0;
     let text = text(alloc, accepted.interface(), points, &tally)?;
     Ok(Explored { text, waits })
@@ -91,6 +92,7 @@ struct Meter<'a, P> {
 fn explore_all<R: Threads + Sync, S: Service + Send, P: Progress>(
     rt: &R,
     alloc: Global,
+    image: S::Image,
     accepted: &Accepted,
     script: &Script,
     plain: &Ended,
@@ -112,10 +114,11 @@ fn explore_all<R: Threads + Sync, S: Service + Send, P: Progress>(
         from: 1,
         count: points as usize,
     };
-    explore_row::<R, S, P>(rt, alloc, accepted, script, plain, alone, meter, &mut tally)?;
+    explore_row::<R, S, P>(rt, alloc, image, accepted, script, plain, alone, meter, &mut tally)?;
     explore_pairs::<R, S, P>(
         rt,
         alloc,
+        image,
         accepted,
         script,
         plain,
@@ -131,6 +134,7 @@ fn explore_all<R: Threads + Sync, S: Service + Send, P: Progress>(
 fn explore_pairs<R: Threads + Sync, S: Service + Send, P: Progress>(
     rt: &R,
     alloc: Global,
+    image: S::Image,
     accepted: &Accepted,
     script: &Script,
     plain: &Ended,
@@ -155,7 +159,7 @@ fn explore_pairs<R: Threads + Sync, S: Service + Send, P: Progress>(
             from: first + 1,
             count: (most - first) as usize,
         };
-        explore_row::<R, S, P>(rt, alloc, accepted, script, plain, row, meter, tally)?;
+        explore_row::<R, S, P>(rt, alloc, image, accepted, script, plain, row, meter, tally)?;
     }
     Ok(())
 }
@@ -164,6 +168,7 @@ fn explore_pairs<R: Threads + Sync, S: Service + Send, P: Progress>(
 fn explore_row<R: Threads + Sync, S: Service + Send, P: Progress>(
     rt: &R,
     alloc: Global,
+    image: S::Image,
     accepted: &Accepted,
     script: &Script,
     plain: &Ended,
@@ -182,9 +187,10 @@ fn explore_row<R: Threads + Sync, S: Service + Send, P: Progress>(
     let mut done = 0;
     'parts: while done < row.count {
         let part = row.part(done, meter.at_once);
-        let outcomes = outcomes_of::<R, S>(rt, alloc, accepted, script, plain, part)?;
+        let outcomes = outcomes_of::<R, S>(rt, alloc, image, accepted, script, plain, part)?;
         add_outcomes::<S>(
             alloc,
+            image,
             accepted,
             script,
             plain,
@@ -201,6 +207,7 @@ fn explore_row<R: Threads + Sync, S: Service + Send, P: Progress>(
 // Adds the plays of a row of which this is kept.
 fn add_outcomes<S: Service + Send>(
     alloc: Global,
+    image: S::Image,
     accepted: &Accepted,
     script: &Script,
     plain: &Ended,
@@ -220,7 +227,7 @@ fn add_outcomes<S: Service + Send>(
     'plays: for at in 0..row.count {
         let outcome = outcomes[at]?;
         let points = row.stops(at);
-        add_outcome::<S>(alloc, accepted, script, plain, points, outcome, tally)?;
+        add_outcome::<S>(alloc, image, accepted, script, plain, points, outcome, tally)?;
     }
     Ok(())
 }
@@ -229,6 +236,7 @@ fn add_outcomes<S: Service + Send>(
 // play of which this is kept.
 fn add_outcome<S: Service + Send>(
     alloc: Global,
+    image: S::Image,
     accepted: &Accepted,
     script: &Script,
     plain: &Ended,
@@ -245,7 +253,7 @@ fn add_outcome<S: Service + Send>(
         (points_of stops ∷ []) (sums_of tally.old) (sums_of tally.new)) }
 {
     if tally.is_first(outcome.differs) {
-        return add_first::<S>(alloc, accepted, script, plain, stops, tally);
+        return add_first::<S>(alloc, image, accepted, script, plain, stops, tally);
     }
     tally.count(stops, outcome);
     Ok(())
@@ -254,6 +262,7 @@ fn add_outcome<S: Service + Send>(
 // Makes a play and adds it, and keeps it where it differs, as none does yet.
 fn add_first<S: Service + Send>(
     alloc: Global,
+    image: S::Image,
     accepted: &Accepted,
     script: &Script,
     plain: &Ended,
@@ -269,7 +278,7 @@ fn add_first<S: Service + Send>(
         (points_of stops ∷ []) (sums_of tally.old) (sums_of tally.new)) }
 {
     let list = stops.list(alloc)?;
-    let played = play_with::<S>(alloc, accepted, script, list)?;
+    let played = play_with::<S>(alloc, image, accepted, script, list)?;
     tally.count_first(plain, stops, played);
     Ok(())
 }

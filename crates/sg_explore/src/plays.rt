@@ -19,6 +19,7 @@ use std::alloc::Global;
 /// The play of a script with these stops in place of its own.
 pub(crate) fn play_with<S: Service>(
     alloc: Global,
+    image: S::Image,
     accepted: &Accepted,
     script: &Script,
     stops: PointList,
@@ -30,12 +31,13 @@ pub(crate) fn play_with<S: Service>(
     ensures { IfOk result (IsRunInOrder accepted.now (record { facts = S.facts; ask = S.ask; parts = S.parts }) (record script.now { stops = stops })) }
 {
     let changed = with_stops(alloc, script, stops)?;
-    simulate::<S>(alloc, accepted, changed)
+    simulate::<S>(alloc, image, accepted, changed)
 }
 
 /// What is kept of the play with these stops, beside the one without stops.
 pub(crate) fn outcome_with<S: Service>(
     alloc: Global,
+    image: S::Image,
     accepted: &Accepted,
     script: &Script,
     plain: &Ended,
@@ -48,7 +50,7 @@ pub(crate) fn outcome_with<S: Service>(
     ensures { IfOk result (IsOutcomeOf (IsTriedOf accepted.now S.facts S.ask S.parts script.now plain.now) (points_of stops)) }
 {
     let list = stops.list(alloc)?;
-    let played = play_with::<S>(alloc, accepted, script, list)?;
+    let played = play_with::<S>(alloc, image, accepted, script, list)?;
     let outcome = Outcome::of(plain, stops, played.ended());
     Ok(outcome)
 }

@@ -34,6 +34,7 @@ pub(crate) fn runs_at_once(rt: &impl Threads) -> usize
 pub(crate) fn outcomes_of<R: Threads + Sync, S: Service + Send>(
     rt: &R,
     alloc: Global,
+    image: S::Image,
     accepted: &Accepted,
     script: &Script,
     plain: &Ended,
@@ -48,7 +49,7 @@ pub(crate) fn outcomes_of<R: Threads + Sync, S: Service + Send>(
 {
     let one = |at: usize| -> Result<Outcome, NoMemory>
         requires { (accepted.now.facts ≡ S.facts) × (no_query_waits S.facts ≡ true) × IsPlayable accepted.now script.now × IsRow row × (at < row.count) }
-    { outcome_at::<S>(alloc, accepted, script, plain, row, at) };
+    { outcome_at::<S>(alloc, image, accepted, script, plain, row, at) };
     let made = map_indices(rt, alloc, row.count, &one)?;
     Ok(made)
 }
@@ -56,6 +57,7 @@ pub(crate) fn outcomes_of<R: Threads + Sync, S: Service + Send>(
 // What is kept of one play of a row, counted from 0.
 fn outcome_at<S: Service + Send>(
     alloc: Global,
+    image: S::Image,
     accepted: &Accepted,
     script: &Script,
     plain: &Ended,
@@ -70,5 +72,5 @@ fn outcome_at<S: Service + Send>(
     ensures { IfOk result (IsOutcomeOf (IsTriedOf accepted.now S.facts S.ask S.parts script.now plain.now) (behind row.first (row.from + at))) }
 {
     let points = row.stops(at);
-    outcome_with::<S>(alloc, accepted, script, plain, points)
+    outcome_with::<S>(alloc, image, accepted, script, plain, points)
 }

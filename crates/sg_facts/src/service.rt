@@ -1,18 +1,22 @@
 // The trait that every service meets.
 ghost use Rattle.std.specs.Prelude.{◌≡◌, ℕ, OnOk, OnErr};
-ghost use Rattle.sg_facts.specs.Facts.{Facts, facts_of};
+ghost use Rattle.sg_facts.specs.Facts.{Facts};
 ghost use Rattle.sg_facts.specs.Object.{Object, empty_object};
 ghost use Rattle.sg_facts.specs.Legal.{Table};
 ghost use Rattle.sg_facts.specs.Kinds.{MayAsk};
 ghost use Rattle.sg_facts.specs.Invoke.{Invokes, FitsRoom, loaded};
 ghost use Rattle.sg_facts.specs.Laws.{AnswersAndKeeps, AnswersAlike, BlockedStays, ShapeAllows, CountsSlowly, WalkGoesOn};
 
-use crate::{Outcome, Shape};
+use crate::Outcome;
 use sg_records::{Call, NoMemory, Path, Stops};
 use std::alloc::Global;
+use std::fmt::Debug;
 
 /// A service: it holds rows under ids of its own, and files, and answers calls by its table.
 pub trait Service: Sized + Drop {
+    /// What each boot makes a fresh value of: all that outlives a stop but storage. Nothing changes it.
+    type Image: Copy + Debug + Send + Sync;
+
     /// Its shape, as plain data.
     ghost facts: { Facts };
 
@@ -28,12 +32,8 @@ pub trait Service: Sized + Drop {
     /// The objects that it can come to.
     ghost sound: { Object → Type 0 };
 
-    /// Its shape.
-    fn shape() -> Shape
-        ensures { facts_of result ≡ facts };
-
     /// A value that holds nothing. It takes no memory.
-    fn fresh(alloc: Global) -> Self
+    fn fresh(alloc: Global, image: Self::Image) -> Self
         ensures { object result ≡ empty_object };
 
     /// Asks the service. It takes its memory before its first part, and asks a point before each part of an effect.

@@ -1,6 +1,7 @@
 // The memory mapping service.
 ghost use Rattle.std.specs.Prelude.{◌≡◌, ◌<◌, length, IsSome};
 ghost use Rattle.std.specs.Option.{option_map, option_copied};
+ghost use Rattle.sg_facts.specs.Facts.{facts_of};
 ghost use Rattle.sg_facts.specs.Track.{row_at};
 ghost use Rattle.sg_facts.specs.declared.outcome.Outcome.{Outcome as IsOutcome};
 ghost use Rattle.sg_slots.specs.Slots.{row_with};
@@ -30,6 +31,13 @@ pub struct MmService {
 }
 
 impl MmService {
+    /// The shape of the service.
+    pub fn shape() -> Shape
+        ensures { facts_of result ≡ mm_facts }
+    {
+        mm_shape()
+    }
+
     ghost use Rattle.sg_mm.specs.MmObject.{mm_object};
 
     /// The page of an id, lent; None where no page has it. Ids count from 1.
@@ -58,6 +66,8 @@ impl MmService {
 impl Service for MmService {
     ghost use Rattle.sg_mm.specs.MmObject.{mm_object};
 
+    type Image = ();
+
     ghost facts = { mm_facts };
 
     ghost object = { mm_object };
@@ -80,11 +90,7 @@ impl Service for MmService {
 
     ghost counts_slowly = { mm_counts_slowly };
 
-    fn shape() -> Shape {
-        mm_shape()
-    }
-
-    fn fresh(alloc: Global) -> Self {
+    fn fresh(alloc: Global, _: ()) -> Self {
         MmService {
             pages: Pages::new(alloc),
         }

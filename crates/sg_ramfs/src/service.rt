@@ -1,6 +1,7 @@
 // The file service.
 ghost use Rattle.std.specs.Prelude.{◌≡◌, ◌<◌, ◌≤◌, ◌^◌, ◌==◌, ◌||◌, IfSome, IsSome, Some, true, length};
 ghost use Rattle.std.specs.Option.{option_map, option_copied};
+ghost use Rattle.sg_facts.specs.Facts.{facts_of};
 ghost use Rattle.sg_facts.specs.Object.{file_at, first_text, path_of};
 ghost use Rattle.sg_facts.specs.Track.{arg_at, is_live, row_at, word_of};
 ghost use Rattle.sg_slots.specs.Slots.{entry_at, row_with};
@@ -51,6 +52,13 @@ impl Model for RamfsService {
 }
 
 impl RamfsService {
+    /// The shape of the service.
+    pub fn shape() -> Shape
+        ensures { facts_of result ≡ ramfs_facts }
+    {
+        ramfs_shape()
+    }
+
     /// The open file of an id, lent; None where no open file has it. Ids count from 1.
     pub fn open_file(&self, id: u64) -> Option<&OpenFile>
         ensures { row_at (ramfs_object self.now).rows id ≡ option_map (λ f. row_with id (file_body f)) (option_copied result) }
@@ -67,6 +75,8 @@ impl RamfsService {
 }
 
 impl Service for RamfsService {
+    type Image = ();
+
     ghost facts = { ramfs_facts };
 
     ghost object = { ramfs_object };
@@ -89,11 +99,7 @@ impl Service for RamfsService {
 
     ghost counts_slowly = { ramfs_counts_slowly };
 
-    fn shape() -> Shape {
-        ramfs_shape()
-    }
-
-    fn fresh(alloc: Global) -> Self {
+    fn fresh(alloc: Global, _: ()) -> Self {
         RamfsService {
             tree: FileTree::new(alloc),
             files: OpenFiles::new(alloc),

@@ -49,7 +49,12 @@ impl<S: Service> Model for Engine<S> {
 
 impl<S: Service> Engine<S> {
     /// A service that is up in its first boot, for clients from 1 to so many, with nothing done and nothing stored.
-    pub fn new(alloc: Global, tables: Tables, clients: u8) -> Result<Engine<S>, NoMemory>
+    pub fn new(
+        alloc: Global,
+        image: S::Image,
+        tables: Tables,
+        clients: u8,
+    ) -> Result<Engine<S>, NoMemory>
         requires { tables.iface.facts ≡ S.facts }
         ensures tables { IfOk result (λ e. e.tables ≡ tables) }
         ensures running { IfOk result (λ e. e.cell.running ≡ Some empty_object) }
@@ -65,7 +70,7 @@ impl<S: Service> Engine<S> {
         ensures present { IfOk result (λ e. (key : List ℕ) → is_present e.present key ≡ false) }
     {
         Ok(Engine {
-            cell: Cell::new(alloc)?,
+            cell: Cell::new(alloc, image)?,
             storage: Storage::new(alloc, clients)?,
             tables,
             rows: Tracker::new(alloc),

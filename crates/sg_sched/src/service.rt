@@ -1,6 +1,7 @@
 // The thread service.
 ghost use Rattle.std.specs.Prelude.{◌≡◌, ◌^◌, ◌<◌, ℕ, true, false, [], ◌∷◌, length, IsSome};
 ghost use Rattle.std.specs.Option.{option_map, option_copied};
+ghost use Rattle.sg_facts.specs.Facts.{facts_of};
 ghost use Rattle.sg_facts.specs.sg_base.declared.value.Value.TheVariants.{Word};
 ghost use Rattle.sg_facts.specs.declared.shape.Kind.TheVariants.{Word as IsWord};
 ghost use Rattle.sg_facts.specs.Kinds.{MayAsk, kinds_fit};
@@ -34,6 +35,13 @@ pub struct SchedService {
 }
 
 impl SchedService {
+    /// The shape of the service.
+    pub fn shape() -> Shape
+        ensures { facts_of result ≡ sched_facts }
+    {
+        sched_shape()
+    }
+
     ghost use Rattle.sg_sched.specs.SchedObject.{sched_object};
 
     /// The thread of an id, lent; None where no thread has it. Ids count from 1.
@@ -55,6 +63,8 @@ impl SchedService {
 
 impl Service for SchedService {
     ghost use Rattle.sg_sched.specs.SchedObject.{sched_object};
+
+    type Image = ();
 
     ghost facts = { sched_facts };
 
@@ -78,11 +88,7 @@ impl Service for SchedService {
 
     ghost counts_slowly = { sched_counts_slowly };
 
-    fn shape() -> Shape {
-        sched_shape()
-    }
-
-    fn fresh(alloc: Global) -> Self {
+    fn fresh(alloc: Global, _: ()) -> Self {
         SchedService {
             queue: Queue::new(alloc),
         }

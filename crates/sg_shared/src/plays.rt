@@ -19,6 +19,7 @@ use std::thread::Threads;
 /// for the play, or a step of it wanted memory.
 pub fn simulate<S: Service>(
     alloc: Global,
+    image: S::Image,
     accepted: &Accepted,
     script: Script,
 ) -> Result<Played, NoMemory>
@@ -30,7 +31,7 @@ pub fn simulate<S: Service>(
 {
     let stops = stops_of(alloc, &script)?;
     let tables = compile(alloc, accepted)?;
-    play_script::<S, AtPoints>(alloc, tables, script, stops)
+    play_script::<S, AtPoints>(alloc, image, tables, script, stops)
 }
 
 // The stops of a script, of which no point was asked yet.
@@ -49,6 +50,7 @@ fn stops_of(alloc: Global, script: &Script) -> Result<AtPoints, NoMemory>
 pub fn share<R: Threads + Wait + Sync, S: Service + Send, G: Gate>(
     rt: &R,
     alloc: Global,
+    image: S::Image,
     accepted: &Accepted,
     script: Script,
     gate: &G,
@@ -60,5 +62,5 @@ pub fn share<R: Threads + Wait + Sync, S: Service + Send, G: Gate>(
     ensures { IfOk result (IsRunOf accepted.now (record { facts = S.facts; ask = S.ask; parts = S.parts }) script) }
 {
     let tables = compile(alloc, accepted)?;
-    run::<R, S, G>(rt, alloc, tables, script, gate)
+    run::<R, S, G>(rt, alloc, image, tables, script, gate)
 }

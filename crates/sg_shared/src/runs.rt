@@ -30,6 +30,7 @@ use std::thread::Threads;
 pub fn run<R: Threads + Wait + Sync, S: Service + Send, G: Gate>(
     rt: &R,
     alloc: Global,
+    image: S::Image,
     tables: Tables,
     script: Script,
     gate: &G,
@@ -42,13 +43,14 @@ pub fn run<R: Threads + Wait + Sync, S: Service + Send, G: Gate>(
     ensures world { IfOk result (IsReachedEnd (setting_of S.ask S.sound S.parts tables) script) }
 {
     let stops = AtPoints::new(script.stops.copy(alloc)?);
-    run_named::<R, S, G, Brand>(rt, alloc, tables, script, stops, gate)
+    run_named::<R, S, G, Brand>(rt, alloc, image, tables, script, stops, gate)
 }
 
 // Plays the script of a name by the tables of that name.
 fn run_named<R: Threads + Wait + Sync, S: Service + Send, G: Gate, N: Naming + Send + Sync>(
     rt: &R,
     alloc: Global,
+    image: S::Image,
     tables: Tables,
     script: Script,
     stops: AtPoints,
@@ -70,7 +72,7 @@ fn run_named<R: Threads + Wait + Sync, S: Service + Send, G: Gate, N: Naming + S
     let interface = tables.interface().copy(alloc)?;
     let play = set_up(
         alloc,
-        Play::<S, AtPoints>::new(alloc, tables, script, stops)?,
+        Play::<S, AtPoints>::new(alloc, image, tables, script, stops)?,
     )?;
     let (world, script) = play.parts();
     let Ok(setup) = world.history().copied(alloc) else {

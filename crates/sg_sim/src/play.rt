@@ -73,6 +73,7 @@ impl<S: Service, T: Stops> Play<S, T> {
     /// The play of a script, in which nothing was done.
     pub fn new(
         alloc: Global,
+        image: S::Image,
         tables: Tables,
         script: Script,
         stops: T,
@@ -92,7 +93,7 @@ impl<S: Service, T: Stops> Play<S, T> {
     {
         let clients = most_client(script.clients.as_slice());
         let given = Given::new(alloc, clients)?;
-        let world = World::new(alloc, tables, clients, stops)?;
+        let world = World::new(alloc, image, tables, clients, stops)?;
         Ok(Play {
             world,
             script,

@@ -17,6 +17,7 @@ use std::alloc::Global;
 /// wanted memory.
 pub fn play_script<S: Service, T: Stops>(
     alloc: Global,
+    image: S::Image,
     tables: Tables,
     script: Script,
     stops: T,
@@ -30,6 +31,6 @@ pub fn play_script<S: Service, T: Stops>(
     ensures schedule { IfOk result (λ ended. FollowsSchedule tables.iface S.ask script (run_of ended.trace) ended.history.items) }
     ensures world { IfOk result (EndsAs (setting_of S.ask S.sound S.parts tables) script (new_of script)) }
 {
-    let play = Play::<S, T>::new(alloc, tables, script, stops)?;
+    let play = Play::<S, T>::new(alloc, image, tables, script, stops)?;
     play.finish(alloc)
 }

@@ -56,6 +56,13 @@ pub struct RowService<E> {
 }
 
 impl<E: RowRules> RowService<E> {
+    /// The shape of the service.
+    pub fn shape() -> Shape
+        ensures { facts_of result ≡ E.model.facts }
+    {
+        E::shape()
+    }
+
     /// The entry of an id, lent; None where no descriptor has it. Ids count from 1.
     pub fn get(&self, id: u64) -> Option<&E>
         ensures row { row_at (rows_of E.body self.now.slots.entries) id ≡ option_map (λ e. row_with id (E.body e)) (option_copied result) }
@@ -74,6 +81,8 @@ impl<E: RowRules> RowService<E> {
 }
 
 impl<E: RowRules> Service for RowService<E> {
+    type Image = ();
+
     ghost facts = { E.model.facts };
 
     ghost object = { λ s. object_of E.body s.slots };
@@ -96,11 +105,7 @@ impl<E: RowRules> Service for RowService<E> {
 
     ghost counts_slowly = { E.model.counts_slowly };
 
-    fn shape() -> Shape {
-        E::shape()
-    }
-
-    fn fresh(alloc: Global) -> Self {
+    fn fresh(alloc: Global, _: ()) -> Self {
         RowService {
             slots: Slots::new(alloc),
         }

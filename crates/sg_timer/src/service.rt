@@ -2,6 +2,7 @@
 ghost use Rattle.std.specs.Prelude.{◌≡◌, ◌==◌, ◌^◌, ◌<◌, ℕ, false, length, IsSome};
 ghost use Rattle.std.specs.List.{list_any};
 ghost use Rattle.std.specs.Option.{option_map, option_copied};
+ghost use Rattle.sg_facts.specs.Facts.{facts_of};
 ghost use Rattle.sg_facts.specs.Kinds.{MayAsk};
 ghost use Rattle.sg_facts.specs.Track.{row_at, arg_at, word_of};
 ghost use Rattle.sg_facts.specs.Inside.Rows.{has_child};
@@ -34,6 +35,13 @@ pub struct TimerService {
 }
 
 impl TimerService {
+    /// The shape of the service.
+    pub fn shape() -> Shape
+        ensures { facts_of result ≡ timer_facts }
+    {
+        timer_shape()
+    }
+
     ghost use Rattle.sg_timer.specs.TimerObject.{timer_object};
 
     /// The timer of an id, lent; None where no timer has it. Ids count from 1.
@@ -55,6 +63,8 @@ impl TimerService {
 
 impl Service for TimerService {
     ghost use Rattle.sg_timer.specs.TimerObject.{timer_object};
+
+    type Image = ();
 
     ghost facts = { timer_facts };
 
@@ -78,11 +88,7 @@ impl Service for TimerService {
 
     ghost counts_slowly = { timer_counts_slowly };
 
-    fn shape() -> Shape {
-        timer_shape()
-    }
-
-    fn fresh(alloc: Global) -> Self {
+    fn fresh(alloc: Global, _: ()) -> Self {
         TimerService {
             queue: Queue::new(alloc),
         }

@@ -93,12 +93,12 @@ pub fn simulate_kind(
     ensures { IfOk result (IsRunInOrder accepted.now (answering kind) script) }
 {
     match kind {
-        ServiceKind::Locks => simulate::<LockService>(alloc, accepted, script),
-        ServiceKind::Events => simulate::<EventService>(alloc, accepted, script),
-        ServiceKind::Pages => simulate::<MmService>(alloc, accepted, script),
-        ServiceKind::Files => simulate::<RamfsService>(alloc, accepted, script),
-        ServiceKind::Threads => simulate::<SchedService>(alloc, accepted, script),
-        ServiceKind::Timers => simulate::<TimerService>(alloc, accepted, script),
+        ServiceKind::Locks => simulate::<LockService>(alloc, (), accepted, script),
+        ServiceKind::Events => simulate::<EventService>(alloc, (), accepted, script),
+        ServiceKind::Pages => simulate::<MmService>(alloc, (), accepted, script),
+        ServiceKind::Files => simulate::<RamfsService>(alloc, (), accepted, script),
+        ServiceKind::Threads => simulate::<SchedService>(alloc, (), accepted, script),
+        ServiceKind::Timers => simulate::<TimerService>(alloc, (), accepted, script),
     }
 }
 
@@ -118,12 +118,12 @@ pub fn share_kind<R: Threads + Wait + Sync, G: Gate>(
     ensures { IfOk result (IsRunOf accepted.now (answering kind) script) }
 {
     match kind {
-        ServiceKind::Locks => share::<R, LockService, G>(rt, alloc, accepted, script, gate),
-        ServiceKind::Events => share::<R, EventService, G>(rt, alloc, accepted, script, gate),
-        ServiceKind::Pages => share::<R, MmService, G>(rt, alloc, accepted, script, gate),
-        ServiceKind::Files => share::<R, RamfsService, G>(rt, alloc, accepted, script, gate),
-        ServiceKind::Threads => share::<R, SchedService, G>(rt, alloc, accepted, script, gate),
-        ServiceKind::Timers => share::<R, TimerService, G>(rt, alloc, accepted, script, gate),
+        ServiceKind::Locks => share::<R, LockService, G>(rt, alloc, (), accepted, script, gate),
+        ServiceKind::Events => share::<R, EventService, G>(rt, alloc, (), accepted, script, gate),
+        ServiceKind::Pages => share::<R, MmService, G>(rt, alloc, (), accepted, script, gate),
+        ServiceKind::Files => share::<R, RamfsService, G>(rt, alloc, (), accepted, script, gate),
+        ServiceKind::Threads => share::<R, SchedService, G>(rt, alloc, (), accepted, script, gate),
+        ServiceKind::Timers => share::<R, TimerService, G>(rt, alloc, (), accepted, script, gate),
     }
 }
 
@@ -145,22 +145,22 @@ pub fn explore_kind<R: Threads + Sync, P: Progress>(
 {
     match kind {
         ServiceKind::Locks => {
-            explore::<R, LockService, P>(rt, alloc, accepted, script, most, progress)
+            explore::<R, LockService, P>(rt, alloc, (), accepted, script, most, progress)
         }
         ServiceKind::Events => {
-            explore::<R, EventService, P>(rt, alloc, accepted, script, most, progress)
+            explore::<R, EventService, P>(rt, alloc, (), accepted, script, most, progress)
         }
         ServiceKind::Pages => {
-            explore::<R, MmService, P>(rt, alloc, accepted, script, most, progress)
+            explore::<R, MmService, P>(rt, alloc, (), accepted, script, most, progress)
         }
         ServiceKind::Files => {
-            explore::<R, RamfsService, P>(rt, alloc, accepted, script, most, progress)
+            explore::<R, RamfsService, P>(rt, alloc, (), accepted, script, most, progress)
         }
         ServiceKind::Threads => {
-            explore::<R, SchedService, P>(rt, alloc, accepted, script, most, progress)
+            explore::<R, SchedService, P>(rt, alloc, (), accepted, script, most, progress)
         }
         ServiceKind::Timers => {
-            explore::<R, TimerService, P>(rt, alloc, accepted, script, most, progress)
+            explore::<R, TimerService, P>(rt, alloc, (), accepted, script, most, progress)
         }
     }
 }
@@ -179,18 +179,19 @@ pub fn verify_kind(
     ensures { IfOk result (IsVerdictBy tables.now.iface (answering kind) history.now.items) }
 {
     match kind {
-        ServiceKind::Locks => verify_run::<LockService>(alloc, tables, history),
-        ServiceKind::Events => verify_run::<EventService>(alloc, tables, history),
-        ServiceKind::Pages => verify_run::<MmService>(alloc, tables, history),
-        ServiceKind::Files => verify_run::<RamfsService>(alloc, tables, history),
-        ServiceKind::Threads => verify_run::<SchedService>(alloc, tables, history),
-        ServiceKind::Timers => verify_run::<TimerService>(alloc, tables, history),
+        ServiceKind::Locks => verify_run::<LockService>(alloc, (), tables, history),
+        ServiceKind::Events => verify_run::<EventService>(alloc, (), tables, history),
+        ServiceKind::Pages => verify_run::<MmService>(alloc, (), tables, history),
+        ServiceKind::Files => verify_run::<RamfsService>(alloc, (), tables, history),
+        ServiceKind::Threads => verify_run::<SchedService>(alloc, (), tables, history),
+        ServiceKind::Timers => verify_run::<TimerService>(alloc, (), tables, history),
     }
 }
 
 // What is said of a history of one service's interface.
 fn verify_run<S: Service>(
     alloc: Global,
+    image: S::Image,
     tables: &Tables,
     history: &History,
 ) -> Result<Verdict, NoMemory>
@@ -199,7 +200,7 @@ fn verify_run<S: Service>(
     requires few { length history.now.items ≤ most_script_calls }
     ensures { IfOk result (IsVerdictBy tables.now.iface (record { facts = S.facts; ask = S.ask; parts = S.parts }) history.now.items) }
 {
-    verify::<S>(alloc, tables, history)
+    verify::<S>(alloc, image, tables, history)
 }
 
 /// What the calls of a run of a service could cost after one more stop.

@@ -55,6 +55,7 @@ impl<S: Service, T: Stops> World<S, T> {
     /// A world of clients from 1 to so many, in which nothing was done: the service is up in its first boot, and every client is idle.
     pub fn new(
         alloc: Global,
+        image: S::Image,
         tables: Tables,
         clients: u8,
         stops: T,
@@ -72,7 +73,7 @@ impl<S: Service, T: Stops> World<S, T> {
         marks.reserve(usize::from(clients))?;
         Ok(World {
             inner: Inner {
-                engine: Engine::new(alloc, tables, clients)?,
+                engine: Engine::new(alloc, image, tables, clients)?,
                 stops,
                 clients: seats,
                 history: History::new(alloc),
