@@ -168,7 +168,7 @@ fn at(space: u64, addr: u64) -> Asked {
 fn answers_one_by_one(rt: HostRuntime) -> Result<(), Fail> {
     let alloc = rt.alloc();
     let mut stops = Once::new(0);
-    let mut service = MmService::fresh(alloc);
+    let mut service = MmService::fresh(alloc, ());
     for (asked, answer) in [
         (of(1, 4096), Answer::Done(1)),
         (of(1, 4096), Answer::Refused(Code::Occupied)),
@@ -204,7 +204,7 @@ fn answers_one_by_one(rt: HostRuntime) -> Result<(), Fail> {
 fn a_thousand_end_at_once(rt: HostRuntime) -> Result<(), Fail> {
     let alloc = rt.alloc();
     let mut stops = Once::new(0);
-    let mut service = MmService::fresh(alloc);
+    let mut service = MmService::fresh(alloc, ());
     assert_eq!(rt; get(&mut service, alloc, &mut stops, 1, 0), Answer::Done(1));
     for n in 1..1000 {
         let made = alias(&mut service, alloc, &mut stops, n / 3 * 2 + 1, 1, n);
@@ -236,7 +236,7 @@ fn stops_at_each_part(rt: HostRuntime) -> Result<(), Fail> {
     ] {
         for point in first..last + 1 {
             let mut stops = Once::new(point);
-            let mut service = MmService::fresh(alloc);
+            let mut service = MmService::fresh(alloc, ());
             let made = tried(&mut service, alloc, &mut stops, of(1, 0));
             assert_eq!(rt; made, Answer::Done(1));
             let got = tried(&mut service, alloc, &mut stops, asked);

@@ -87,7 +87,7 @@ fn made_and_taken(
 #[test]
 fn a_lost_lock_is_made_again_and_taken(rt: HostRuntime) -> Result<(), Fail> {
     let tables = walked_tables(rt.alloc())?;
-    let mut engine = Engine::<LockService>::new(rt.alloc(), tables, 2)?;
+    let mut engine = Engine::<LockService>::new(rt.alloc(), (), tables, 2)?;
     let done = made_and_taken(&rt, rt.alloc(), &mut engine);
     discard(engine);
     done

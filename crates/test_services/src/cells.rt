@@ -59,7 +59,7 @@ fn strike_and_boot(rt: &impl Abort, alloc: Global, cell: &mut Cell<LockService>)
 
 #[test]
 fn boots_after_a_strike(rt: HostRuntime) -> Result<(), Fail> {
-    let mut cell = Cell::<LockService>::new(rt.alloc())?;
+    let mut cell = Cell::<LockService>::new(rt.alloc(), ())?;
     let done = strike_and_boot(&rt, rt.alloc(), &mut cell);
     discard(cell);
     done
@@ -92,7 +92,7 @@ fn stop_at(rt: &impl Abort, alloc: Global, cell: &mut Cell<LockService>, point: 
 #[test]
 fn stops_at_a_part_and_behind_the_reply(rt: HostRuntime) -> Result<(), Fail> {
     for point in [1, 2, 3] {
-        let mut cell = Cell::<LockService>::new(rt.alloc())?;
+        let mut cell = Cell::<LockService>::new(rt.alloc(), ())?;
         stop_at(&rt, rt.alloc(), &mut cell, point);
         discard(cell);
     }

@@ -132,7 +132,7 @@ fn answered_by(
 
 // The same of a service of its own.
 fn answered(alloc: Global, count: u32, asked: Asked) -> Result<(Answer, Option<u32>), Outcome> {
-    let mut service = EventService::fresh(alloc);
+    let mut service = EventService::fresh(alloc, ());
     answered_by(&mut service, alloc, count, asked)
 }
 

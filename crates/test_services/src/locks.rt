@@ -160,7 +160,7 @@ fn load_file(alloc: Global, service: &mut LockService) -> Result<(), NoMemory>
 fn serves_one_lock(rt: HostRuntime) -> Result<(), Fail> {
     let alloc = rt.alloc();
     let mut stops = Once::new(0);
-    let mut service = LockService::fresh(alloc);
+    let mut service = LockService::fresh(alloc, ());
     load_file(alloc, &mut service)?;
     answers_on_one_lock(&rt, alloc, &mut service, &mut stops)?;
     assert_eq!(rt; stops.asked(), 5);
@@ -178,7 +178,7 @@ fn has_stopped(answer: Result<u64, Outcome>) -> bool {
 // A lock isn't made where one of the parts of that is stopped.
 fn stops_while_making(rt: &impl Abort, alloc: Global, point: u64) {
     let mut stops = Once::new(point);
-    let mut service = LockService::fresh(alloc);
+    let mut service = LockService::fresh(alloc, ());
     assert!(rt;
         has_stopped(make(&mut service, alloc, &mut stops, 1)),
         "at {point}"
@@ -207,7 +207,7 @@ fn stops_at_each_part(rt: HostRuntime) -> Result<(), Fail> {
     for point in [1, 2] {
         stops_while_making(&rt, rt.alloc(), point);
     }
-    let mut service = LockService::fresh(rt.alloc());
+    let mut service = LockService::fresh(rt.alloc(), ());
     let stopped = stops_while_taking(rt.alloc(), &mut service, &mut Once::new(3));
     assert!(rt; matches!(stopped, Ok(true)));
     Ok(())

@@ -33,7 +33,7 @@ fn played_again(
     requires playable { IsPlayable accepted.now script }
 {
     let tables = compile(alloc, accepted)?;
-    let mut play = Play::<Scarce, Never>::new(alloc, tables, script, Never::new())?;
+    let mut play = Play::<Scarce, Never>::new(alloc, (), tables, script, Never::new())?;
     let done = done_again(alloc, accepted, &mut play);
     play.abandon();
     done

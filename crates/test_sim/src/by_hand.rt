@@ -40,7 +40,7 @@ fn played(alloc: Global, accepted: &Accepted, script: Script) -> Result<Bytes, N
     requires playable { IsPlayable accepted.now script }
 {
     let tables = compile(alloc, accepted)?;
-    let played = play_script::<LockService, Never>(alloc, tables, script, Never::new())?;
+    let played = play_script::<LockService, Never>(alloc, (), tables, script, Never::new())?;
     text(alloc, accepted.interface(), played.ended(), false)
 }
 
@@ -50,7 +50,7 @@ fn played_by_hand(alloc: Global, accepted: &Accepted, script: Script) -> Result<
     requires playable { IsPlayable accepted.now script }
 {
     let tables = compile(alloc, accepted)?;
-    let mut play = Play::<LockService, Never>::new(alloc, tables, script, Never::new())?;
+    let mut play = Play::<LockService, Never>::new(alloc, (), tables, script, Never::new())?;
     let taken = take_all(alloc, &mut play);
     let played = play.finish(alloc)?;
     taken?;

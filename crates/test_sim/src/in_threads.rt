@@ -35,7 +35,7 @@ fn is_short<R: Threads + Wait + Sync>(
     requires playable { IsPlayable accepted.now script }
     requires stops { AscendsAbove 0 script.stops }
 {
-    share::<R, Scarce, OpenGate>(rt, alloc, accepted, script, &OpenGate).is_err()
+    share::<R, Scarce, OpenGate>(rt, alloc, (), accepted, script, &OpenGate).is_err()
 }
 
 #[test]

@@ -1,5 +1,5 @@
 // Locks that have no memory for one of their calls.
-use sg_facts::{Call, NoMemory, Outcome, Path, Service, Shape, Stops};
+use sg_facts::{Call, NoMemory, Outcome, Path, Service, Stops};
 use sg_lock::LockService;
 use std::alloc::Global;
 
@@ -25,6 +25,8 @@ impl Service for Scarce {
     ghost use Rattle.sg_lock.specs.Laws.LockWalkLaw.{lock_walk_goes_on};
     ghost use Rattle.sg_lock.specs.sg_slots.Slots.{object_of};
 
+    type Image = ();
+
     ghost facts = { lock_facts };
 
     ghost object = { λ scarce. object_of lock_body scarce.locks.slots };
@@ -47,13 +49,9 @@ impl Service for Scarce {
 
     ghost counts_slowly = { lock_counts_slowly };
 
-    fn shape() -> Shape {
-        LockService::shape()
-    }
-
-    fn fresh(alloc: Global) -> Self {
+    fn fresh(alloc: Global, _: ()) -> Self {
         Scarce {
-            locks: LockService::fresh(alloc),
+            locks: LockService::fresh(alloc, ()),
             asked: 0,
         }
     }

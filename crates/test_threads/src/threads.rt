@@ -195,7 +195,7 @@ fn play(
     stops: &mut Once,
     table: &[(Ask, Answer)],
 ) -> Result<SchedService, Fail> {
-    let mut service = SchedService::fresh(alloc);
+    let mut service = SchedService::fresh(alloc, ());
     let mut calls = 0;
     'table: for (what, want) in table {
         assert!(rt; calls < 1000);
@@ -306,13 +306,13 @@ fn stops_at_each_part(rt: HostRuntime) -> Result<(), Fail> {
     let alloc = rt.alloc();
     for point in [1, 2] {
         let mut stops = Once::new(point);
-        let mut service = SchedService::fresh(alloc);
+        let mut service = SchedService::fresh(alloc, ());
         let stopped = make(&mut service, alloc, &mut stops, 0, 7).err();
         assert!(rt; matches!(stopped, Some(Outcome::Stopped)), "at {point}");
         assert_eq!(rt; stops.asked(), point);
     }
     let mut stops = Once::new(3);
-    let mut service = SchedService::fresh(alloc);
+    let mut service = SchedService::fresh(alloc, ());
     make(&mut service, alloc, &mut stops, 0, 7)?;
     let stopped = on(&rt, &mut service, alloc, &mut stops, 1, 3, 1).err();
     assert!(rt; matches!(stopped, Some(Outcome::Stopped)));

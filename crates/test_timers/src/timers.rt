@@ -46,7 +46,7 @@ type Line = (Asked, Answer);
 fn fresh(alloc: Global) -> TimerService
     ensures { AreSmall 0 (timer_object result) }
 {
-    TimerService::fresh(alloc)
+    TimerService::fresh(alloc, ())
 }
 
 // Asks a call, the next after so many.
