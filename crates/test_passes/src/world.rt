@@ -176,7 +176,7 @@ fn in_new_world<R: Abort + Threads + Wait + Sync>(
     calls: Play,
 ) -> Result<(), Fail> {
     let tables = lock_tables(alloc)?;
-    match World::new(alloc, tables, CLIENTS, Never::new()) {
+    match World::new(alloc, (), tables, CLIENTS, Never::new()) {
         Ok(world) => in_world(rt, alloc, world, calls),
         Err(NoMemory) => Err(NoMemory)?,
     }

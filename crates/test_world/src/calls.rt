@@ -11,6 +11,7 @@ use std::alloc::Global;
 /// service stops at all these points.
 pub fn answered<S: Service>(
     alloc: Global,
+    image: S::Image,
     tables: Tables,
     points: &[u64],
     text: &str,
@@ -18,7 +19,7 @@ pub fn answered<S: Service>(
     requires { tables.iface.facts ≡ S.facts }
 {
     let stops = stops_at(alloc, points)?;
-    judged::<S, _, _>(alloc, tables, 1, stops, &Expected { points, text })?
+    judged::<S, _, _>(alloc, image, tables, 1, stops, &Expected { points, text })?
 }
 
 /// The calls of a text, made in a world with stops at points.

@@ -43,7 +43,12 @@ impl<'a> Parts<'a> {
 
 /// Plays what a text tells: each event goes as it is told, all that is told at the end is seen and printed, and each client waits or has
 /// left then.
-pub fn play<S: Service>(alloc: Global, tables: Tables, text: &str) -> Result<(), Unmade>
+pub fn play<S: Service>(
+    alloc: Global,
+    image: S::Image,
+    tables: Tables,
+    text: &str,
+) -> Result<(), Unmade>
     requires { tables.iface.facts ≡ S.facts }
 {
     let Some(parts) = Parts::read(text) else {
@@ -51,7 +56,7 @@ pub fn play<S: Service>(alloc: Global, tables: Tables, text: &str) -> Result<(),
     };
     let points = points_of(alloc, parts.stops)?;
     let stops = stops_at(alloc, points.as_slice())?;
-    judged::<S, _, _>(alloc, tables, parts.clients, stops, &parts)?
+    judged::<S, _, _>(alloc, image, tables, parts.clients, stops, &parts)?
 }
 
 impl<S: Service, T: Stops> Judge<S, T> for Parts<'_> {

@@ -63,7 +63,13 @@ pub struct Run<S: Service, T: Stops> {
 impl<S: Service, T: Stops> Run<S, T> {
     // A world of so many clients, in which nothing was done.
     #[tactic(auto, using(crate::proofs::Seats::seats_new))]
-    fn new(alloc: Global, tables: Tables, clients: u8, stops: T) -> Result<Self, Unmade>
+    fn new(
+        alloc: Global,
+        image: S::Image,
+        tables: Tables,
+        clients: u8,
+        stops: T,
+    ) -> Result<Self, Unmade>
         requires service { tables.iface.facts ≡ S.facts }
         requires unasked { T.asked stops ≡ 0 }
         requires unstruck { T.struck stops ≡ [] }
@@ -72,7 +78,7 @@ impl<S: Service, T: Stops> Run<S, T> {
             return Err(Unmade::NotAllowed);
         }
         let iface = tables.interface().copy(alloc)?;
-        let world = World::new(alloc, tables, clients, stops)?;
+        let world = World::new(alloc, image, tables, clients, stops)?;
         Ok(Run {
             world,
             iface,
@@ -289,6 +295,7 @@ pub trait Judge<S: Service, T: Stops> {
 /// long to prove.
 pub fn judged<S: Service, T: Stops, J: Judge<S, T>>(
     alloc: Global,
+    image: S::Image,
     tables: Tables,
     clients: u8,
     stops: T,
@@ -298,7 +305,7 @@ pub fn judged<S: Service, T: Stops, J: Judge<S, T>>(
     requires unasked { T.asked stops ≡ 0 }
     requires unstruck { T.struck stops ≡ [] }
 {
-    let mut run = Run::new(alloc, tables, clients, stops)?;
+    let mut run = Run::new(alloc, image, tables, clients, stops)?;
     let said = judge.judge(alloc, &mut run);
     let Run { world, .. } = run;
     discard(world);

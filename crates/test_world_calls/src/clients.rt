@@ -51,9 +51,9 @@ impl<R: Abort, S: Service, T: Stops> Judge<S, T> for Leaving<'_, R> {
 fn clients_leave(rt: HostRuntime) -> Result<(), Fail> {
     let alloc = rt.alloc();
     let leaving = Leaving { rt: &rt };
-    judged::<LockService, _, _>(alloc, lock_tables(alloc)?, 2, Never::new(), &leaving)??;
-    judged::<EventService, _, _>(alloc, event_tables(alloc)?, 2, Never::new(), &leaving)??;
-    judged::<MmService, _, _>(alloc, mm_tables(alloc)?, 2, Never::new(), &leaving)??;
-    judged::<RamfsService, _, _>(alloc, ramfs_tables(alloc)?, 2, Never::new(), &leaving)??;
-    judged::<SchedService, _, _>(alloc, sched_tables(alloc)?, 2, Never::new(), &leaving)?
+    judged::<LockService, _, _>(alloc, (), lock_tables(alloc)?, 2, Never::new(), &leaving)??;
+    judged::<EventService, _, _>(alloc, (), event_tables(alloc)?, 2, Never::new(), &leaving)??;
+    judged::<MmService, _, _>(alloc, (), mm_tables(alloc)?, 2, Never::new(), &leaving)??;
+    judged::<RamfsService, _, _>(alloc, (), ramfs_tables(alloc)?, 2, Never::new(), &leaving)??;
+    judged::<SchedService, _, _>(alloc, (), sched_tables(alloc)?, 2, Never::new(), &leaving)?
 }

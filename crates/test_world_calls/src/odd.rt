@@ -60,7 +60,7 @@ impl<R: Abort, S: Service, T: Stops> Judge<S, T> for Resting<'_, R> {
 fn a_step_without_a_call_changes_nothing(rt: HostRuntime) -> Result<(), Fail> {
     let alloc = rt.alloc();
     let resting = Resting { rt: &rt };
-    judged::<LockService, _, _>(alloc, lock_tables(alloc)?, 3, Never::new(), &resting)?
+    judged::<LockService, _, _>(alloc, (), lock_tables(alloc)?, 3, Never::new(), &resting)?
 }
 
 /// Calls on events that no client may offer: of a function that there isn't, on a descriptor where none is taken, and with other
@@ -117,5 +117,5 @@ fn unfit_are_refused<S: Service, T: Stops>(
 fn unfit_calls_are_not_offered(rt: HostRuntime) -> Result<(), Fail> {
     let alloc = rt.alloc();
     let unfit = Unfit { rt: &rt };
-    judged::<EventService, _, _>(alloc, event_tables(alloc)?, 1, Never::new(), &unfit)?
+    judged::<EventService, _, _>(alloc, (), event_tables(alloc)?, 1, Never::new(), &unfit)?
 }

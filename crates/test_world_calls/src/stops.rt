@@ -89,11 +89,11 @@ sched_sleep 1 = ok
 fn locks_stop_anywhere(rt: HostRuntime) -> Result<(), Fail> {
     let alloc = rt.alloc();
     for point in 1..=LAST {
-        let made = answered::<LockService>(alloc, lock_tables(alloc)?, &[point], LOCKS);
+        let made = answered::<LockService>(alloc, (), lock_tables(alloc)?, &[point], LOCKS);
         assert_eq!(rt; made, Ok(()), "at {point}");
     }
     for point in FIRST + 1..=LAST {
-        let made = answered::<LockService>(alloc, lock_tables(alloc)?, &[FIRST, point], LOCKS);
+        let made = answered::<LockService>(alloc, (), lock_tables(alloc)?, &[FIRST, point], LOCKS);
         assert_eq!(rt; made, Ok(()), "at {point}");
     }
     Ok(())
@@ -103,11 +103,17 @@ fn locks_stop_anywhere(rt: HostRuntime) -> Result<(), Fail> {
 fn events_stop_anywhere(rt: HostRuntime) -> Result<(), Fail> {
     let alloc = rt.alloc();
     for point in 1..=LAST {
-        let made = answered::<EventService>(alloc, event_tables(alloc)?, &[point], EVENTS);
+        let made = answered::<EventService>(alloc, (), event_tables(alloc)?, &[point], EVENTS);
         assert_eq!(rt; made, Ok(()), "at {point}");
     }
     for point in FIRST + 1..=LAST {
-        let made = answered::<EventService>(alloc, event_tables(alloc)?, &[FIRST, point], EVENTS);
+        let made = answered::<EventService>(
+            alloc,
+            (),
+            event_tables(alloc)?,
+            &[FIRST, point],
+            EVENTS,
+        );
         assert_eq!(rt; made, Ok(()), "at {point}");
     }
     Ok(())
@@ -117,11 +123,11 @@ fn events_stop_anywhere(rt: HostRuntime) -> Result<(), Fail> {
 fn pages_stop_anywhere(rt: HostRuntime) -> Result<(), Fail> {
     let alloc = rt.alloc();
     for point in 1..=LAST {
-        let made = answered::<MmService>(alloc, mm_tables(alloc)?, &[point], PAGES);
+        let made = answered::<MmService>(alloc, (), mm_tables(alloc)?, &[point], PAGES);
         assert_eq!(rt; made, Ok(()), "at {point}");
     }
     for point in FIRST + 1..=LAST {
-        let made = answered::<MmService>(alloc, mm_tables(alloc)?, &[FIRST, point], PAGES);
+        let made = answered::<MmService>(alloc, (), mm_tables(alloc)?, &[FIRST, point], PAGES);
         assert_eq!(rt; made, Ok(()), "at {point}");
     }
     Ok(())
@@ -131,11 +137,17 @@ fn pages_stop_anywhere(rt: HostRuntime) -> Result<(), Fail> {
 fn files_stop_anywhere(rt: HostRuntime) -> Result<(), Fail> {
     let alloc = rt.alloc();
     for point in 1..=LAST {
-        let made = answered::<RamfsService>(alloc, ramfs_tables(alloc)?, &[point], FILES);
+        let made = answered::<RamfsService>(alloc, (), ramfs_tables(alloc)?, &[point], FILES);
         assert_eq!(rt; made, Ok(()), "at {point}");
     }
     for point in FIRST + 1..=LAST {
-        let made = answered::<RamfsService>(alloc, ramfs_tables(alloc)?, &[FIRST, point], FILES);
+        let made = answered::<RamfsService>(
+            alloc,
+            (),
+            ramfs_tables(alloc)?,
+            &[FIRST, point],
+            FILES,
+        );
         assert_eq!(rt; made, Ok(()), "at {point}");
     }
     Ok(())
@@ -145,11 +157,17 @@ fn files_stop_anywhere(rt: HostRuntime) -> Result<(), Fail> {
 fn threads_stop_anywhere(rt: HostRuntime) -> Result<(), Fail> {
     let alloc = rt.alloc();
     for point in 1..=LAST {
-        let made = answered::<SchedService>(alloc, sched_tables(alloc)?, &[point], THREADS);
+        let made = answered::<SchedService>(alloc, (), sched_tables(alloc)?, &[point], THREADS);
         assert_eq!(rt; made, Ok(()), "at {point}");
     }
     for point in FIRST + 1..=LAST {
-        let made = answered::<SchedService>(alloc, sched_tables(alloc)?, &[FIRST, point], THREADS);
+        let made = answered::<SchedService>(
+            alloc,
+            (),
+            sched_tables(alloc)?,
+            &[FIRST, point],
+            THREADS,
+        );
         assert_eq!(rt; made, Ok(()), "at {point}");
     }
     Ok(())

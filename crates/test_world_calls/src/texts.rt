@@ -121,5 +121,5 @@ impl<R: Abort, S: Service, T: Stops> Judge<S, T> for Untrue<'_, R> {
 fn texts_tell_what_is_not_so(rt: HostRuntime) -> Result<(), Fail> {
     let alloc = rt.alloc();
     let untrue = Untrue { rt: &rt };
-    judged::<LockService, _, _>(alloc, lock_tables(alloc)?, 1, Never::new(), &untrue)?
+    judged::<LockService, _, _>(alloc, (), lock_tables(alloc)?, 1, Never::new(), &untrue)?
 }

@@ -138,6 +138,7 @@ impl<R: Abort, S: Service> Judge<S, Inside> for Persisting<'_, R> {
 fn persists<S: Service>(
     rt: &impl Abort,
     alloc: Global,
+    image: S::Image,
     tables: Tables,
     text: &str,
 ) -> Result<bool, Fail>
@@ -145,7 +146,14 @@ fn persists<S: Service>(
 {
     let case = Case::read(text).ok_or("no case")?;
     let stop = Inside::new(case.stop);
-    match judged::<S, _, _>(alloc, tables, CLIENTS, stop, &Persisting { rt, case }) {
+    match judged::<S, _, _>(
+        alloc,
+        image,
+        tables,
+        CLIENTS,
+        stop,
+        &Persisting { rt, case },
+    ) {
         Ok(said) => said.map(|()| true),
         Err(Unmade::NoMemory) => Ok(false),
         Err(unmade) => Err(Fail::from(unmade)),
@@ -380,8 +388,8 @@ points 27
 #[test]
 fn locks_persist(rt: HostRuntime) -> Result<(), Fail> {
     let alloc = rt.alloc();
-    let begun = persists::<LockService>(&rt, alloc, lock_tables(alloc)?, LOCKS)?
-        || persists::<LockService>(&rt, alloc, lock_tables(alloc)?, LOCKS)?;
+    let begun = persists::<LockService>(&rt, alloc, (), lock_tables(alloc)?, LOCKS)?
+        || persists::<LockService>(&rt, alloc, (), lock_tables(alloc)?, LOCKS)?;
     assert!(rt; begun);
     Ok(())
 }
@@ -389,8 +397,8 @@ fn locks_persist(rt: HostRuntime) -> Result<(), Fail> {
 #[test]
 fn events_persist(rt: HostRuntime) -> Result<(), Fail> {
     let alloc = rt.alloc();
-    let begun = persists::<EventService>(&rt, alloc, event_tables(alloc)?, EVENTS)?
-        || persists::<EventService>(&rt, alloc, event_tables(alloc)?, EVENTS)?;
+    let begun = persists::<EventService>(&rt, alloc, (), event_tables(alloc)?, EVENTS)?
+        || persists::<EventService>(&rt, alloc, (), event_tables(alloc)?, EVENTS)?;
     assert!(rt; begun);
     Ok(())
 }
@@ -398,8 +406,8 @@ fn events_persist(rt: HostRuntime) -> Result<(), Fail> {
 #[test]
 fn pages_persist(rt: HostRuntime) -> Result<(), Fail> {
     let alloc = rt.alloc();
-    let begun = persists::<MmService>(&rt, alloc, mm_tables(alloc)?, PAGES)?
-        || persists::<MmService>(&rt, alloc, mm_tables(alloc)?, PAGES)?;
+    let begun = persists::<MmService>(&rt, alloc, (), mm_tables(alloc)?, PAGES)?
+        || persists::<MmService>(&rt, alloc, (), mm_tables(alloc)?, PAGES)?;
     assert!(rt; begun);
     Ok(())
 }
@@ -407,8 +415,8 @@ fn pages_persist(rt: HostRuntime) -> Result<(), Fail> {
 #[test]
 fn files_persist(rt: HostRuntime) -> Result<(), Fail> {
     let alloc = rt.alloc();
-    let begun = persists::<RamfsService>(&rt, alloc, ramfs_tables(alloc)?, FILES)?
-        || persists::<RamfsService>(&rt, alloc, ramfs_tables(alloc)?, FILES)?;
+    let begun = persists::<RamfsService>(&rt, alloc, (), ramfs_tables(alloc)?, FILES)?
+        || persists::<RamfsService>(&rt, alloc, (), ramfs_tables(alloc)?, FILES)?;
     assert!(rt; begun);
     Ok(())
 }
@@ -416,8 +424,8 @@ fn files_persist(rt: HostRuntime) -> Result<(), Fail> {
 #[test]
 fn threads_persist(rt: HostRuntime) -> Result<(), Fail> {
     let alloc = rt.alloc();
-    let begun = persists::<SchedService>(&rt, alloc, sched_tables(alloc)?, THREADS)?
-        || persists::<SchedService>(&rt, alloc, sched_tables(alloc)?, THREADS)?;
+    let begun = persists::<SchedService>(&rt, alloc, (), sched_tables(alloc)?, THREADS)?
+        || persists::<SchedService>(&rt, alloc, (), sched_tables(alloc)?, THREADS)?;
     assert!(rt; begun);
     Ok(())
 }

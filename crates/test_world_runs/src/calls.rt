@@ -275,29 +275,29 @@ points 29
 #[test]
 fn each_call_at_locks(rt: HostRuntime) -> Result<(), Fail> {
     let alloc = rt.alloc();
-    Ok(play::<LockService>(alloc, lock_tables(alloc)?, LOCKS)?)
+    Ok(play::<LockService>(alloc, (), lock_tables(alloc)?, LOCKS)?)
 }
 
 #[test]
 fn each_call_at_events(rt: HostRuntime) -> Result<(), Fail> {
     let alloc = rt.alloc();
-    Ok(play::<EventService>(alloc, event_tables(alloc)?, EVENTS)?)
+    Ok(play::<EventService>(alloc, (), event_tables(alloc)?, EVENTS)?)
 }
 
 #[test]
 fn each_call_at_pages(rt: HostRuntime) -> Result<(), Fail> {
     let alloc = rt.alloc();
-    Ok(play::<MmService>(alloc, mm_tables(alloc)?, PAGES)?)
+    Ok(play::<MmService>(alloc, (), mm_tables(alloc)?, PAGES)?)
 }
 
 #[test]
 fn each_call_at_files(rt: HostRuntime) -> Result<(), Fail> {
     let alloc = rt.alloc();
-    Ok(play::<RamfsService>(alloc, ramfs_tables(alloc)?, FILES)?)
+    Ok(play::<RamfsService>(alloc, (), ramfs_tables(alloc)?, FILES)?)
 }
 
 #[test]
 fn each_call_at_threads(rt: HostRuntime) -> Result<(), Fail> {
     let alloc = rt.alloc();
-    Ok(play::<SchedService>(alloc, sched_tables(alloc)?, THREADS)?)
+    Ok(play::<SchedService>(alloc, (), sched_tables(alloc)?, THREADS)?)
 }

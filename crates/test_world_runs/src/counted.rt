@@ -173,7 +173,7 @@ points 16
 
 // Plays a text of events.
 fn plays(alloc: Global, text: &str) -> Result<(), Fail> {
-    Ok(play::<EventService>(alloc, event_tables(alloc)?, text)?)
+    Ok(play::<EventService>(alloc, (), event_tables(alloc)?, text)?)
 }
 
 #[test]

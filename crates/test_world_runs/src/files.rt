@@ -149,7 +149,7 @@ points 21
 
 // Plays a text of files.
 fn plays(alloc: Global, text: &str) -> Result<(), Fail> {
-    Ok(play::<RamfsService>(alloc, ramfs_tables(alloc)?, text)?)
+    Ok(play::<RamfsService>(alloc, (), ramfs_tables(alloc)?, text)?)
 }
 
 #[test]

@@ -243,7 +243,7 @@ points 25
 
 // Plays a text of locks.
 fn plays(alloc: Global, text: &str) -> Result<(), Fail> {
-    Ok(play::<LockService>(alloc, lock_tables(alloc)?, text)?)
+    Ok(play::<LockService>(alloc, (), lock_tables(alloc)?, text)?)
 }
 
 #[test]

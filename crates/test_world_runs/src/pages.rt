@@ -130,7 +130,7 @@ points 35
 
 // Plays a text of pages.
 fn plays(alloc: Global, text: &str) -> Result<(), Fail> {
-    Ok(play::<MmService>(alloc, mm_tables(alloc)?, text)?)
+    Ok(play::<MmService>(alloc, (), mm_tables(alloc)?, text)?)
 }
 
 #[test]

@@ -110,7 +110,7 @@ points 28
 
 // Plays a text of threads.
 fn plays(alloc: Global, text: &str) -> Result<(), Fail> {
-    Ok(play::<SchedService>(alloc, sched_tables(alloc)?, text)?)
+    Ok(play::<SchedService>(alloc, (), sched_tables(alloc)?, text)?)
 }
 
 #[test]
