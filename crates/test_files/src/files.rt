@@ -111,7 +111,7 @@ fn one_file(alloc: Global, length: usize) -> Result<RamfsService, Outcome>
         Ok(name) => name,
         Err(_) => return Err(Outcome::NoMemory),
     };
-    let mut service = RamfsService::fresh(alloc);
+    let mut service = RamfsService::fresh(alloc, ());
     match make(&mut service, alloc, name) {
         Outcome::Replied {
             reply: Reply::Ok(_),
@@ -248,7 +248,7 @@ fn writes_without_a_gap(rt: HostRuntime) -> Result<(), Fail> {
 // What making a root of a name answers.
 fn named(alloc: Global, name: &[u8]) -> Result<Answer, Outcome> {
     match Text::new(alloc, name) {
-        Ok(name) => answer_of(make(&mut RamfsService::fresh(alloc), alloc, name)),
+        Ok(name) => answer_of(make(&mut RamfsService::fresh(alloc, ()), alloc, name)),
         Err(_) => Err(Outcome::NoMemory),
     }
 }

@@ -64,7 +64,7 @@ fn below(
 
 // Makes a descriptor below three with the longest names, of a name of as many bytes.
 fn fourth(rt: &impl Abort, alloc: Global, length: usize) -> Result<Answer, Outcome> {
-    let mut service = RamfsService::fresh(alloc);
+    let mut service = RamfsService::fresh(alloc, ());
     make(&mut service, alloc, 0, 0, 64)?;
     below(rt, &mut service, alloc, 1, 1, 64)?;
     below(rt, &mut service, alloc, 2, 2, 64)?;

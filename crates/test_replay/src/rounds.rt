@@ -72,10 +72,15 @@ fn round<S: Service>(
 }
 
 // A round of a service under its tables.
-fn stops_and_boots<S: Service>(rt: &impl Abort, alloc: Global, tables: Tables) -> Result<(), Fail>
+fn stops_and_boots<S: Service>(
+    rt: &impl Abort,
+    alloc: Global,
+    image: S::Image,
+    tables: Tables,
+) -> Result<(), Fail>
     requires { tables.iface.facts ≡ S.facts }
 {
-    let mut engine = Engine::<S>::new(alloc, tables, 2)?;
+    let mut engine = Engine::<S>::new(alloc, image, tables, 2)?;
     let done = round(rt, alloc, &mut engine, &call(alloc, 1, 1, 0));
     discard(engine);
     done
@@ -84,29 +89,29 @@ fn stops_and_boots<S: Service>(rt: &impl Abort, alloc: Global, tables: Tables) -
 #[test]
 fn locks_stop_and_boot(rt: HostRuntime) -> Result<(), Fail> {
     let tables = lock_tables(rt.alloc())?;
-    stops_and_boots::<LockService>(&rt, rt.alloc(), tables)
+    stops_and_boots::<LockService>(&rt, rt.alloc(), (), tables)
 }
 
 #[test]
 fn events_stop_and_boot(rt: HostRuntime) -> Result<(), Fail> {
     let tables = event_tables(rt.alloc())?;
-    stops_and_boots::<EventService>(&rt, rt.alloc(), tables)
+    stops_and_boots::<EventService>(&rt, rt.alloc(), (), tables)
 }
 
 #[test]
 fn pages_stop_and_boot(rt: HostRuntime) -> Result<(), Fail> {
     let tables = mm_tables(rt.alloc())?;
-    stops_and_boots::<MmService>(&rt, rt.alloc(), tables)
+    stops_and_boots::<MmService>(&rt, rt.alloc(), (), tables)
 }
 
 #[test]
 fn files_stop_and_boot(rt: HostRuntime) -> Result<(), Fail> {
     let tables = ramfs_tables(rt.alloc())?;
-    stops_and_boots::<RamfsService>(&rt, rt.alloc(), tables)
+    stops_and_boots::<RamfsService>(&rt, rt.alloc(), (), tables)
 }
 
 #[test]
 fn threads_stop_and_boot(rt: HostRuntime) -> Result<(), Fail> {
     let tables = sched_tables(rt.alloc())?;
-    stops_and_boots::<SchedService>(&rt, rt.alloc(), tables)
+    stops_and_boots::<SchedService>(&rt, rt.alloc(), (), tables)
 }
