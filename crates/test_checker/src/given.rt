@@ -4,7 +4,7 @@ ghost use Rattle.sg_facts.specs.Facts.{facts_of};
 ghost use Rattle.sg_input.specs.sg_check.Shapes.{is_shape};
 
 use crate::answers::answer;
-use sg_facts::{Service, Shape};
+use sg_facts::Shape;
 use sg_input::CheckKind::{UnknownFunction, UnknownService};
 use sg_load::kind::{EventService, LockService};
 use std::test::Fail;

@@ -4,7 +4,7 @@ ghost use Rattle.sg_facts.specs.Facts.{facts_of};
 ghost use Rattle.sg_input.specs.sg_check.Shapes.{is_shape};
 
 use crate::answers::{Answer, accepted, answer};
-use sg_facts::{Effect, FieldShape, FunShape, Kind, Leaves, Parents, Service, Shape};
+use sg_facts::{Effect, FieldShape, FunShape, Kind, Leaves, Parents, Shape};
 use sg_input::CheckKind::NoWalk;
 use sg_input::compile;
 use sg_load::kind::LockService;

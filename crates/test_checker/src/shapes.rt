@@ -9,7 +9,7 @@ ghost use Rattle.sg_load.specs.Services.sg_sched.SchedFacts.{sched_facts};
 ghost use Rattle.sg_load.specs.Services.sg_timer.TimerFacts.{timer_facts};
 ghost use Rattle.sg_input.specs.sg_check.Shapes.{are_shapes};
 
-use sg_facts::{Service, Shape};
+use sg_facts::Shape;
 use sg_load::kind::{
     EventService, LockService, MmService, RamfsService, SchedService, TimerService,
 };

@@ -2,7 +2,7 @@
 ghost use Rattle.sg_facts.specs.Interface.{HasFewFields};
 
 use crate::interfaces::{Pairs, interface};
-use sg_facts::{Interface, NoMemory, Service, Shape};
+use sg_facts::{Interface, NoMemory, Shape};
 use sg_input::{Triple, reachable};
 use sg_load::kind::{EventService, LockService, RamfsService};
 use std::alloc::Global;

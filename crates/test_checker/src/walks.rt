@@ -2,7 +2,7 @@
 ghost use Rattle.sg_facts.specs.Interface.{HasFewFields};
 
 use crate::interfaces::{Pairs, interface};
-use sg_facts::{FunShape, Interface, Leaves, NoMemory, Parents, Service, Shape, Walk};
+use sg_facts::{FunShape, Interface, Leaves, NoMemory, Parents, Shape, Walk};
 use sg_input::{restores, shortest};
 use sg_load::kind::{
     EventService, LockService, MmService, RamfsService, SchedService, TimerService,

@@ -6,7 +6,7 @@ ghost use Rattle.test_tables.specs.sg_lock.LockFacts.{lock_facts};
 ghost use Rattle.test_tables.specs.sg_event.EventFacts.{event_facts};
 ghost use Rattle.test_tables.specs.sg_ramfs.RamfsFacts.{ramfs_facts};
 
-use sg_facts::{Service, Shape};
+use sg_facts::Shape;
 use test_tables::{EventService, LockService, RamfsService};
 
 /// The shapes of locks, events and files. A text may be checked against them.

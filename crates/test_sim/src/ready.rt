@@ -4,7 +4,7 @@ ghost use Rattle.sg_edge.specs.Stops.{AscendsAbove};
 ghost use Rattle.sg_lock.specs.LockFacts.{lock_facts};
 ghost use Rattle.sg_sim.specs.sg_plain.Playing.Playable.{IsPlayable};
 
-use sg_facts::{Bytes, Service};
+use sg_facts::Bytes;
 use sg_input::{Accepted, Input, Script, read_input};
 use sg_lock::LockService;
 use std::alloc::Global;

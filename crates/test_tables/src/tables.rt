@@ -9,7 +9,7 @@ ghost use Rattle.sg_ramfs.specs.RamfsFacts.{ramfs_facts};
 ghost use Rattle.sg_sched.specs.SchedFacts.{sched_facts};
 
 use sg_event::event_shape;
-use sg_facts::{Service, Shape, Tables};
+use sg_facts::{Shape, Tables};
 use sg_lock::LockService;
 use sg_mm::mm_shape;
 use sg_ramfs::ramfs_shape;
