@@ -47,6 +47,8 @@ pub fn explore<R: Threads + Sync, S: Service + Send, P: Progress>(
     most: u64,
     progress: &P,
 ) -> Result<Explored, NoMemory>
+where
+    S::Image: Sync,
     requires service { accepted.now.facts ≡ S.facts }
     requires waits { no_query_waits S.facts ≡ true }
     requires playable { IsPlayable accepted.now script.now }
@@ -99,6 +101,8 @@ fn explore_all<R: Threads + Sync, S: Service + Send, P: Progress>(
     most: u64,
     meter: &Meter<P>,
 ) -> Result<Tally, NoMemory>
+where
+    S::Image: Sync,
     requires service { accepted.now.facts ≡ S.facts }
     requires waits { no_query_waits S.facts ≡ true }
     requires playable { IsPlayable accepted.now script.now }
@@ -143,6 +147,8 @@ fn explore_pairs<R: Threads + Sync, S: Service + Send, P: Progress>(
     meter: &Meter<P>,
     tally: &mut Tally,
 ) -> Result<(), NoMemory>
+where
+    S::Image: Sync,
     requires service { accepted.now.facts ≡ S.facts }
     requires waits { no_query_waits S.facts ≡ true }
     requires playable { IsPlayable accepted.now script.now }
@@ -176,6 +182,8 @@ fn explore_row<R: Threads + Sync, S: Service + Send, P: Progress>(
     meter: &Meter<P>,
     tally: &mut Tally,
 ) -> Result<(), NoMemory>
+where
+    S::Image: Sync,
     requires service { accepted.now.facts ≡ S.facts }
     requires waits { no_query_waits S.facts ≡ true }
     requires playable { IsPlayable accepted.now script.now }

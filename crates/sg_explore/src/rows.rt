@@ -40,6 +40,8 @@ pub(crate) fn outcomes_of<R: Threads + Sync, S: Service + Send>(
     plain: &Ended,
     row: Row,
 ) -> Result<Vec<Result<Outcome, NoMemory>>, NoMemory>
+where
+    S::Image: Sync,
     requires service { accepted.now.facts ≡ S.facts }
     requires waits { no_query_waits S.facts ≡ true }
     requires playable { IsPlayable accepted.now script.now }

@@ -10,11 +10,12 @@ ghost use Rattle.sg_facts.specs.Laws.{AnswersAndKeeps, AnswersAlike, BlockedStay
 use crate::Outcome;
 use sg_records::{Call, NoMemory, Path, Stops};
 use std::alloc::Global;
+use std::fmt::Debug;
 
 /// A service: it holds rows under ids of its own, and files, and answers calls by its table.
 pub trait Service: Sized + Drop {
     /// What each boot makes a fresh value of: all that outlives a stop but storage. Nothing changes it.
-    type Image: Copy;
+    type Image: Copy + Debug;
 
     /// Its shape, as plain data.
     ghost facts: { Facts };

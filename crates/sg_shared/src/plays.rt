@@ -55,6 +55,8 @@ pub fn share<R: Threads + Wait + Sync, S: Service + Send, G: Gate>(
     script: Script,
     gate: &G,
 ) -> Result<Played, NoMemory>
+where
+    S::Image: Send,
     requires service { accepted.now.facts ≡ S.facts }
     requires waits { no_query_waits S.facts ≡ true }
     requires playable { IsPlayable accepted.now script }

@@ -35,6 +35,8 @@ pub fn run<R: Threads + Wait + Sync, S: Service + Send, G: Gate>(
     script: Script,
     gate: &G,
 ) -> Result<Played, NoMemory>
+where
+    S::Image: Send,
     requires service { tables.iface.facts ≡ S.facts }
     requires playable { IsPlayable tables.iface script }
     requires waits { no_query_waits tables.iface.facts ≡ true }
@@ -56,6 +58,8 @@ fn run_named<R: Threads + Wait + Sync, S: Service + Send, G: Gate, N: Naming + S
     stops: AtPoints,
     gate: &G,
 ) -> Result<Played, NoMemory>
+where
+    S::Image: Send,
     requires tables { tables ≡ N.tables }
     requires script { script ≡ N.script }
     requires clients { N.clients ≡ most_client N.script.clients }

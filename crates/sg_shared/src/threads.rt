@@ -51,6 +51,8 @@ pub fn play_clients<R: Threads + Wait + Sync, S: Service + Send, N: Naming + Sen
     stage: Stage<'_, S, N, G>,
     passes: PassList<PlayedWorld<S, N>>,
 ) -> PassList<PlayedWorld<S, N>>
+where
+    S::Image: Send,
     requires script { stage.script.now ≡ N.script }
     requires interface { stage.interface.now ≡ N.tables.iface }
     requires playable { IsPlayable N.tables.iface N.script }
@@ -67,6 +69,8 @@ fn play_all<R: Threads + Wait + Sync, S: Service + Send, N: Naming + Send + Sync
     stage: &Stage<'_, S, N, G>,
     passes: PassList<PlayedWorld<S, N>>,
 ) -> PassList<PlayedWorld<S, N>>
+where
+    S::Image: Send,
     requires script { stage.now.script.now ≡ N.script }
     requires interface { stage.now.interface.now ≡ N.tables.iface }
     requires playable { IsPlayable N.tables.iface N.script }
@@ -94,6 +98,8 @@ fn play_rest<'s, E, R: Threads + Wait + Sync, S: Service + Send, N: Naming + Sen
     stage: &'s Stage<'_, S, N, G>,
     mut passes: PassList<PlayedWorld<S, N>>,
 ) -> PassList<PlayedWorld<S, N>>
+where
+    S::Image: Send,
     requires script { stage.now.script.now ≡ N.script }
     requires interface { stage.now.interface.now ≡ N.tables.iface }
     requires playable { IsPlayable N.tables.iface N.script }

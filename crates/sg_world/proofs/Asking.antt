@@ -55,7 +55,7 @@ missing_same e new needs same =
         ∙ ap (λ b. if is_empty (bytes_of e.stored key) || b then None else Some Load) (same.present key)
 
 -- the service of parts that stand in order may be asked a client's call, by an engine that shows the same and has taken its memory
-pub record MayBeServed {S T : Type 0} (facts : Facts) (ask : Table) (sound : Object → Type 0) (parts : ℕ → ℕ) (test : ℕ → List ℕ → List ℕ → Type 0) (asked : T → ℕ) (struck plan : T → List ℕ) (x : Inner S T) (client : ℕ) (file : Option (List ℕ))
+pub record MayBeServed {S T I : Type 0} (facts : Facts) (ask : Table) (sound : Object → Type 0) (parts : ℕ → ℕ) (test : ℕ → List ℕ → List ℕ → Type 0) (asked : T → ℕ) (struck plan : T → List ℕ) (x : Inner S T I) (client : ℕ) (file : Option (List ℕ))
     (e : Engined) : Type 0 where
   pub order : IsInOrder facts ask sound parts test asked struck plan x
   pub first : 1 ≤ client
@@ -77,7 +77,7 @@ pub record HasAsked {T : Type 0} (test : ℕ → List ℕ → List ℕ → Type 
   pub plan_kept : plan stops ≡ plan before
   pub tested : test (asked stops) (struck stops) (plan stops)
 
-module _ {S T : Type 0} {facts : Facts} {ask : Table} {sound : Object → Type 0} {parts : ℕ → ℕ} {test : ℕ → List ℕ → List ℕ → Type 0} {asked : T → ℕ} {struck plan : T → List ℕ} {x : Inner S T} {client : ℕ} {file : Option (List ℕ)} {e : Engined}
+module _ {S T I : Type 0} {facts : Facts} {ask : Table} {sound : Object → Type 0} {parts : ℕ → ℕ} {test : ℕ → List ℕ → List ℕ → Type 0} {asked : T → ℕ} {struck plan : T → List ℕ} {x : Inner S T I} {client : ℕ} {file : Option (List ℕ)} {e : Engined}
     (m : MayBeServed facts ask sound parts test asked struck plan x client file e) where
   open m use {order, first, last, let_in, up, file_is, whole, same, tables, places}
 

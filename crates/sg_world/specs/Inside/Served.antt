@@ -20,7 +20,7 @@ use Rattle.sg_world.specs.Worlded.{CountsPoints, IsWorld, view_of}
 use Rattle.sg_world_laws.specs.Setting.{Setting}
 
 -- the parts with another engine, as plain data
-abbrev pub view_with : {S T : Type 0} → Engined → Inner S T → WorldView
+abbrev pub view_with : {S T I : Type 0} → Engined → Inner S T I → WorldView
 view_with e x = view_of e x.history.items x.clients x.withdrawn.items x.marks.items x.events x.refused
 
 -- the engine had the memory of a call with a needed file
@@ -32,7 +32,7 @@ pub record HasRooms (e : Engined) (file : Option (List ℕ)) : Type 0 where
 
 -- the service of an engine that stood in a world was asked the call of a client that it may be asked, and replied. The engine has the
 -- item since, and the name that the reply made; nothing else has changed
-pub record HasServed {S T : Type 0} (z : Setting) (test : ℕ → List ℕ → List ℕ → Type 0) (asked : T → ℕ) (struck plan : T → List ℕ) (x : Inner S T) (client : ℕ) (reply : Reply) (patch : Option Patch) : Type 0 where
+pub record HasServed {S T I : Type 0} (z : Setting) (test : ℕ → List ℕ → List ℕ → Type 0) (asked : T → ℕ) (struck plan : T → List ℕ) (x : Inner S T I) (client : ℕ) (reply : Reply) (patch : Option Patch) : Type 0 where
   pub before : Engined
   pub points : Points
   pub world : IsWorld z before (view_with before x) (rooms_in x)
