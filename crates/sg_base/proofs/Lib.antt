@@ -1,2 +1,5 @@
+pub mod ReadBack
+pub mod RoomLess
+pub mod SameParts
 pub mod SameValues
 pub mod Texts

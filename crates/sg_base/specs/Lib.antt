@@ -3,7 +3,10 @@ pub mod Codes
 pub mod Counts
 pub mod Few
 pub mod Inside
+pub mod Kinds
+pub mod Lent
 pub mod Lists
+pub mod Records
 pub mod Reply
 pub mod Room
 pub mod Spare

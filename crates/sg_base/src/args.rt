@@ -4,7 +4,7 @@ ghost use Rattle.std.specs.Option.{option_map};
 ghost use Rattle.std.specs.Cmp.Lexicographic.{pointwise};
 ghost use Rattle.sg_base.specs.Args.{args_in, value_in};
 ghost use Rattle.sg_base.specs.Few.{few_in};
-ghost use Rattle.sg_base.specs.Inside.{args_of};
+ghost use Rattle.sg_base.specs.Inside.Kept.{args_of};
 ghost use Rattle.sg_base.specs.Values.{same_value};
 ghost use Rattle.sg_base.specs.declared.value.Value.TheVariants.{Word as IsWord};
 
@@ -47,7 +47,7 @@ pub enum LentValue<'a> {
 impl Model for Args {
     ghost use Rattle.std.specs.Prelude.{List};
     ghost use Rattle.sg_base.specs.declared.value.Value.{Value as IsValue};
-    ghost use Rattle.sg_base.specs.Inside.{args_of};
+    ghost use Rattle.sg_base.specs.Inside.Kept.{args_of};
 
     ghost Value = { List IsValue };
 

@@ -2,7 +2,7 @@
 ghost use Rattle.std.specs.Prelude.{◌≡◌, ◌↔◌, ◌≤◌, [], ◌∷◌, ◌++◌, length, IsTrue, IsOk, IfOk, OnOk, OnErr, slice_get};
 ghost use Rattle.std.specs.Option.{option_copied};
 ghost use Rattle.sg_base.specs.Few.{few_in, most_few};
-ghost use Rattle.sg_base.specs.Inside.{words_of};
+ghost use Rattle.sg_base.specs.Inside.Kept.{words_of};
 
 use crate::few::FewWords;
 use crate::{NoMemory, TryCopy};
@@ -25,7 +25,7 @@ pub(crate) enum KeptWords {
 
 impl Model for Words {
     ghost use Rattle.std.specs.Prelude.{List, ℕ};
-    ghost use Rattle.sg_base.specs.Inside.{words_of};
+    ghost use Rattle.sg_base.specs.Inside.Kept.{words_of};
 
     ghost Value = { List ℕ };
 

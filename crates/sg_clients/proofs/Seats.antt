@@ -3,7 +3,7 @@ use Rattle.std.proofs.Common.{List, [], ◌∷◌, ap, arith, get_or, length, ma
 use Rattle.std.specs.Prelude.{slice_index_or}
 use Rattle.std.proofs.lemmas.List.{get_or_default, set-get_or}
 use Rattle.std.proofs.lemmas.Option.{unwrap_or-slice_get}
-use Rattle.sg_seat.specs.WorldView.{Seat, no_seat, seat_in}
+use Rattle.sg_clients.specs.WorldView.{Seat, no_seat, seat_in}
 
 -- a client's seat is read at a place
 pub record Reads (inside seats : List Seat) (at client : ℕ) (x : Seat) : Type 0 where

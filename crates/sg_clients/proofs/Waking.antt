@@ -8,9 +8,9 @@ use Rattle.std.proofs.lemmas.Option.{unwrap_or-slice_get}
 use Rattle.sg_facts.specs.sg_base.declared.call.Call.{Call}
 use Rattle.sg_clients.specs.Inside.Waiting.{count_if_waits, waiting_in}
 use Rattle.sg_clients.proofs.Seats.{Reads, all_kept, is_read}
-use Rattle.sg_seat.specs.WorldView.{IsFree, Seat, is_blocked_phase, no_seat, seat_in, woken_seat}
-use Rattle.sg_seat.specs.declared.phase.Phase.{Phase}
-use Rattle.sg_seat.specs.declared.phase.Phase.TheVariants.{Idle, Asked, Held, Receipted, Blocked, Left}
+use Rattle.sg_clients.specs.WorldView.{IsFree, Seat, is_blocked_phase, no_seat, seat_in, woken_seat}
+use Rattle.sg_clients.specs.declared.phase.Phase.{Phase}
+use Rattle.sg_clients.specs.declared.phase.Phase.TheVariants.{Idle, Asked, Held, Receipted, Blocked, Left}
 
 -- ---- one seat changes
 

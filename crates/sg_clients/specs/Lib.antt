@@ -1,4 +1,5 @@
 pub mod Clients
 pub mod Inside
 pub mod Rooms
-pub use Rattle.sg_seat.specs as sg_seat
+pub mod WorldView
+pub use Rattle.sg_hist.specs as sg_hist

@@ -8,8 +8,8 @@ use Rattle.sg_facts.specs.sg_base.Spare.{HasReplyRoom}
 use Rattle.sg_clients.specs.declared.seat.SeatRoom.{SeatRoom}
 use Rattle.sg_clients.specs.declared.seat.SeatSpare.{SeatSpare}
 use Rattle.sg_facts.specs.Limits.{last_client}
-use Rattle.sg_seat.specs.WorldView.{is_offered}
-use Rattle.sg_seat.specs.declared.phase.Phase.{Phase}
+use Rattle.sg_clients.specs.WorldView.{is_offered}
+use Rattle.sg_clients.specs.declared.phase.Phase.{Phase}
 
 -- room for the reply of a call's entry, for the reply that is handed over, and for as many phases as there may be clients
 pub record HasSeatRoom (spare : SeatSpare) : Type 0 where

@@ -6,12 +6,12 @@ ghost use Rattle.sg_facts.specs.sg_base.Reply.{FitsReplyRoom};
 ghost use Rattle.sg_clients.specs.Inside.Waiting.{count_if_waits, waiting_in};
 ghost use Rattle.sg_clients.specs.Rooms.{FitsSeatRoom};
 ghost use Rattle.sg_facts.specs.Limits.{last_client};
-ghost use Rattle.sg_seat.specs.WorldView.{IsFree, is_at_rest, is_left_phase, is_offered, no_reply, no_seat, seat_in, woken_seat};
-ghost use Rattle.sg_seat.specs.declared.phase.Phase.TheVariants.{Idle, Asked, Held, Receipted, Blocked, Left};
+ghost use Rattle.sg_clients.specs.WorldView.{IsFree, is_at_rest, is_left_phase, is_offered, no_reply, no_seat, seat_in, woken_seat};
+ghost use Rattle.sg_clients.specs.declared.phase.Phase.TheVariants.{Idle, Asked, Held, Receipted, Blocked, Left};
 
 use crate::seat::{ClientSeat, Returned, SeatRoom};
+use crate::{Phase, Withdrawn};
 use sg_facts::{Call, Entry, ListOf, NoMemory, Reply};
-use sg_seat::{Phase, Withdrawn};
 use std::alloc::Global;
 use std::marker::Model;
 
@@ -25,7 +25,7 @@ pub struct Clients {
 
 impl Model for Clients {
     ghost use Rattle.std.specs.Prelude.{List};
-    ghost use Rattle.sg_seat.specs.WorldView.{Seat};
+    ghost use Rattle.sg_clients.specs.WorldView.{Seat};
 
     ghost Value = { List Seat };
 

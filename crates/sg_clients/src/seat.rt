@@ -2,14 +2,14 @@
 ghost use Rattle.std.specs.Prelude.{◌≡◌, ◌<◌, ◌^◌, true, Some, IsSome, OnErr, OnOk};
 ghost use Rattle.sg_facts.specs.sg_base.Reply.{FitsReplyRoom};
 ghost use Rattle.sg_clients.specs.Rooms.{FitsSeatRoom, HasSeatRoom};
-ghost use Rattle.sg_seat.specs.WorldView.{is_at_rest, is_blocked_phase, is_left_phase, is_offered, no_reply, no_seat, woken_seat};
-ghost use Rattle.sg_seat.specs.declared.phase.Phase.TheVariants.{Idle, Asked, Held, Receipted, Blocked, Left};
+ghost use Rattle.sg_clients.specs.WorldView.{is_at_rest, is_blocked_phase, is_left_phase, is_offered, no_reply, no_seat, woken_seat};
+ghost use Rattle.sg_clients.specs.declared.phase.Phase.TheVariants.{Idle, Asked, Held, Receipted, Blocked, Left};
 
+use crate::Phase;
 use sg_facts::{
     Args, Bytes, Call, Entry, Good, LAST_CLIENT, NoMemory, Reply, SpareList, SpareReply, TryCopy,
     Words,
 };
-use sg_seat::Phase;
 use std::alloc::Global;
 use std::marker::Model;
 use std::mem;
@@ -78,7 +78,7 @@ pub(crate) struct ClientSeat {
 
 impl Model for ClientSeat {
     ghost use Rattle.sg_clients.specs.Rooms.{KeepsRoom};
-    ghost use Rattle.sg_seat.specs.WorldView.{Seat};
+    ghost use Rattle.sg_clients.specs.WorldView.{Seat};
 
     ghost Value = { Seat };
 

@@ -3,7 +3,7 @@ ghost use Rattle.std.specs.Prelude.{map};
 ghost use Rattle.sg_facts.specs.Kinds.{AreWords};
 ghost use Rattle.sg_facts.specs.sg_base.Lists.{Each};
 ghost use Rattle.sg_facts.specs.sg_base.declared.value.Value.TheVariants.{Word};
-ghost use Rattle.sg_facts.specs.sg_records.Lent.{args_in};
+ghost use Rattle.sg_facts.specs.sg_base.Lent.{args_in};
 
 use sg_facts::{LentArgs, LentCall, Value};
 use sg_report::History;

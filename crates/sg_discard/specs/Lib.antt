@@ -1,1 +1,1 @@
-pub use Rattle.sg_world.specs.sg_seat
+pub use Rattle.sg_world.specs.sg_clients

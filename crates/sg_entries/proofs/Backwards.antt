@@ -18,17 +18,17 @@ use Rattle.sg_entries.specs.Reads.{AreEntries}
 use Rattle.sg_entries.specs.Inside.Parsing.{IsHistory}
 use Rattle.sg_entries.specs.Standing.{entry_of}
 use Rattle.sg_facts.specs.sg_base.Codes.{code_name}
-use Rattle.sg_entry_parse.specs.Entry.{answer_pieces, arg_pieces, entry_pieces}
-use Rattle.sg_entry_parse.specs.Inside.Forms.{IsWellFormed, args_pieces, bytes_pieces, desc_pieces, entry_bytes, next_arg_pieces, word_pieces}
-use Rattle.sg_entry_parse.specs.Pieces.{ArePlaced, EntryPiece, IsPiece, IsPositive, fixed, name, number, piece_bytes, positive, printable}
-use Rattle.sg_entry_parse.specs.Inside.Classes.{IsName, IsNumber}
-use Rattle.sg_entry_parse.specs.sg_lex.Lexeme.{Spelling}
-use Rattle.sg_entry_parse.specs.declared.tree.WrittenAnswer.{WrittenAnswer}
-use Rattle.sg_entry_parse.specs.declared.tree.WrittenAnswer.TheVariants.{Refused as refused, Ok as good}
-use Rattle.sg_entry_parse.specs.declared.tree.WrittenArg.{WrittenArg}
-use Rattle.sg_entry_parse.specs.declared.tree.WrittenArg.TheVariants.{Number, Text as text}
-use Rattle.sg_entry_parse.specs.declared.tree.WrittenEntry.{WrittenEntry}
-use Rattle.sg_entry_parse.specs.sg_lex.Bytes.{begins_word, is_in_word}
+use Rattle.sg_entries.specs.Entry.{answer_pieces, arg_pieces, entry_pieces}
+use Rattle.sg_entries.specs.Inside.Forms.{IsWellFormed, args_pieces, bytes_pieces, desc_pieces, entry_bytes, next_arg_pieces, word_pieces}
+use Rattle.sg_entries.specs.Pieces.{ArePlaced, EntryPiece, IsPiece, IsPositive, fixed, name, number, piece_bytes, positive, printable}
+use Rattle.sg_entries.specs.Inside.Classes.{IsName, IsNumber}
+use Rattle.sg_entries.specs.sg_lex.Lexeme.{Spelling}
+use Rattle.sg_entries.specs.declared.tree.WrittenAnswer.{WrittenAnswer}
+use Rattle.sg_entries.specs.declared.tree.WrittenAnswer.TheVariants.{Refused as refused, Ok as good}
+use Rattle.sg_entries.specs.declared.tree.WrittenArg.{WrittenArg}
+use Rattle.sg_entries.specs.declared.tree.WrittenArg.TheVariants.{Number, Text as text}
+use Rattle.sg_entries.specs.declared.tree.WrittenEntry.{WrittenEntry}
+use Rattle.sg_entries.specs.sg_lex.Bytes.{begins_word, is_in_word}
 use Rattle.sg_facts.specs.Interface.{Declared}
 use Rattle.sg_facts.specs.Words.{line_end}
 use Rattle.sg_facts.specs.declared.entry.Entry.{Entry}

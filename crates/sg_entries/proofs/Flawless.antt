@@ -19,11 +19,11 @@ use Rattle.sg_entries.specs.Inside.Standing.{fun_of}
 use Rattle.sg_entries.specs.declared.error.EntriesError.{EntriesError}
 use Rattle.sg_entries.specs.declared.error.EntriesKind.{EntriesKind}
 use Rattle.sg_entries.specs.declared.error.EntriesKind.TheVariants.{BadArgs, BadClient, Limit}
-use Rattle.sg_entry_parse.specs.Parses.{EntryParses}
-use Rattle.sg_entry_parse.specs.sg_lex.Lexeme.{Spelling}
-use Rattle.sg_entry_parse.specs.declared.tree.WrittenArg.{WrittenArg}
-use Rattle.sg_entry_parse.specs.declared.tree.WrittenArg.TheVariants.{Number, Text as text}
-use Rattle.sg_entry_parse.specs.declared.tree.WrittenEntry.{WrittenEntry}
+use Rattle.sg_entries.specs.Parses.{EntryParses}
+use Rattle.sg_entries.specs.sg_lex.Lexeme.{Spelling}
+use Rattle.sg_entries.specs.declared.tree.WrittenArg.{WrittenArg}
+use Rattle.sg_entries.specs.declared.tree.WrittenArg.TheVariants.{Number, Text as text}
+use Rattle.sg_entries.specs.declared.tree.WrittenEntry.{WrittenEntry}
 use Rattle.sg_facts.specs.Facts.{Fun, fun_at, no_fun, takes_desc, takes_parent}
 use Rattle.sg_facts.specs.Interface.{Declared, declares}
 use Rattle.sg_facts.specs.Kinds.{AreWords, kinds_fit}

@@ -15,16 +15,16 @@ use Rattle.sg_entries.specs.Order.{IsNotAfter}
 use Rattle.sg_entries.specs.Reads.{AreEntries}
 use Rattle.sg_entries.specs.declared.error.EntriesKind.{EntriesKind}
 use Rattle.sg_entries.specs.declared.error.EntriesKind.TheVariants.{BadArgs, BadClient, Limit}
-use Rattle.sg_entry_parse.specs.Entry.{IsEntry, answer_pieces, arg_pieces}
-use Rattle.sg_entry_parse.specs.Inside.Forms.{args_pieces, bytes_pieces, desc_pieces, next_arg_pieces, word_pieces}
-use Rattle.sg_entry_parse.specs.Pieces.{ArePlaced, EntryPiece, IsPositive, fixed, number, piece_bytes}
-use Rattle.sg_entry_parse.specs.Inside.Classes.{IsName, IsNumber}
-use Rattle.sg_entry_parse.specs.sg_lex.Lexeme.{Spelling}
-use Rattle.sg_entry_parse.specs.declared.tree.WrittenAnswer.{WrittenAnswer}
-use Rattle.sg_entry_parse.specs.declared.tree.WrittenAnswer.TheVariants.{Refused, Ok as good}
-use Rattle.sg_entry_parse.specs.declared.tree.WrittenArg.{WrittenArg}
-use Rattle.sg_entry_parse.specs.declared.tree.WrittenArg.TheVariants.{Number, Text}
-use Rattle.sg_entry_parse.specs.declared.tree.WrittenEntry.{WrittenEntry}
+use Rattle.sg_entries.specs.Entry.{IsEntry, answer_pieces, arg_pieces}
+use Rattle.sg_entries.specs.Inside.Forms.{args_pieces, bytes_pieces, desc_pieces, next_arg_pieces, word_pieces}
+use Rattle.sg_entries.specs.Pieces.{ArePlaced, EntryPiece, IsPositive, fixed, number, piece_bytes}
+use Rattle.sg_entries.specs.Inside.Classes.{IsName, IsNumber}
+use Rattle.sg_entries.specs.sg_lex.Lexeme.{Spelling}
+use Rattle.sg_entries.specs.declared.tree.WrittenAnswer.{WrittenAnswer}
+use Rattle.sg_entries.specs.declared.tree.WrittenAnswer.TheVariants.{Refused, Ok as good}
+use Rattle.sg_entries.specs.declared.tree.WrittenArg.{WrittenArg}
+use Rattle.sg_entries.specs.declared.tree.WrittenArg.TheVariants.{Number, Text}
+use Rattle.sg_entries.specs.declared.tree.WrittenEntry.{WrittenEntry}
 use Rattle.sg_facts.specs.Interface.{Declared}
 use Rattle.sg_facts.specs.sg_base.Lists.{Each}
 use Rattle.sg_script.specs.Scripts.{declared_fun}

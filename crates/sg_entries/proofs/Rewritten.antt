@@ -16,16 +16,16 @@ use Rattle.sg_entries.specs.Standing.{args_in, entry_of, id_in, number_of, value
 use Rattle.sg_entries.specs.Inside.Standing.{bytes_of, desc_of, fun_of, reply_of}
 use Rattle.sg_entries.specs.declared.error.EntriesKind.{EntriesKind}
 use Rattle.sg_entries.specs.declared.error.EntriesKind.TheVariants.{BadArgs, BadClient, Limit}
-use Rattle.sg_entry_parse.specs.Entry.{IsAnswer, answer_pieces, arg_pieces}
-use Rattle.sg_entry_parse.specs.Inside.Forms.{IsWellFormed, args_pieces, bytes_pieces, desc_pieces, next_arg_pieces, word_pieces}
-use Rattle.sg_entry_parse.specs.Pieces.{ArePlaced, EntryPiece, IsPositive, fixed, piece_bytes}
-use Rattle.sg_entry_parse.specs.Inside.Classes.{IsNumber, is_first_digit}
-use Rattle.sg_entry_parse.specs.sg_lex.Lexeme.{Spelling}
-use Rattle.sg_entry_parse.specs.declared.tree.WrittenAnswer.{WrittenAnswer}
-use Rattle.sg_entry_parse.specs.declared.tree.WrittenAnswer.TheVariants.{Refused as refused, Ok as good}
-use Rattle.sg_entry_parse.specs.declared.tree.WrittenArg.{WrittenArg}
-use Rattle.sg_entry_parse.specs.declared.tree.WrittenArg.TheVariants.{Number, Text as text}
-use Rattle.sg_entry_parse.specs.declared.tree.WrittenEntry.{WrittenEntry}
+use Rattle.sg_entries.specs.Entry.{IsAnswer, answer_pieces, arg_pieces}
+use Rattle.sg_entries.specs.Inside.Forms.{IsWellFormed, args_pieces, bytes_pieces, desc_pieces, next_arg_pieces, word_pieces}
+use Rattle.sg_entries.specs.Pieces.{ArePlaced, EntryPiece, IsPositive, fixed, piece_bytes}
+use Rattle.sg_entries.specs.Inside.Classes.{IsNumber, is_first_digit}
+use Rattle.sg_entries.specs.sg_lex.Lexeme.{Spelling}
+use Rattle.sg_entries.specs.declared.tree.WrittenAnswer.{WrittenAnswer}
+use Rattle.sg_entries.specs.declared.tree.WrittenAnswer.TheVariants.{Refused as refused, Ok as good}
+use Rattle.sg_entries.specs.declared.tree.WrittenArg.{WrittenArg}
+use Rattle.sg_entries.specs.declared.tree.WrittenArg.TheVariants.{Number, Text as text}
+use Rattle.sg_entries.specs.declared.tree.WrittenEntry.{WrittenEntry}
 use Rattle.sg_facts.specs.Facts.{Fun, fun_at, takes_desc, takes_parent}
 use Rattle.sg_facts.specs.Interface.{Declared}
 use Rattle.sg_facts.specs.Kinds.{AreWords, kinds_fit}

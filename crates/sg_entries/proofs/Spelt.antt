@@ -24,16 +24,16 @@ use Rattle.sg_entries.specs.Standing.{args_in, entry_of, id_in, number_of, value
 use Rattle.sg_entries.specs.Inside.Standing.{bytes_of, desc_of, fun_of, reply_of}
 use Rattle.sg_entries.specs.declared.error.EntriesKind.TheVariants.{Limit}
 use Rattle.sg_facts.specs.sg_base.Codes.{code_name, code_name as written_code}
-use Rattle.sg_entry_parse.specs.Entry.{IsAnswer, IsEntry, answer_pieces, arg_pieces, entry_pieces}
-use Rattle.sg_entry_parse.specs.Inside.Forms.{args_pieces, bytes_pieces, desc_pieces, next_arg_pieces, shows_bytes as shows, word_pieces}
-use Rattle.sg_entry_parse.specs.Pieces.{ArePlaced, EntryPiece, IsPiece, IsPositive, fixed, name, number, piece_bytes, positive, printable}
-use Rattle.sg_entry_parse.specs.Inside.Classes.{IsNumber}
-use Rattle.sg_entry_parse.specs.sg_lex.Lexeme.{Spelling}
-use Rattle.sg_entry_parse.specs.declared.tree.WrittenAnswer.{WrittenAnswer}
-use Rattle.sg_entry_parse.specs.declared.tree.WrittenAnswer.TheVariants.{Refused as refused, Ok as good}
-use Rattle.sg_entry_parse.specs.declared.tree.WrittenArg.{WrittenArg}
-use Rattle.sg_entry_parse.specs.declared.tree.WrittenArg.TheVariants.{Number, Text as text}
-use Rattle.sg_entry_parse.specs.declared.tree.WrittenEntry.{WrittenEntry}
+use Rattle.sg_entries.specs.Entry.{IsAnswer, IsEntry, answer_pieces, arg_pieces, entry_pieces}
+use Rattle.sg_entries.specs.Inside.Forms.{args_pieces, bytes_pieces, desc_pieces, next_arg_pieces, shows_bytes as shows, word_pieces}
+use Rattle.sg_entries.specs.Pieces.{ArePlaced, EntryPiece, IsPiece, IsPositive, fixed, name, number, piece_bytes, positive, printable}
+use Rattle.sg_entries.specs.Inside.Classes.{IsNumber}
+use Rattle.sg_entries.specs.sg_lex.Lexeme.{Spelling}
+use Rattle.sg_entries.specs.declared.tree.WrittenAnswer.{WrittenAnswer}
+use Rattle.sg_entries.specs.declared.tree.WrittenAnswer.TheVariants.{Refused as refused, Ok as good}
+use Rattle.sg_entries.specs.declared.tree.WrittenArg.{WrittenArg}
+use Rattle.sg_entries.specs.declared.tree.WrittenArg.TheVariants.{Number, Text as text}
+use Rattle.sg_entries.specs.declared.tree.WrittenEntry.{WrittenEntry}
 use Rattle.sg_facts.specs.Facts.{Fun, fun_at}
 use Rattle.sg_facts.specs.Interface.{Declared}
 use Rattle.sg_facts.specs.Kinds.{AreWords}

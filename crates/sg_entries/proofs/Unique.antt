@@ -10,12 +10,12 @@ use Rattle.sg_entries.specs.Standing.{entry_of}
 use Rattle.sg_entries.specs.declared.error.EntriesError.{EntriesError}
 use Rattle.sg_entries.specs.declared.error.EntriesError.TheVariants.{NoMemory, Fault}
 use Rattle.sg_entries.specs.declared.error.EntriesKind.{EntriesKind}
-use Rattle.sg_entry_parse.proofs.OneAnswer.{one_tree, only_answer}
-use Rattle.sg_entry_parse.specs.Parses.{EntryParses}
-use Rattle.sg_entry_parse.specs.sg_lex.Lexeme.{Spelling}
-use Rattle.sg_entry_parse.specs.declared.error.EntrySyntax.{EntrySyntax}
-use Rattle.sg_entry_parse.specs.declared.error.EntrySyntax.TheVariants.{NoMemory as no_memory, Syntax as syntax}
-use Rattle.sg_entry_parse.specs.declared.tree.WrittenEntry.{WrittenEntry}
+use Rattle.sg_entries.proofs.OneAnswer.{one_tree, only_answer}
+use Rattle.sg_entries.specs.Parses.{EntryParses}
+use Rattle.sg_entries.specs.sg_lex.Lexeme.{Spelling}
+use Rattle.sg_entries.specs.declared.syntax.EntrySyntax.{EntrySyntax}
+use Rattle.sg_entries.specs.declared.syntax.EntrySyntax.TheVariants.{NoMemory as no_memory, Syntax as syntax}
+use Rattle.sg_entries.specs.declared.tree.WrittenEntry.{WrittenEntry}
 use Rattle.sg_facts.specs.Interface.{Declared}
 use Rattle.sg_facts.specs.declared.entry.Entry.{Entry}
 

@@ -8,15 +8,15 @@ use Rattle.sg_entries.specs.Inside.Making.{IsFirst}
 use Rattle.sg_entries.specs.Inside.Flaws.{answer_flaws, arg_flaws, client_flaws, fun_flaws, optional_flaws, too_many_entries, word_flaws}
 use Rattle.sg_entries.specs.declared.error.EntriesKind.{EntriesKind}
 use Rattle.sg_entries.specs.declared.error.EntriesKind.TheVariants.{Limit}
-use Rattle.sg_entry_parse.specs.Entry.{IsEntry, answer_pieces, arg_pieces, entry_pieces}
-use Rattle.sg_entry_parse.specs.Inside.Forms.{args_pieces, desc_pieces, bytes_pieces, next_arg_pieces, word_pieces}
-use Rattle.sg_entry_parse.specs.Pieces.{ArePlaced, EntryPiece, IsPiece, fixed, name, number, piece_bytes, positive, printable}
-use Rattle.sg_entry_parse.specs.sg_lex.Lexeme.{Spelling}
-use Rattle.sg_entry_parse.specs.declared.tree.WrittenAnswer.{WrittenAnswer}
-use Rattle.sg_entry_parse.specs.declared.tree.WrittenAnswer.TheVariants.{Refused, Ok}
-use Rattle.sg_entry_parse.specs.declared.tree.WrittenArg.{WrittenArg}
-use Rattle.sg_entry_parse.specs.declared.tree.WrittenArg.TheVariants.{Number, Text}
-use Rattle.sg_entry_parse.specs.declared.tree.WrittenEntry.{WrittenEntry}
+use Rattle.sg_entries.specs.Entry.{IsEntry, answer_pieces, arg_pieces, entry_pieces}
+use Rattle.sg_entries.specs.Inside.Forms.{args_pieces, desc_pieces, bytes_pieces, next_arg_pieces, word_pieces}
+use Rattle.sg_entries.specs.Pieces.{ArePlaced, EntryPiece, IsPiece, fixed, name, number, piece_bytes, positive, printable}
+use Rattle.sg_entries.specs.sg_lex.Lexeme.{Spelling}
+use Rattle.sg_entries.specs.declared.tree.WrittenAnswer.{WrittenAnswer}
+use Rattle.sg_entries.specs.declared.tree.WrittenAnswer.TheVariants.{Refused, Ok}
+use Rattle.sg_entries.specs.declared.tree.WrittenArg.{WrittenArg}
+use Rattle.sg_entries.specs.declared.tree.WrittenArg.TheVariants.{Number, Text}
+use Rattle.sg_entries.specs.declared.tree.WrittenEntry.{WrittenEntry}
 use Rattle.sg_facts.specs.Interface.{Declared}
 use Rattle.sg_facts.specs.sg_base.Lists.{Each}
 use Rattle.sg_script.specs.Scripts.{declared_fun}

@@ -2,11 +2,11 @@
 use Rattle.std.specs.Prelude.{ℕ, ◌+◌, ◌-◌, ◌^◌, ◌==◌, Bool, true, false, not, nat_le, if◌then◌else◌, List, [], ◌∷◌, ◌++◌, None, Some, map}
 use Rattle.std.specs.Option.{option_map_or}
 use Rattle.std.specs.List.{flat_map}
-use Rattle.sg_entry_parse.specs.sg_lex.Lexeme.{Spelling}
-use Rattle.sg_entry_parse.specs.declared.tree.WrittenAnswer.TheVariants.{Refused, Ok}
-use Rattle.sg_entry_parse.specs.declared.tree.WrittenArg.{WrittenArg}
-use Rattle.sg_entry_parse.specs.declared.tree.WrittenArg.TheVariants.{Number, Text as text}
-use Rattle.sg_entry_parse.specs.declared.tree.WrittenEntry.{WrittenEntry}
+use Rattle.sg_entries.specs.sg_lex.Lexeme.{Spelling}
+use Rattle.sg_entries.specs.declared.tree.WrittenAnswer.TheVariants.{Refused, Ok}
+use Rattle.sg_entries.specs.declared.tree.WrittenArg.{WrittenArg}
+use Rattle.sg_entries.specs.declared.tree.WrittenArg.TheVariants.{Number, Text as text}
+use Rattle.sg_entries.specs.declared.tree.WrittenEntry.{WrittenEntry}
 use Rattle.sg_entries.specs.Standing.{number_of, value_of}
 use Rattle.sg_entries.specs.declared.error.EntriesKind.{EntriesKind}
 use Rattle.sg_entries.specs.declared.error.EntriesKind.TheVariants.{UnknownFunction, BadArgs, BadClient, Limit}

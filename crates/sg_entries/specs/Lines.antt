@@ -2,7 +2,7 @@
 use Rattle.std.specs.Prelude.{ℕ, ◌+◌, ◌==◌, ◌&&◌, Bool, false, if◌then◌else◌, List, [], ◌∷◌, length}
 use Rattle.std.specs.Char.{is_ascii_digit}
 use Rattle.std.specs.List.{slice_split}
-use Rattle.sg_entry_parse.specs.sg_lex.Lexeme.{Spelling}
+use Rattle.sg_entries.specs.sg_lex.Lexeme.{Spelling}
 
 -- lines that follow one another, each with its place; the first stands at this one
 abbrev pub placed : ℕ → List (List ℕ) → List Spelling

@@ -2,7 +2,7 @@
 use Rattle.std.specs.Prelude.{◌≡◌, ◌++◌, ◌^◌, ◌<◌, ◌≤◌, ℕ, false, true, List, [], ◌∷◌, Some, length}
 use Rattle.std.specs.List.{flat_map}
 use Rattle.sg_entries.specs.Lines.{entry_lines_of}
-use Rattle.sg_entry_parse.specs.Inside.Classes.{IsName}
+use Rattle.sg_entries.specs.Inside.Classes.{IsName}
 use Rattle.sg_facts.specs.Facts.{Fun, fun_at}
 use Rattle.sg_facts.specs.Interface.{Declared, declares}
 use Rattle.sg_facts.specs.Limits.{most_script_calls}

@@ -8,10 +8,10 @@ use Rattle.sg_entries.specs.Standing.{entry_of}
 use Rattle.sg_entries.specs.declared.error.EntriesError.{EntriesError}
 use Rattle.sg_entries.specs.declared.error.EntriesError.TheVariants.{NoMemory, Fault}
 use Rattle.sg_entries.specs.declared.error.EntriesKind.TheVariants.{Syntax}
-use Rattle.sg_entry_parse.specs.Parses.{EntryParses}
-use Rattle.sg_entry_parse.specs.sg_lex.Lexeme.{Spelling}
-use Rattle.sg_entry_parse.specs.declared.error.EntrySyntax.TheVariants.{Syntax as syntax}
-use Rattle.sg_entry_parse.specs.declared.tree.WrittenEntry.{WrittenEntry}
+use Rattle.sg_entries.specs.Parses.{EntryParses}
+use Rattle.sg_entries.specs.sg_lex.Lexeme.{Spelling}
+use Rattle.sg_entries.specs.declared.syntax.EntrySyntax.TheVariants.{Syntax as syntax}
+use Rattle.sg_entries.specs.declared.tree.WrittenEntry.{WrittenEntry}
 use Rattle.sg_facts.specs.Interface.{Declared}
 use Rattle.sg_facts.specs.declared.entry.Entry.{Entry}
 use Rattle.sg_facts.specs.sg_base.Room.{Roomy}

@@ -1,11 +1,11 @@
 -- What a written entry stands for.
 use Rattle.std.specs.Prelude.{ℕ, Bool, true, List, [], ◌∷◌, map, unwrap_or}
 use Rattle.std.specs.Option.{option_map_or}
-use Rattle.sg_entry_parse.specs.sg_lex.Lexeme.{Spelling}
-use Rattle.sg_entry_parse.specs.declared.tree.WrittenAnswer.TheVariants.{Refused as refused, Ok as ok}
-use Rattle.sg_entry_parse.specs.declared.tree.WrittenArg.{WrittenArg}
-use Rattle.sg_entry_parse.specs.declared.tree.WrittenArg.TheVariants.{Number, Text as text}
-use Rattle.sg_entry_parse.specs.declared.tree.WrittenEntry.{WrittenEntry}
+use Rattle.sg_entries.specs.sg_lex.Lexeme.{Spelling}
+use Rattle.sg_entries.specs.declared.tree.WrittenAnswer.TheVariants.{Refused as refused, Ok as ok}
+use Rattle.sg_entries.specs.declared.tree.WrittenArg.{WrittenArg}
+use Rattle.sg_entries.specs.declared.tree.WrittenArg.TheVariants.{Number, Text as text}
+use Rattle.sg_entries.specs.declared.tree.WrittenEntry.{WrittenEntry}
 use Rattle.sg_facts.specs.Interface.{Declared}
 use Rattle.sg_facts.specs.declared.entry.Entry.{Entry}
 use Rattle.sg_facts.specs.sg_base.declared.reply.Reply.TheVariants.{Refused, Ok}

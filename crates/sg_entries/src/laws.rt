@@ -9,7 +9,7 @@ ghost use Rattle.sg_entries.specs.Printed.{HasNames, PrintsHistory};
 ghost use Rattle.sg_entries.specs.Reads.{AreEntries, IsReadOf};
 ghost use Rattle.sg_entries.specs.declared.error.EntriesError.{EntriesError};
 ghost use Rattle.sg_entries.specs.declared.error.EntriesError.TheVariants.{NoMemory as no_memory};
-ghost use Rattle.sg_entry_parse.specs.declared.tree.WrittenEntry.{WrittenEntry};
+ghost use Rattle.sg_entries.specs.declared.tree.WrittenEntry.{WrittenEntry};
 ghost use Rattle.sg_facts.specs.Interface.{Declared};
 ghost use Rattle.sg_facts.specs.declared.entry.Entry.{Entry};
 ghost use Rattle.sg_facts.specs.sg_base.Lists.{Each};

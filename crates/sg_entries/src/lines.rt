@@ -3,8 +3,8 @@ ghost use Rattle.std.specs.Prelude.{◌≡◌, ◌+◌, ◌<◌, ◌^◌, ◌==�
 ghost use Rattle.sg_entries.specs.Inside.Cutting.{IsNext, line_feed, lines_from, lines_left};
 ghost use Rattle.sg_entries.specs.Lines.{begins_entry, entry_lines_of};
 
+use crate::Spelled;
 use crate::rest::Rest;
-use sg_entry_parse::Spelled;
 use std::marker::Model;
 
 impl<'a> Rest<'a> {
@@ -37,7 +37,7 @@ pub struct EntryLines<'a> {
 
 impl<'a> Model for EntryLines<'a> {
     ghost use Rattle.std.specs.Prelude.{List};
-    ghost use Rattle.sg_entry_parse.specs.sg_lex.Lexeme.{Spelling};
+    ghost use Rattle.sg_entries.specs.sg_lex.Lexeme.{Spelling};
     ghost use Rattle.sg_entries.specs.Inside.Cutting.{lines_left};
     ghost use Rattle.sg_entries.specs.Lines.{front_lines};
 

@@ -13,8 +13,7 @@ ghost use Rattle.sg_script.specs.Scripts.{declared_fun};
 
 use crate::names::declared_fun;
 use crate::numbers::{is_text, number_of_digits};
-use crate::{EntriesError, EntriesKind};
-use sg_entry_parse::{Spelled, WrittenAnswer, WrittenArg, WrittenEntry};
+use crate::{EntriesError, EntriesKind, Spelled, WrittenAnswer, WrittenArg, WrittenEntry};
 use sg_facts::{
     Args, Bytes, Call, Entry, FunShape, Good, Interface, Kind, LAST_CLIENT, NoMemory, Reply, Text,
     Value, Words,

@@ -7,8 +7,7 @@ ghost use Rattle.sg_script.specs.Scripts.{declared_fun};
 
 use crate::making::{client_of, fault, seq_of, takes_id};
 use crate::names::declared_fun;
-use crate::{EntriesError, EntriesKind};
-use sg_entry_parse::EntryOutline;
+use crate::{EntriesError, EntriesKind, EntryOutline};
 use sg_facts::{Interface, Kind};
 
 /// Looks whether an entry's client and number, its function, and the number of its arguments are right, and tells the first that isn't; a

@@ -6,13 +6,13 @@ ghost use Rattle.sg_entries.specs.Inside.Making.{IsMade};
 ghost use Rattle.sg_entries.specs.Inside.Outlines.{outline_flaws};
 ghost use Rattle.sg_entries.specs.Inside.Parsing.{IsOutlined, IsParsed};
 ghost use Rattle.sg_entries.specs.Standing.{entry_of};
-ghost use Rattle.sg_entry_parse.specs.Parses.{EntryParses, OutlineParses};
+ghost use Rattle.sg_entries.specs.Parses.{EntryParses, OutlineParses};
 
 use crate::making::entry_of;
 use crate::outline::check_outline;
-use crate::{EntriesError, EntriesKind};
-use sg_entry_parse::{
-    EntryOutline, EntrySyntax, Spelled, WrittenEntry, parse_entry, parse_outline,
+use crate::{
+    EntriesError, EntriesKind, EntryOutline, EntrySyntax, Spelled, WrittenEntry, parse_entry,
+    parse_outline,
 };
 use sg_facts::{Entry, Interface};
 use std::alloc::Global;

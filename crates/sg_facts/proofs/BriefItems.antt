@@ -5,11 +5,11 @@ use Rattle.sg_facts.specs.declared.kept.Kept.{Kept}
 use Rattle.sg_facts.specs.declared.outcome.Outcome.TheVariants.{Replied}
 use Rattle.sg_facts.specs.declared.trace.Item.{Item}
 use Rattle.sg_facts.specs.Inside.Items.{IsBriefItem, IsBriefOutcome, item_of, outcome_of, reply_words}
-use Rattle.sg_records.specs.declared.brief.Brief.{Brief}
-use Rattle.sg_records.specs.declared.brief.Gave.{Gave}
-use Rattle.sg_records.specs.declared.brief.Gave.TheVariants.{Good, Refused, Blocks, Stopped, NoMemory}
-use Rattle.sg_records.specs.sg_base.declared.reply.Reply.{Reply}
-use Rattle.sg_records.specs.Records.{IsBriefReply, Record, InBrief, is_reply, reply_of, word_of, words_of}
+use Rattle.sg_base.specs.declared.brief.Brief.{Brief}
+use Rattle.sg_base.specs.declared.brief.Gave.{Gave}
+use Rattle.sg_base.specs.declared.brief.Gave.TheVariants.{Good, Refused, Blocks, Stopped, NoMemory}
+use Rattle.sg_base.specs.declared.reply.Reply.{Reply}
+use Rattle.sg_base.specs.Records.{IsBriefReply, Record, InBrief, is_reply, reply_of, word_of, words_of}
 
 -- a reply in brief is an outcome with nothing written
 reply_back : (gave : Gave) (reply : Reply) → is_reply gave ≡ true → reply_of gave (words_of reply) ≡ reply → outcome_of gave (words_of reply) ≡ Replied reply None

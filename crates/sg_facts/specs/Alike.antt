@@ -1,9 +1,9 @@
 -- Objects and calls under other ids: what the clients name stands for what the service names.
 use Rattle.std.specs.Prelude.{ℕ, ◌≡◌, ◌==◌, ◌⊎◌, Bool, true, false, if◌then◌else◌, List, [], ◌∷◌, None, Some}
 use Rattle.std.specs.declared.option.Option.{Option}
-use Rattle.sg_records.specs.sg_base.declared.call.Call.{Call}
-use Rattle.sg_records.specs.sg_base.declared.reply.Reply.{Reply}
-use Rattle.sg_records.specs.sg_base.declared.reply.Reply.TheVariants.{Ok, Refused}
+use Rattle.sg_base.specs.declared.call.Call.{Call}
+use Rattle.sg_base.specs.declared.reply.Reply.{Reply}
+use Rattle.sg_base.specs.declared.reply.Reply.TheVariants.{Ok, Refused}
 use Rattle.sg_facts.specs.declared.row.Row.{Row}
 use Rattle.sg_facts.specs.Facts.{Facts}
 use Rattle.sg_facts.specs.Track.{row_at, is_live}

@@ -1,7 +1,7 @@
 -- Fields that count: a function sets them to a returned word, or adds one. One that only subtracts it doesn't count.
 use Rattle.std.specs.Prelude.{ℕ, ◌+◌, ◌<◌, ◌==◌, Bool, true, false, ◌&&◌, if◌then◌else◌, max, List, [], ◌∷◌}
 use Rattle.std.specs.List.{list_any}
-use Rattle.sg_records.specs.sg_base.declared.value.Value.{Value}
+use Rattle.sg_base.specs.declared.value.Value.{Value}
 use Rattle.sg_facts.specs.declared.row.Row.{Row}
 use Rattle.sg_facts.specs.declared.shape.Effect.{Effect}
 use Rattle.sg_facts.specs.declared.shape.Effect.TheVariants.{SetRet, AddRet, SubRet}

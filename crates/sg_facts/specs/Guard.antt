@@ -3,11 +3,11 @@ use Rattle.std.specs.Prelude.{◌≡◌, ◌==◌, Bool, true, false, ◌&&◌, 
 use Rattle.std.specs.List.{list_any}
 use Rattle.std.specs.Option.{is_some, option_map_or}
 use Rattle.std.specs.declared.option.Option.{Option}
-use Rattle.sg_records.specs.sg_base.declared.call.Call.{Call}
-use Rattle.sg_records.specs.sg_base.declared.reply.Code.{Code}
-use Rattle.sg_records.specs.sg_base.declared.reply.Code.TheVariants.{NoDesc, NoParent, BadState, HasChildren, Full}
-use Rattle.sg_records.specs.sg_base.declared.reply.Reply.{Reply}
-use Rattle.sg_records.specs.sg_base.declared.reply.Reply.TheVariants.{Ok, Refused}
+use Rattle.sg_base.specs.declared.call.Call.{Call}
+use Rattle.sg_base.specs.declared.reply.Code.{Code}
+use Rattle.sg_base.specs.declared.reply.Code.TheVariants.{NoDesc, NoParent, BadState, HasChildren, Full}
+use Rattle.sg_base.specs.declared.reply.Reply.{Reply}
+use Rattle.sg_base.specs.declared.reply.Reply.TheVariants.{Ok, Refused}
 use Rattle.sg_facts.specs.declared.row.Row.{Row}
 use Rattle.sg_facts.specs.declared.shape.Parents.TheVariants.{Never, Same, Cross}
 use Rattle.sg_facts.specs.Facts.{Fun, fun_at, takes_desc, takes_parent}

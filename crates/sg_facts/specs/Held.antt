@@ -1,7 +1,7 @@
 -- What a service holds in the middle of a recovery: some rows whole, and some as far as their walks have gone.
 use Rattle.std.specs.Prelude.{ℕ, ◌≡◌, ◌≤◌, ◌⊎◌, Bool, List, [], ◌∷◌, ◌++◌, Some, map}
-use Rattle.sg_records.specs.sg_base.declared.value.Value.{Value}
-use Rattle.sg_records.specs.sg_base.declared.value.Value.TheVariants.{Word, Text}
+use Rattle.sg_base.specs.declared.value.Value.{Value}
+use Rattle.sg_base.specs.declared.value.Value.TheVariants.{Word, Text}
 use Rattle.sg_facts.specs.declared.row.Row.{Row}
 use Rattle.sg_facts.specs.Fields.{is_set}
 use Rattle.sg_facts.specs.Interface.{Declared}

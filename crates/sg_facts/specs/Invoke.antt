@@ -1,12 +1,12 @@
 -- What asking a service does.
 use Rattle.std.specs.Prelude.{ℕ, ◌≡◌, ◌+◌, ◌<◌, ◌≤◌, if◌then◌else◌, List, [], ◌∷◌, ◌++◌, None, Some, length}
 use Rattle.std.specs.declared.option.Option.{Option}
-use Rattle.sg_records.specs.sg_base.declared.call.Call.{Call}
-use Rattle.sg_records.specs.sg_base.declared.reply.Good.{Good}
-use Rattle.sg_records.specs.sg_base.declared.reply.Reply.{Reply}
-use Rattle.sg_records.specs.sg_base.declared.reply.Reply.TheVariants.{Ok, Refused}
-use Rattle.sg_records.specs.sg_base.Reply.{FitsReplyRoom}
-use Rattle.sg_records.specs.sg_base.Stops.{asked_after}
+use Rattle.sg_base.specs.declared.call.Call.{Call}
+use Rattle.sg_base.specs.declared.reply.Good.{Good}
+use Rattle.sg_base.specs.declared.reply.Reply.{Reply}
+use Rattle.sg_base.specs.declared.reply.Reply.TheVariants.{Ok, Refused}
+use Rattle.sg_base.specs.Reply.{FitsReplyRoom}
+use Rattle.sg_base.specs.Stops.{asked_after}
 use Rattle.sg_facts.specs.declared.outcome.Outcome.{Outcome}
 use Rattle.sg_facts.specs.declared.outcome.Outcome.TheVariants.{Replied, Blocks, Stopped, NoMemory}
 use Rattle.sg_facts.specs.declared.outcome.Patch.{Patch}

@@ -8,8 +8,8 @@ use Rattle.sg_facts.specs.declared.outcome.Outcome.TheVariants.{Replied, Blocks,
 use Rattle.sg_facts.specs.declared.trace.Item.{Item}
 use Rattle.sg_facts.specs.declared.trace.Tag.{Tag}
 use Rattle.sg_facts.specs.declared.trace.Tag.TheVariants.{Walk, Load, Client}
-use Rattle.sg_records.specs.declared.brief.GaveKind.{GaveKind}
-use Rattle.sg_records.specs.declared.brief.GaveKind.TheVariants.{Replied as RepliedKind, Blocks as BlocksKind, Stopped as StoppedKind, NoMemory as NoMemoryKind}
+use Rattle.sg_base.specs.declared.brief.GaveKind.{GaveKind}
+use Rattle.sg_base.specs.declared.brief.GaveKind.TheVariants.{Replied as RepliedKind, Blocks as BlocksKind, Stopped as StoppedKind, NoMemory as NoMemoryKind}
 
 -- the kind of a tag
 abbrev pub tag_kind : Tag → TagKind

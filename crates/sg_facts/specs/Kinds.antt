@@ -1,9 +1,9 @@
 -- Which calls are of a service's functions, and which of them it may be asked.
 use Rattle.std.specs.Prelude.{◌≡◌, ◌^◌, ◌<◌, ◌≤◌, ◌==◌, Bool, true, false, ◌&&◌, ◌||◌, List, [], ◌∷◌, length, filter, not}
 use Rattle.std.specs.Cmp.Lexicographic.{pointwise}
-use Rattle.sg_records.specs.sg_base.declared.value.Value.{Value}
-use Rattle.sg_records.specs.sg_base.declared.value.Value.TheVariants.{Word, Text}
-use Rattle.sg_records.specs.sg_base.declared.call.Call.{Call}
+use Rattle.sg_base.specs.declared.value.Value.{Value}
+use Rattle.sg_base.specs.declared.value.Value.TheVariants.{Word, Text}
+use Rattle.sg_base.specs.declared.call.Call.{Call}
 use Rattle.sg_facts.specs.declared.shape.Kind.{Kind}
 use Rattle.sg_facts.specs.declared.shape.Kind.TheVariants.{Word as IsWord, Text as IsText}
 use Rattle.sg_facts.specs.declared.shape.Parents.{Parents}

@@ -3,10 +3,10 @@
 use Rattle.std.specs.Prelude.{ℕ, ◌≡◌, ◌+◌, ◌-◌, ◌^◌, ◌<◌, ◌≤◌, ◌==◌, Bool, true, false, ◌&&◌, not, if◌then◌else◌, max, List, [], ◌∷◌, ◌++◌, None, Some, length}
 use Rattle.std.specs.declared.option.Option.{Option}
 use Rattle.std.specs.Option.{option_map_or}
-use Rattle.sg_records.specs.sg_base.declared.call.Call.{Call}
-use Rattle.sg_records.specs.sg_base.declared.reply.Code.{Code}
-use Rattle.sg_records.specs.sg_base.declared.reply.Good.{Good}
-use Rattle.sg_records.specs.sg_base.declared.reply.Reply.TheVariants.{Ok, Refused}
+use Rattle.sg_base.specs.declared.call.Call.{Call}
+use Rattle.sg_base.specs.declared.reply.Code.{Code}
+use Rattle.sg_base.specs.declared.reply.Good.{Good}
+use Rattle.sg_base.specs.declared.reply.Reply.TheVariants.{Ok, Refused}
 use Rattle.sg_facts.specs.Facts.{Facts, fun_at}
 use Rattle.sg_facts.specs.Interface.{Declared}
 use Rattle.sg_facts.specs.Limits.{end_of_counts}

@@ -2,9 +2,9 @@
 use Rattle.std.specs.Prelude.{ℕ, ◌≡◌, List, [], ◌∷◌, ◌++◌, Some}
 use Rattle.std.specs.Option.{option_map_or}
 use Rattle.std.specs.declared.option.Option.{Option}
-use Rattle.sg_records.specs.sg_base.declared.call.Call.{Call}
-use Rattle.sg_records.specs.sg_base.declared.reply.Reply.{Reply}
-use Rattle.sg_records.specs.sg_base.declared.reply.Reply.TheVariants.{Ok, Refused}
+use Rattle.sg_base.specs.declared.call.Call.{Call}
+use Rattle.sg_base.specs.declared.reply.Reply.{Reply}
+use Rattle.sg_base.specs.declared.reply.Reply.TheVariants.{Ok, Refused}
 use Rattle.sg_facts.specs.declared.entry.Entry.{Entry}
 use Rattle.sg_facts.specs.Interface.{Declared}
 use Rattle.sg_facts.specs.Object.{Object, after, object_of}

@@ -11,7 +11,7 @@ use Rattle.sg_facts.specs.declared.outcome.Outcome.TheVariants.{Replied, Blocks,
 use Rattle.sg_facts.specs.declared.trace.Item.{Item}
 use Rattle.sg_facts.specs.declared.trace.Tag.{Tag}
 use Rattle.sg_facts.specs.declared.trace.Tag.TheVariants.{Walk, Load, Client}
-use Rattle.sg_records.specs.Lent.{call_in, reply_in}
+use Rattle.sg_base.specs.Lent.{call_in, reply_in}
 
 -- the tag
 abbrev pub tag_in : LentTag → Tag

@@ -26,5 +26,4 @@ pub mod Track
 pub mod WalkArray
 pub mod Walks
 pub mod Words
-pub use Rattle.sg_records.specs.sg_base as sg_base
-pub use Rattle.sg_records.specs as sg_records
+pub use Rattle.sg_base.specs as sg_base

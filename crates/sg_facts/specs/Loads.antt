@@ -4,7 +4,7 @@ use Rattle.sg_facts.specs.declared.outcome.Outcome.TheVariants.{Replied}
 use Rattle.sg_facts.specs.declared.outcome.Patch.{Patch}
 use Rattle.sg_facts.specs.declared.trace.Item.{Item}
 use Rattle.sg_facts.specs.declared.trace.Tag.TheVariants.{Load}
-use Rattle.sg_records.specs.sg_base.declared.reply.Reply.TheVariants.{Ok}
+use Rattle.sg_base.specs.declared.reply.Reply.TheVariants.{Ok}
 
 -- a load of a file, for a client, with the number of points asked: a patch of the whole file
 pub record NotedLoad : Type 0 where

@@ -4,9 +4,9 @@ use Rattle.std.specs.Option.{option_map_or}
 use Rattle.std.specs.declared.option.Option.{Option}
 use Rattle.std.specs.Cmp.Lexicographic.{pointwise}
 use Rattle.std.specs.List.{enumerate_from}
-use Rattle.sg_records.specs.sg_base.declared.value.Value.{Value}
-use Rattle.sg_records.specs.sg_base.declared.value.Value.TheVariants.{Word}
-use Rattle.sg_records.specs.sg_base.declared.call.Call.{Call}
+use Rattle.sg_base.specs.declared.value.Value.{Value}
+use Rattle.sg_base.specs.declared.value.Value.TheVariants.{Word}
+use Rattle.sg_base.specs.declared.call.Call.{Call}
 use Rattle.sg_facts.specs.declared.row.Row.{Row}
 use Rattle.sg_facts.specs.declared.shape.Kind.{Kind}
 use Rattle.sg_facts.specs.declared.shape.Effect.{Effect}

@@ -1,5 +1,5 @@
 // A call that was done.
-use sg_records::{Call, NoMemory, Reply, TryCopy};
+use sg_base::{Call, NoMemory, Reply, TryCopy};
 use std::alloc::Global;
 
 /// A call with its reply.

@@ -6,7 +6,7 @@ ghost use Rattle.sg_facts.specs.Interface.{declares, moves_on, steps_on, has_pai
 
 use crate::shape::{CREATION_BIT, DATA_BIT};
 use crate::{FunShape, Shape};
-use sg_records::{NoMemory, PairList, TryCopy};
+use sg_base::{NoMemory, PairList, TryCopy};
 use std::alloc::Global;
 use std::marker::Model;
 

@@ -10,7 +10,7 @@ ghost use Rattle.sg_facts.specs.declared.outcome.Outcome.TheVariants.{Replied};
 use crate::kept::{Kept, LoadNote};
 use crate::lent::LentItem;
 use crate::{Item, ItemKind, Outcome, Tag, TagKind};
-use sg_records::{
+use sg_base::{
     Brief, Call, Gave, NoMemory, RecordKind, Records, Reply, Why, gave_of, is_brief_call,
     reply_words as words_of_reply,
 };
@@ -27,7 +27,7 @@ pub struct ItemList {
 
 impl Model for ItemList {
     ghost use Rattle.std.specs.Prelude.{map};
-    ghost use Rattle.sg_records.specs.sg_base.Room.{Roomy};
+    ghost use Rattle.sg_base.specs.Room.{Roomy};
     ghost use Rattle.sg_facts.specs.Inside.Items.{item_of};
     ghost use Rattle.sg_facts.specs.declared.trace.Item.{Item};
 

@@ -4,7 +4,7 @@ ghost use Rattle.sg_facts.specs.Loads.{load_item};
 ghost use Rattle.sg_facts.specs.Lent.{item_in};
 
 use crate::{Item, LentItem, LentOutcome, LentTag, Patch};
-use sg_records::{LentArgs, LentCall, LentGood, LentReply, NoMemory, TryCopy};
+use sg_base::{LentArgs, LentCall, LentGood, LentReply, NoMemory, TryCopy};
 use std::alloc::Global;
 use std::marker::Model;
 use std::sync::Arc;

@@ -4,7 +4,7 @@ ghost use Rattle.sg_facts.specs.ItemKinds.{is_replay_kind, item_kind, outcome_ki
 ghost use Rattle.sg_facts.specs.Lent.{item_in, outcome_in, tag_in};
 
 use crate::{LentItem, LentOutcome, LentTag};
-use sg_records::GaveKind;
+use sg_base::GaveKind;
 
 /// Of which kind a tag is: for what the service was asked, and not for whom.
 #[derive(Clone, Copy, Debug, PartialEq, Eq)]

@@ -3,12 +3,12 @@ ghost use Rattle.std.specs.Prelude.{◌≡◌, None};
 ghost use Rattle.sg_facts.specs.Lent.{item_in, outcome_in, tag_in};
 ghost use Rattle.sg_facts.specs.Inside.Items.{item_of, outcome_of, tag_of};
 ghost use Rattle.sg_facts.specs.declared.outcome.Outcome.TheVariants.{Replied};
-ghost use Rattle.sg_records.specs.Lent.{record_in, reply_in};
-ghost use Rattle.sg_records.specs.Records.{InBrief};
+ghost use Rattle.sg_base.specs.Lent.{record_in, reply_in};
+ghost use Rattle.sg_base.specs.Records.{InBrief};
 
 use crate::kept::Kept;
 use crate::{Item, Outcome, Patch, Tag};
-use sg_records::{Gave, Lent, LentBrief, LentCall, LentReply, Why};
+use sg_base::{Gave, Lent, LentBrief, LentCall, LentReply, Why};
 
 /// Why the service was asked, lent.
 #[derive(Clone, Copy, Debug)]

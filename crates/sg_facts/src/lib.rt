@@ -54,7 +54,7 @@ pub use outcome::{Outcome, Patch, PatchRoom};
 pub use path::FilePath;
 pub use row::{Fields, FieldsRoom, Row};
 pub use service::Service;
-pub use sg_records::{
+pub use sg_base::{
     Args, Brief, Bytes, Call, Code, Gave, GaveKind, Good, IdList, Lent, LentArgs, LentBrief,
     LentCall, LentGood, LentReply, LentValue, ListOf, NoMemory, PairList, Path, Point, PointList,
     Records, Reply, ReplyRoom, RoomyList, SpareList, SpareReply, Stops, Text, TextFault, TextRoom,

@@ -3,7 +3,7 @@ ghost use Rattle.std.specs.Prelude.{◌≡◌, ◌≤◌, IfOk, length};
 ghost use Rattle.sg_facts.specs.Limits.{most_path, most_written};
 
 use crate::{MOST_PATH, MOST_WRITTEN};
-use sg_records::{Bytes, ListRoom, NoMemory, Path, Reply, TryCopy};
+use sg_base::{Bytes, ListRoom, NoMemory, Path, Reply, TryCopy};
 use std::alloc::Global;
 
 /// Bytes that were written into a file.

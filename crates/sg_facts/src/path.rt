@@ -1,7 +1,7 @@
 // Paths of files, in an order.
 ghost use Rattle.std.specs.Prelude.{◌≡◌, IfOk};
 
-use sg_records::{NoMemory, Path, TryCopy};
+use sg_base::{NoMemory, Path, TryCopy};
 use std::alloc::Global;
 use std::cmp::Ordering;
 use std::marker::Model;

@@ -4,7 +4,7 @@ ghost use Rattle.std.specs.Option.{option_copied};
 ghost use Rattle.sg_facts.specs.Fields.{is_set};
 ghost use Rattle.sg_facts.specs.Inside.Rows.{mask_of};
 
-use sg_records::{ListOf, NoMemory, Text, TextRoom, TryCopy, Value};
+use sg_base::{ListOf, NoMemory, Text, TextRoom, TryCopy, Value};
 use std::alloc::Global;
 use std::marker::Model;
 
@@ -16,7 +16,7 @@ pub struct Fields {
 
 impl Model for Fields {
     ghost use Rattle.std.specs.Prelude.{List};
-    ghost use Rattle.sg_records.specs.sg_base.declared.value.Value.{Value as FieldValue};
+    ghost use Rattle.sg_base.specs.declared.value.Value.{Value as FieldValue};
 
     ghost Value = { List FieldValue };
 

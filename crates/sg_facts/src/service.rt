@@ -8,7 +8,7 @@ ghost use Rattle.sg_facts.specs.Invoke.{Invokes, FitsRoom, loaded};
 ghost use Rattle.sg_facts.specs.Laws.{AnswersAndKeeps, AnswersAlike, BlockedStays, ShapeAllows, CountsSlowly, WalkGoesOn};
 
 use crate::Outcome;
-use sg_records::{Call, NoMemory, Path, Stops};
+use sg_base::{Call, NoMemory, Path, Stops};
 use std::alloc::Global;
 use std::fmt::Debug;
 

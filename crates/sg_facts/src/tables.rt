@@ -6,7 +6,7 @@ ghost use Rattle.sg_facts.specs.Tables.{AreTables, walk_of};
 ghost use Rattle.sg_facts.specs.Inside.Walking.{IsAscending, line_order};
 
 use crate::{Interface, Walk};
-use sg_records::ListOf;
+use sg_base::ListOf;
 use std::cmp::Ordering;
 use std::marker::Model;
 

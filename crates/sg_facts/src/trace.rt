@@ -4,7 +4,7 @@ ghost use Rattle.sg_facts.specs.Trace.{run_of};
 ghost use Rattle.sg_facts.specs.Inside.Rows.{boot_of};
 
 use crate::{ItemList, Outcome};
-use sg_records::{Call, NoMemory, Path, RoomyList, TryCopy};
+use sg_base::{Call, NoMemory, Path, RoomyList, TryCopy};
 use std::alloc::Global;
 
 /// Why the service was asked.

@@ -2,7 +2,7 @@
 ghost use Rattle.std.specs.Prelude.{◌≡◌, ◌↔◌, ◌<◌, ◌≤◌, [], ◌∷◌, ◌++◌, length, IsTrue, IsOk, IfSome, IfNone, slice_get};
 ghost use Rattle.std.specs.Option.{option_copied};
 
-use sg_records::NoMemory;
+use sg_base::NoMemory;
 use std::marker::Model;
 
 /// The functions whose calls rebuild a descriptor, in their order: a creation and then recover steps. There are at most 8.

@@ -2,8 +2,8 @@
 use Rattle.std.proofs.Common.{◌≡◌, List, [], ◌∷◌, ◌++◌, map, ◌∙◌, ap}
 use Rattle.std.proofs.lemmas.List.{map-append}
 use Rattle.sg_facts.specs.declared.entry.Entry.{Entry}
-use Rattle.sg_facts.specs.sg_records.declared.brief.Brief.{Brief}
-use Rattle.sg_facts.specs.sg_records.Records.{Record, InBrief, word_of, words_of}
+use Rattle.sg_facts.specs.sg_base.declared.brief.Brief.{Brief}
+use Rattle.sg_facts.specs.sg_base.Records.{Record, InBrief, word_of, words_of}
 use Rattle.sg_hist.specs.Inside.Entries.{IsBriefEntry, entry_of}
 
 -- an entry in brief

@@ -2,8 +2,8 @@
 use Rattle.sg_facts.specs.declared.entry.Entry.{Entry}
 use Rattle.sg_facts.specs.sg_base.declared.call.Call.{Call}
 use Rattle.sg_facts.specs.sg_base.declared.reply.Reply.{Reply}
-use Rattle.sg_facts.specs.sg_records.Lent.{call_in, reply_in}
-use Rattle.sg_facts.specs.sg_records.Records.{FitsBrief, IsBriefCall}
+use Rattle.sg_facts.specs.sg_base.Lent.{call_in, reply_in}
+use Rattle.sg_facts.specs.sg_base.Records.{FitsBrief, IsBriefCall}
 use Rattle.sg_hist.specs.declared.lent.LentEntry.{LentEntry}
 
 -- the entry

@@ -1,6 +1,6 @@
 // Entries of a history, lent.
 ghost use Rattle.std.specs.Prelude.{◌≡◌, ◌↔◌, IfOk, IsTrue};
-ghost use Rattle.sg_facts.specs.sg_records.Lent.{record_in};
+ghost use Rattle.sg_facts.specs.sg_base.Lent.{record_in};
 ghost use Rattle.sg_hist.specs.Inside.Entries.{entry_of};
 ghost use Rattle.sg_hist.specs.Lent.{entry_in};
 

@@ -2,15 +2,15 @@
 use Rattle.std.proofs.Common.{◌≡◌, ◌≢◌, ℕ, zero, suc, ◌<◌, Bool, true, false, cond, List, [], ◌∷◌, ◌++◌, map, length, Some, refl, sym, ap, ◌∙◌, eq-eqb, ne_eqb, append-nil, arith, slice_set}
 use mathlib.Core.Logic.{dite}
 use native.Mathlib.Decide.{ℕ_discrete}
-use Rattle.sg_passes.specs.sg_facts.sg_base.declared.call.Call.{Call}
-use Rattle.sg_passes.specs.sg_facts.declared.entry.Entry.{Entry}
-use Rattle.sg_world.specs.sg_seat.WorldView.{Seat, no_call, woken_seat}
-use Rattle.sg_world.specs.sg_seat.declared.mark.Mark.{Mark}
-use Rattle.sg_world.specs.sg_seat.declared.mark.MarkKind.TheVariants.{Offer}
-use Rattle.sg_world.specs.sg_seat.declared.phase.Phase.TheVariants.{Asked}
-use Rattle.sg_world.specs.sg_seat.declared.withdrawn.Withdrawn.{Withdrawn}
+use Rattle.sg_turn.specs.sg_facts.sg_base.declared.call.Call.{Call}
+use Rattle.sg_turn.specs.sg_facts.declared.entry.Entry.{Entry}
+use Rattle.sg_world.specs.sg_clients.WorldView.{Seat, no_call, woken_seat}
+use Rattle.sg_world.specs.sg_clients.declared.mark.Mark.{Mark}
+use Rattle.sg_world.specs.sg_clients.declared.mark.MarkKind.TheVariants.{Offer}
+use Rattle.sg_world.specs.sg_clients.declared.phase.Phase.TheVariants.{Asked}
+use Rattle.sg_world.specs.sg_clients.declared.withdrawn.Withdrawn.{Withdrawn}
 use Rattle.sg_world.specs.Marked.{last_kind}
-use Rattle.sg_passes.specs.sg_turn.declared.log.LogMarkKind.TheVariants.{Offer as TOffer}
+use Rattle.sg_turn.specs.declared.log.LogMarkKind.TheVariants.{Offer as TOffer}
 use Rattle.sg_log.specs.Log.{call_at, call_in, call_told, kind_told, log_from}
 use Rattle.sg_log.proofs.Growing.{Aligned, log_push}
 

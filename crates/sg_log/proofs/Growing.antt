@@ -1,13 +1,13 @@
 -- The log of a world only grows.
 use Rattle.std.proofs.Common.{◌≡◌, ℕ, Bool, true, false, cond, eqb, List, [], ◌∷◌, ◌++◌, map, drop, None, Some, refl, sym, ap, ◌∙◌, eq-eqb}
-use Rattle.sg_passes.specs.sg_facts.sg_base.declared.call.Call.{Call}
-use Rattle.sg_passes.specs.sg_facts.declared.entry.Entry.{Entry}
-use Rattle.sg_world.specs.sg_seat.declared.mark.Mark.{Mark}
-use Rattle.sg_world.specs.sg_seat.declared.mark.MarkKind.{MarkKind}
-use Rattle.sg_world.specs.sg_seat.declared.mark.MarkKind.TheVariants.{Offer, Entry as Entered, Answer, Withdraw, Leave}
-use Rattle.sg_world.specs.sg_seat.declared.withdrawn.Withdrawn.{Withdrawn}
+use Rattle.sg_turn.specs.sg_facts.sg_base.declared.call.Call.{Call}
+use Rattle.sg_turn.specs.sg_facts.declared.entry.Entry.{Entry}
+use Rattle.sg_world.specs.sg_clients.declared.mark.Mark.{Mark}
+use Rattle.sg_world.specs.sg_clients.declared.mark.MarkKind.{MarkKind}
+use Rattle.sg_world.specs.sg_clients.declared.mark.MarkKind.TheVariants.{Offer, Entry as Entered, Answer, Withdraw, Leave}
+use Rattle.sg_world.specs.sg_clients.declared.withdrawn.Withdrawn.{Withdrawn}
 use Rattle.sg_world.specs.Marked.{last_kind, or_later, marked_as, is_entry_mark, is_withdrawal_mark}
-use Rattle.sg_passes.specs.sg_turn.declared.log.LogMarkKind.TheVariants.{Offer as TOffer}
+use Rattle.sg_turn.specs.declared.log.LogMarkKind.TheVariants.{Offer as TOffer}
 use Rattle.sg_log.specs.Log.{first_entry, first_withdrawn, entries_after, withdrawn_after, call_told, coming_call, kind_told, log_from}
 
 -- a mark of an entry has its entry, and that of a withdrawn call its call

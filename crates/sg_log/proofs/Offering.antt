@@ -1,23 +1,23 @@
 -- What an offer, a withdrawal, a leave and a step without memory add to the log, and what the log tells of the history.
 use Rattle.std.proofs.Common.{◌≡◌, ◌≢◌, ℕ, zero, suc, ◌-◌, ◌≤◌, Bool, true, false, cond, eqb, List, [], ◌∷◌, ◌++◌, map, get_or, slice_set, length, Option, None, Some, refl, sym, ap, ◌∙◌, subst, inl, inr, true≢false, append-nil, arith}
-use Rattle.sg_passes.specs.sg_facts.sg_base.declared.call.Call.{Call}
-use Rattle.sg_passes.specs.sg_facts.declared.entry.Entry.{Entry}
+use Rattle.sg_turn.specs.sg_facts.sg_base.declared.call.Call.{Call}
+use Rattle.sg_turn.specs.sg_facts.declared.entry.Entry.{Entry}
 use Rattle.sg_world.specs.sg_recovery_laws.sg_hist.Clients.{calls_of}
-use Rattle.sg_world.specs.sg_seat.WorldView.{Seat, WorldView, seat_of, IsFree, is_offered, is_left_phase, happened, in_phase, offered, withdrawn_by, with_leave, with_mark}
-use Rattle.sg_world.specs.sg_seat.declared.mark.Mark.{Mark}
-use Rattle.sg_world.specs.sg_seat.declared.mark.MarkKind.{MarkKind}
-use Rattle.sg_world.specs.sg_seat.declared.mark.MarkKind.TheVariants.{Offer, Entry as Entered, Answer, Withdraw, Leave}
-use Rattle.sg_world.specs.sg_seat.declared.phase.Phase.{Phase}
-use Rattle.sg_world.specs.sg_seat.declared.phase.Phase.TheVariants.{Idle, Asked, Held, Receipted, Blocked, Left}
-use Rattle.sg_world.specs.sg_seat.declared.withdrawn.Withdrawn.{Withdrawn}
+use Rattle.sg_world.specs.sg_clients.WorldView.{Seat, WorldView, seat_of, IsFree, is_offered, is_left_phase, happened, in_phase, offered, withdrawn_by, with_leave, with_mark}
+use Rattle.sg_world.specs.sg_clients.declared.mark.Mark.{Mark}
+use Rattle.sg_world.specs.sg_clients.declared.mark.MarkKind.{MarkKind}
+use Rattle.sg_world.specs.sg_clients.declared.mark.MarkKind.TheVariants.{Offer, Entry as Entered, Answer, Withdraw, Leave}
+use Rattle.sg_world.specs.sg_clients.declared.phase.Phase.{Phase}
+use Rattle.sg_world.specs.sg_clients.declared.phase.Phase.TheVariants.{Idle, Asked, Held, Receipted, Blocked, Left}
+use Rattle.sg_world.specs.sg_clients.declared.withdrawn.Withdrawn.{Withdrawn}
 use Rattle.sg_world.specs.Marked.{TellsAll, IsPhaseAfter, last_kind, marked_as, is_entry_mark, is_withdrawal_mark}
 use Rattle.sg_world.specs.Steps.{WantsMemory}
 use Rattle.sg_world.specs.sg_world_laws.Setting.{Setting}
-use Rattle.sg_passes.specs.sg_turn.declared.log.LogMark.{LogMark}
-use Rattle.sg_passes.specs.sg_turn.declared.log.LogMarkKind.TheVariants.{Offer as TOffer, Withdraw as TWithdraw}
-use Rattle.sg_passes.specs.sg_turn.Logs.{marks_of}
-use Rattle.sg_passes.specs.Hosts.{AddsLeave}
-use Rattle.sg_passes.specs.Told.{idle, HasNoCall, entry_of, entries_in, withdrawals_in, mark_by, standing_in, GivenUp, withdrawal_of}
+use Rattle.sg_turn.specs.declared.log.LogMark.{LogMark}
+use Rattle.sg_turn.specs.declared.log.LogMarkKind.TheVariants.{Offer as TOffer, Withdraw as TWithdraw}
+use Rattle.sg_turn.specs.Logs.{marks_of}
+use Rattle.sg_turn.specs.Hosts.{AddsLeave}
+use Rattle.sg_turn.specs.Told.{idle, HasNoCall, entry_of, entries_in, withdrawals_in, mark_by, standing_in, GivenUp, withdrawal_of}
 use Rattle.sg_log.specs.Log.{call_in, entries_after, given_up, log_from, log_of, phase_number, withdrawn_after}
 use Rattle.sg_log.specs.Names.{withdrawn_of}
 use Rattle.sg_log.proofs.Growing.{Starts, aligned, step_aligned, clients_of, clients_gone}

@@ -2,18 +2,18 @@
 use Rattle.std.proofs.Common.{◌≡◌, ◌≢◌, ℕ, Bool, true, false, cond, eqb, List, [], ◌∷◌, drop, get_or, Option, None, Some, refl, sym, ap, ◌∙◌, subst, eq-eqb, ne_eqb}
 use mathlib.Core.Logic.{dite}
 use native.Mathlib.Decide.{ℕ_discrete}
-use Rattle.sg_passes.specs.sg_facts.sg_base.declared.call.Call.{Call}
-use Rattle.sg_passes.specs.sg_facts.declared.entry.Entry.{Entry}
+use Rattle.sg_turn.specs.sg_facts.sg_base.declared.call.Call.{Call}
+use Rattle.sg_turn.specs.sg_facts.declared.entry.Entry.{Entry}
 use Rattle.sg_world.specs.sg_recovery_laws.sg_hist.Clients.{calls_of}
-use Rattle.sg_world.specs.sg_seat.declared.mark.Mark.{Mark}
-use Rattle.sg_world.specs.sg_seat.declared.mark.MarkKind.{MarkKind}
-use Rattle.sg_world.specs.sg_seat.declared.mark.MarkKind.TheVariants.{Offer, Entry as Entered, Answer, Withdraw, Leave}
-use Rattle.sg_world.specs.sg_seat.declared.withdrawn.Withdrawn.{Withdrawn}
+use Rattle.sg_world.specs.sg_clients.declared.mark.Mark.{Mark}
+use Rattle.sg_world.specs.sg_clients.declared.mark.MarkKind.{MarkKind}
+use Rattle.sg_world.specs.sg_clients.declared.mark.MarkKind.TheVariants.{Offer, Entry as Entered, Answer, Withdraw, Leave}
+use Rattle.sg_world.specs.sg_clients.declared.withdrawn.Withdrawn.{Withdrawn}
 use Rattle.sg_world.specs.Marked.{last_kind, or_later, marked_as, is_entry_mark, is_withdrawal_mark}
 use Rattle.sg_world.specs.sg_world_laws.Seats.{last_of}
-use Rattle.sg_passes.specs.sg_turn.declared.log.LogMark.{LogMark}
-use Rattle.sg_passes.specs.sg_turn.Logs.{marks_of}
-use Rattle.sg_passes.specs.Told.{Standing, idle, left, asking, has_reply, after_mark, standing_after}
+use Rattle.sg_turn.specs.declared.log.LogMark.{LogMark}
+use Rattle.sg_turn.specs.Logs.{marks_of}
+use Rattle.sg_turn.specs.Told.{Standing, idle, left, asking, has_reply, after_mark, standing_after}
 use Rattle.sg_log.specs.Log.{first_entry, call_told, entries_after, withdrawn_after, coming_call, kind_told, log_from}
 use Rattle.sg_log.proofs.Growing.{clients_of, clients_gone, step_aligned}
 

@@ -1,28 +1,28 @@
 -- What each line of a step adds to the log.
 use Rattle.std.proofs.Common.{◌≡◌, ◌≢◌, ℕ, zero, suc, ◌+◌, ◌-◌, ◌<◌, ◌≤◌, true, cond, eqb, List, [], ◌∷◌, ◌++◌, length, Option, None, Some, refl, sym, ap, ◌∙◌, subst, inl, inr, ⊎_elim, eq-eqb, true≢false, append-nil, append_assoc, arith, slice_get, unwrap_or}
-use Rattle.sg_passes.specs.sg_facts.sg_base.declared.call.Call.{Call}
-use Rattle.sg_passes.specs.sg_facts.sg_base.declared.reply.Reply.{Reply}
-use Rattle.sg_passes.specs.sg_facts.declared.entry.Entry.{Entry}
-use Rattle.sg_passes.specs.sg_facts.Facts.{Facts}
-use Rattle.sg_passes.specs.sg_facts.sg_base.Stops.{asked_after}
+use Rattle.sg_turn.specs.sg_facts.sg_base.declared.call.Call.{Call}
+use Rattle.sg_turn.specs.sg_facts.sg_base.declared.reply.Reply.{Reply}
+use Rattle.sg_turn.specs.sg_facts.declared.entry.Entry.{Entry}
+use Rattle.sg_turn.specs.sg_facts.Facts.{Facts}
+use Rattle.sg_turn.specs.sg_facts.sg_base.Stops.{asked_after}
 use Rattle.sg_world.specs.sg_recovery_laws.sg_hist.Clients.{calls_of}
 use Rattle.sg_world.specs.sg_recovery_laws.sg_hist.Inside.Reads.{after_item}
-use Rattle.sg_world.specs.sg_seat.WorldView.{Seat, WorldView, no_seat, seat_of, is_offered, IsFree, happened, committed, given_to, answered_to, reply_handed_over, service_is, item_noted, with_points, struck_at}
-use Rattle.sg_world.specs.sg_seat.declared.mark.Mark.{Mark}
-use Rattle.sg_world.specs.sg_seat.declared.mark.MarkKind.{MarkKind}
-use Rattle.sg_world.specs.sg_seat.declared.mark.MarkKind.TheVariants.{Offer, Entry as Entered, Answer, Withdraw, Leave}
-use Rattle.sg_world.specs.sg_seat.declared.phase.Phase.{Phase}
-use Rattle.sg_world.specs.sg_seat.declared.phase.Phase.TheVariants.{Idle, Asked, Held, Receipted, Blocked, Left}
-use Rattle.sg_world.specs.sg_seat.declared.withdrawn.Withdrawn.{Withdrawn}
+use Rattle.sg_world.specs.sg_clients.WorldView.{Seat, WorldView, no_seat, seat_of, is_offered, IsFree, happened, committed, given_to, answered_to, reply_handed_over, service_is, item_noted, with_points, struck_at}
+use Rattle.sg_world.specs.sg_clients.declared.mark.Mark.{Mark}
+use Rattle.sg_world.specs.sg_clients.declared.mark.MarkKind.{MarkKind}
+use Rattle.sg_world.specs.sg_clients.declared.mark.MarkKind.TheVariants.{Offer, Entry as Entered, Answer, Withdraw, Leave}
+use Rattle.sg_world.specs.sg_clients.declared.phase.Phase.{Phase}
+use Rattle.sg_world.specs.sg_clients.declared.phase.Phase.TheVariants.{Idle, Asked, Held, Receipted, Blocked, Left}
+use Rattle.sg_world.specs.sg_clients.declared.withdrawn.Withdrawn.{Withdrawn}
 use Rattle.sg_world.specs.Marked.{TellsAll, AreTold, IsPhaseAfter, last_kind, or_later}
 use Rattle.sg_world.specs.Steps.{HasStepped}
 use Rattle.sg_world.specs.declared.did.Did.{Did}
 use Rattle.sg_world.specs.declared.did.Did.TheVariants.{Answered, Blocked as Waits, Booted, Loaded, Lost, Replayed, Served, Skipped, Struck}
 use Rattle.sg_world.specs.sg_world_laws.Seats.{last_of}
 use Rattle.sg_world.specs.sg_world_laws.Setting.{Setting}
-use Rattle.sg_passes.specs.sg_turn.declared.log.LogMarkKind.TheVariants.{Entry as TEntry, Answer as TAnswer}
-use Rattle.sg_passes.specs.Hosts.{AddsEntryAtMost, AddsAnswer, AddsStep}
-use Rattle.sg_passes.specs.Told.{idle, asking, has_reply, mark_by, standing_in}
+use Rattle.sg_turn.specs.declared.log.LogMarkKind.TheVariants.{Entry as TEntry, Answer as TAnswer}
+use Rattle.sg_turn.specs.Hosts.{AddsEntryAtMost, AddsAnswer, AddsStep}
+use Rattle.sg_turn.specs.Told.{idle, asking, has_reply, mark_by, standing_in}
 use Rattle.sg_log.specs.Dids.{stepped_of}
 use Rattle.sg_log.specs.Log.{call_at, call_in, entries_after, withdrawn_after, log_from, log_of}
 use Rattle.sg_log.proofs.Growing.{Starts, Aligned, aligned, log_same, entries_push}

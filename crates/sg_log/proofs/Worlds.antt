@@ -2,16 +2,16 @@
 use Rattle.std.proofs.Common.{◌≡◌, ◌⊎◌, ℕ, ◌≤◌, Bool, true, false, ◌&&◌, List, [], ◌∷◌, ◌++◌, map, length, Option, None, Some, Result, Ok, Err, refl, sym, ap, ◌∙◌, subst, inl, inr, true≢false}
 use Rattle.std.specs.List.{list_all}
 use Rattle.std.specs.Result.{IfOk}
-use Rattle.sg_passes.specs.sg_facts.sg_base.declared.call.Call.{Call}
-use Rattle.sg_passes.specs.Told.{Standing, AllRest, asking, entries_by, entries_in, idle, mark_by, standing_in}
-use Rattle.sg_passes.specs.sg_turn.declared.log.LogMarkKind.TheVariants.{Withdraw}
+use Rattle.sg_turn.specs.sg_facts.sg_base.declared.call.Call.{Call}
+use Rattle.sg_turn.specs.Told.{Standing, AllRest, asking, entries_by, entries_in, idle, mark_by, standing_in}
+use Rattle.sg_turn.specs.declared.log.LogMarkKind.TheVariants.{Withdraw}
 use Rattle.sg_world.specs.Marked.{TellsAll, IsPhaseAfter, last_kind}
 use Rattle.sg_world.specs.sg_recovery_laws.sg_hist.Clients.{calls_of}
-use Rattle.sg_world.specs.sg_seat.WorldView.{Seat, WorldView, seat_of, is_offered, is_at_rest, is_resting, MayWithdraw, happened, withdrawn_by}
-use Rattle.sg_world.specs.sg_seat.declared.mark.MarkKind.{MarkKind}
-use Rattle.sg_world.specs.sg_seat.declared.mark.MarkKind.TheVariants.{Offer, Entry as Entered, Answer, Withdraw as Withdrew, Leave}
-use Rattle.sg_world.specs.sg_seat.declared.phase.Phase.{Phase}
-use Rattle.sg_world.specs.sg_seat.declared.phase.Phase.TheVariants.{Idle, Asked, Held, Receipted, Blocked, Left}
+use Rattle.sg_world.specs.sg_clients.WorldView.{Seat, WorldView, seat_of, is_offered, is_at_rest, is_resting, MayWithdraw, happened, withdrawn_by}
+use Rattle.sg_world.specs.sg_clients.declared.mark.MarkKind.{MarkKind}
+use Rattle.sg_world.specs.sg_clients.declared.mark.MarkKind.TheVariants.{Offer, Entry as Entered, Answer, Withdraw as Withdrew, Leave}
+use Rattle.sg_world.specs.sg_clients.declared.phase.Phase.{Phase}
+use Rattle.sg_world.specs.sg_clients.declared.phase.Phase.TheVariants.{Idle, Asked, Held, Receipted, Blocked, Left}
 use Rattle.sg_log.specs.Log.{call_in, log_of, phase_number}
 use Rattle.sg_log.specs.Names.{IsSeatOf, TellsWorld, phases_of}
 use Rattle.sg_log.proofs.Offering.{withdraw_log, entries_told, own_told, own_gone_told, withdrawals_told}

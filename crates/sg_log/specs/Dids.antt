@@ -1,6 +1,6 @@
 -- What a step of a client came to, by what a world answers.
-use Rattle.sg_passes.specs.declared.host.Stepped.{Stepped}
-use Rattle.sg_passes.specs.declared.host.Stepped.TheVariants.{GoesOn, Answered as IsAnswered}
+use Rattle.sg_turn.specs.declared.host.Stepped.{Stepped}
+use Rattle.sg_turn.specs.declared.host.Stepped.TheVariants.{GoesOn, Answered as IsAnswered}
 use Rattle.sg_world.specs.declared.did.Did.{Did}
 use Rattle.sg_world.specs.declared.did.Did.TheVariants.{Answered, Blocked, Booted, Loaded, Lost, Replayed, Served, Skipped, Struck}
 

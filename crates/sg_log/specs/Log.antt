@@ -1,18 +1,18 @@
 -- The log of a world: what happened to its clients, with the calls and replies of it.
 use Rattle.std.specs.Prelude.{ℕ, zero, suc, ◌==◌, if◌then◌else◌, slice_get, unwrap_or, List, [], ◌∷◌, map}
-use Rattle.sg_passes.specs.sg_facts.sg_base.declared.call.Call.{Call}
-use Rattle.sg_passes.specs.sg_facts.declared.entry.Entry.{Entry}
-use Rattle.sg_passes.specs.sg_turn.declared.log.LogMark.{LogMark}
-use Rattle.sg_passes.specs.sg_turn.declared.log.LogMarkKind.{LogMarkKind}
-use Rattle.sg_passes.specs.sg_turn.declared.log.LogMarkKind.TheVariants.{Offer as OfOffer, Entry as OfEntry, Answer as OfAnswer, Withdraw as OfWithdrawal, Leave as OfLeave}
-use Rattle.sg_passes.specs.Told.{GivenUp, blocked_number, left_number}
-use Rattle.sg_world.specs.sg_seat.WorldView.{Seat, WorldView, no_call, no_reply, no_seat}
-use Rattle.sg_world.specs.sg_seat.declared.mark.Mark.{Mark}
-use Rattle.sg_world.specs.sg_seat.declared.mark.MarkKind.{MarkKind}
-use Rattle.sg_world.specs.sg_seat.declared.mark.MarkKind.TheVariants.{Offer, Entry as Entered, Answer, Withdraw, Leave}
-use Rattle.sg_world.specs.sg_seat.declared.phase.Phase.{Phase}
-use Rattle.sg_world.specs.sg_seat.declared.phase.Phase.TheVariants.{Idle, Asked, Held, Receipted, Blocked, Left}
-use Rattle.sg_world.specs.sg_seat.declared.withdrawn.Withdrawn.{Withdrawn}
+use Rattle.sg_turn.specs.sg_facts.sg_base.declared.call.Call.{Call}
+use Rattle.sg_turn.specs.sg_facts.declared.entry.Entry.{Entry}
+use Rattle.sg_turn.specs.declared.log.LogMark.{LogMark}
+use Rattle.sg_turn.specs.declared.log.LogMarkKind.{LogMarkKind}
+use Rattle.sg_turn.specs.declared.log.LogMarkKind.TheVariants.{Offer as OfOffer, Entry as OfEntry, Answer as OfAnswer, Withdraw as OfWithdrawal, Leave as OfLeave}
+use Rattle.sg_turn.specs.Told.{GivenUp, blocked_number, left_number}
+use Rattle.sg_world.specs.sg_clients.WorldView.{Seat, WorldView, no_call, no_reply, no_seat}
+use Rattle.sg_world.specs.sg_clients.declared.mark.Mark.{Mark}
+use Rattle.sg_world.specs.sg_clients.declared.mark.MarkKind.{MarkKind}
+use Rattle.sg_world.specs.sg_clients.declared.mark.MarkKind.TheVariants.{Offer, Entry as Entered, Answer, Withdraw, Leave}
+use Rattle.sg_world.specs.sg_clients.declared.phase.Phase.{Phase}
+use Rattle.sg_world.specs.sg_clients.declared.phase.Phase.TheVariants.{Idle, Asked, Held, Receipted, Blocked, Left}
+use Rattle.sg_world.specs.sg_clients.declared.withdrawn.Withdrawn.{Withdrawn}
 
 -- the phases as numbers, in their order
 abbrev pub phase_number : Phase → ℕ

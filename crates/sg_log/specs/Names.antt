@@ -1,18 +1,18 @@
 -- What a named world asks of a call, and what its log tells.
 use Rattle.std.specs.Prelude.{◌≡◌, ℕ, ◌==◌, true, List, filter, length, map, None}
-use Rattle.sg_passes.specs.sg_facts.sg_base.declared.call.Call.{Call}
-use Rattle.sg_passes.specs.sg_facts.Interface.{Declared, declares}
-use Rattle.sg_passes.specs.sg_facts.Kinds.{AreWords, FitsKinds}
-use Rattle.sg_passes.specs.sg_facts.Legal.{Table, answer}
-use Rattle.sg_passes.specs.sg_facts.Object.{object_of}
-use Rattle.sg_passes.specs.sg_facts.declared.entry.Entry.{Entry}
-use Rattle.sg_passes.specs.Told.{Standing, asking, entries_by, entries_in, has_reply, idle, left, standing_in, withdrawals_in}
-use Rattle.sg_passes.specs.sg_turn.Logs.{marks_of}
+use Rattle.sg_turn.specs.sg_facts.sg_base.declared.call.Call.{Call}
+use Rattle.sg_turn.specs.sg_facts.Interface.{Declared, declares}
+use Rattle.sg_turn.specs.sg_facts.Kinds.{AreWords, FitsKinds}
+use Rattle.sg_turn.specs.sg_facts.Legal.{Table, answer}
+use Rattle.sg_turn.specs.sg_facts.Object.{object_of}
+use Rattle.sg_turn.specs.sg_facts.declared.entry.Entry.{Entry}
+use Rattle.sg_turn.specs.Told.{Standing, asking, entries_by, entries_in, has_reply, idle, left, standing_in, withdrawals_in}
+use Rattle.sg_turn.specs.Logs.{marks_of}
 use Rattle.sg_world.specs.sg_clients.Clients.{IsClient}
 use Rattle.sg_world.specs.sg_recovery_laws.sg_hist.Clients.{calls_of}
-use Rattle.sg_world.specs.sg_seat.WorldView.{Seat, WorldView, is_offered, seat_of}
-use Rattle.sg_world.specs.sg_seat.declared.phase.Phase.TheVariants.{Idle, Left, Receipted}
-use Rattle.sg_world.specs.sg_seat.declared.withdrawn.Withdrawn.{Withdrawn}
+use Rattle.sg_world.specs.sg_clients.WorldView.{Seat, WorldView, is_offered, seat_of}
+use Rattle.sg_world.specs.sg_clients.declared.phase.Phase.TheVariants.{Idle, Left, Receipted}
+use Rattle.sg_world.specs.sg_clients.declared.withdrawn.Withdrawn.{Withdrawn}
 use Rattle.sg_log.specs.Log.{given_up, log_of, phase_number}
 
 -- a call that a client may offer: its function is declared, and takes such arguments

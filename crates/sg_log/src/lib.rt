@@ -9,7 +9,7 @@
 mod named;
 
 pub use named::{NamedWorld, WorldNames, stepped_of};
-pub use sg_passes::{
+pub use sg_turn::{
     Args, Host, InvokeFault, Kept, NoMemory, Pass, PassList, Service, Shared, Stepped, Stops,
 };
 pub use sg_world::{Did, History, World};

@@ -1,20 +1,20 @@
 // A world by a name.
 ghost use Rattle.std.specs.Prelude.{◌≡◌, ◌+◌, ◌<◌, ◌≤◌, ◌^◌, [], ◌∷◌, ◌++◌, length, IfOk, OnErr, OnOk};
-ghost use Rattle.sg_passes.specs.Hosts.{AddsLeave, AddsStep};
-ghost use Rattle.sg_passes.specs.Told.{HasNoCall, asking, entries_by, entries_in, mark_by, next_call, standing_in};
-ghost use Rattle.sg_passes.specs.sg_facts.Legal.{LegalFrom};
-ghost use Rattle.sg_passes.specs.sg_facts.Object.{empty_object};
-ghost use Rattle.sg_passes.specs.sg_facts.sg_base.Counts.{last_count};
-ghost use Rattle.sg_passes.specs.sg_turn.Logs.{OneMore};
-ghost use Rattle.sg_passes.specs.sg_turn.declared.log.LogMarkKind.TheVariants.{Offer, Withdraw};
+ghost use Rattle.sg_turn.specs.Hosts.{AddsLeave, AddsStep};
+ghost use Rattle.sg_turn.specs.Told.{HasNoCall, asking, entries_by, entries_in, mark_by, next_call, standing_in};
+ghost use Rattle.sg_turn.specs.sg_facts.Legal.{LegalFrom};
+ghost use Rattle.sg_turn.specs.sg_facts.Object.{empty_object};
+ghost use Rattle.sg_turn.specs.sg_facts.sg_base.Counts.{last_count};
+ghost use Rattle.sg_turn.specs.Logs.{OneMore};
+ghost use Rattle.sg_turn.specs.declared.log.LogMarkKind.TheVariants.{Offer, Withdraw};
 ghost use Rattle.sg_log.specs.Dids.{stepped_of};
 ghost use Rattle.sg_log.specs.Log.{log_of};
 ghost use Rattle.sg_log.specs.Names.{MayOffer, TellsWorld, phases_of};
 ghost use Rattle.sg_world.specs.Steps.{AnswersLast, HasStepped, WantsMemory};
 ghost use Rattle.sg_world.specs.Worlded.{setting_of};
-ghost use Rattle.sg_world.specs.sg_seat.WorldView.{MayWithdraw, happened, offered, seat_of, with_leave, withdrawn_by};
+ghost use Rattle.sg_world.specs.sg_clients.WorldView.{MayWithdraw, happened, offered, seat_of, with_leave, withdrawn_by};
 
-use sg_passes::{Args, Host, Kept, NoMemory, Service, Stepped, Stops};
+use sg_turn::{Args, Host, Kept, NoMemory, Service, Stepped, Stops};
 use sg_world::{Did, Phase, World};
 use std::alloc::Global;
 use std::marker::{Brand, PhantomData};
@@ -22,7 +22,7 @@ use std::marker::{Brand, PhantomData};
 /// Which world it is: its tables, how many clients it has, and the plan of its stops. Each sharing picks its own.
 pub trait WorldNames {
     ghost use Rattle.std.specs.Prelude.{ℕ, List};
-    ghost use Rattle.sg_passes.specs.sg_facts.Tables.{Compiled};
+    ghost use Rattle.sg_turn.specs.sg_facts.Tables.{Compiled};
 
     ghost tables: { Compiled };
 
@@ -201,10 +201,10 @@ impl<S: Service, T: Stops, N: WorldNames> Kept for NamedWorld<S, T, N> {
 }
 
 impl<S: Service, T: Stops, N: WorldNames> Host for NamedWorld<S, T, N> {
-    ghost use Rattle.sg_passes.specs.sg_facts.Legal.{LegalFrom};
-    ghost use Rattle.sg_passes.specs.sg_facts.Object.{empty_object};
+    ghost use Rattle.sg_turn.specs.sg_facts.Legal.{LegalFrom};
+    ghost use Rattle.sg_turn.specs.sg_facts.Object.{empty_object};
     ghost use Rattle.sg_log.specs.Names.{HasNoAnswer, MayOffer, phases_of};
-    ghost use Rattle.sg_world.specs.sg_seat.WorldView.{MayWithdraw, seat_of};
+    ghost use Rattle.sg_world.specs.sg_clients.WorldView.{MayWithdraw, seat_of};
 
     ghost clients = { N.clients };
 

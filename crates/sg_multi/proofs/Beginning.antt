@@ -6,19 +6,19 @@ use Rattle.sg_facts.specs.sg_base.Lists.{Each}
 use Rattle.sg_facts.specs.Interface.{Declared}
 use Rattle.sg_facts.specs.Limits.{last_client}
 use Rattle.sg_facts.specs.Tables.{Compiled}
-use Rattle.sg_members.proofs.sg_sim.Beginning.{new_seat}
-use Rattle.sg_members.specs.Members.{kind_in, setting_by, setting_in, view_in, world_in}
-use Rattle.sg_members.specs.declared.member.Member.{Member}
-use Rattle.sg_members.specs.sg_load.Services.{facts_by}
-use Rattle.sg_members.specs.sg_load.declared.kind.ServiceKind.{ServiceKind}
-use Rattle.sg_members.specs.sg_load.declared.kind.ServiceKind.TheVariants.{Locks, Events, Pages, Files, Threads, Timers}
-use Rattle.sg_members.specs.sg_sim.sg_plain.Calls.{most_client}
-use Rattle.sg_members.specs.sg_sim.sg_plain.Playing.Callers.{is_receipted}
-use Rattle.sg_members.specs.sg_sim.sg_plain.Playing.Playable.{AreClients}
-use Rattle.sg_members.specs.sg_sim.sg_play.Waking.Waking.{no_query_waits}
-use Rattle.sg_members.specs.sg_sim.sg_script.declared.multi.MultiCall.{MultiCall}
-use Rattle.sg_members.specs.sg_sim.sg_script.declared.multi.MultiScript.{MultiScript}
-use Rattle.sg_members.specs.sg_sim.sg_seat.WorldView.{Seat, WorldView, is_offered, new_world, no_seat, seat_of}
+use Rattle.sg_multi.proofs.sg_sim.Beginning.{new_seat}
+use Rattle.sg_multi.specs.Members.{kind_in, setting_by, setting_in, view_in, world_in}
+use Rattle.sg_multi.specs.declared.member.Member.{Member}
+use Rattle.sg_multi.specs.sg_load.Services.{facts_by}
+use Rattle.sg_multi.specs.sg_load.declared.kind.ServiceKind.{ServiceKind}
+use Rattle.sg_multi.specs.sg_load.declared.kind.ServiceKind.TheVariants.{Locks, Events, Pages, Files, Threads, Timers}
+use Rattle.sg_multi.specs.sg_sim.sg_plain.Calls.{most_client}
+use Rattle.sg_multi.specs.sg_sim.sg_plain.Playing.Callers.{is_receipted}
+use Rattle.sg_multi.specs.sg_sim.sg_plain.Playing.Playable.{AreClients}
+use Rattle.sg_multi.specs.sg_sim.sg_play.Waking.Waking.{no_query_waits}
+use Rattle.sg_multi.specs.sg_sim.sg_script.declared.multi.MultiCall.{MultiCall}
+use Rattle.sg_multi.specs.sg_sim.sg_script.declared.multi.MultiScript.{MultiScript}
+use Rattle.sg_multi.specs.sg_sim.sg_clients.WorldView.{Seat, WorldView, is_offered, new_world, no_seat, seat_of}
 use Rattle.sg_multi.specs.Beginning.{AreNewMembers}
 use Rattle.sg_multi.specs.Inside.Keeps.{IsMultiCaller, KeepsMulti, all_of_first, interfaces_of}
 use Rattle.sg_multi.specs.Playable.{IsMultiPlayable}

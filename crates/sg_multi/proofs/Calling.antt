@@ -5,14 +5,14 @@ use Rattle.std.proofs.lemmas.List.{map-append}
 use Rattle.sg_facts.specs.sg_base.declared.call.Call.{Call}
 use Rattle.sg_facts.specs.declared.entry.Entry.{Entry}
 use Rattle.sg_facts.specs.Interface.{Declared}
-use Rattle.sg_members.proofs.sg_sim.sg_play.sg_plain.Playing.Resolving.{resolved_more, resolved_on}
-use Rattle.sg_members.specs.sg_sim.sg_plain.Playing.Callers.{is_receipted}
-use Rattle.sg_members.specs.sg_sim.sg_plain.Playing.Given.{GaveIds}
-use Rattle.sg_members.specs.sg_sim.sg_plain.Script.{call_fits}
-use Rattle.sg_members.specs.sg_sim.sg_play.sg_hist.Inside.Reads.{desc_of}
-use Rattle.sg_members.specs.sg_sim.sg_script.declared.multi.MultiCall.{MultiCall}
-use Rattle.sg_members.specs.sg_sim.sg_script.declared.multi.MultiScript.{MultiScript}
-use Rattle.sg_members.specs.sg_sim.sg_seat.WorldView.{Seat, is_offered}
+use Rattle.sg_multi.proofs.sg_sim.sg_play.sg_plain.Playing.Resolving.{resolved_more, resolved_on}
+use Rattle.sg_multi.specs.sg_sim.sg_plain.Playing.Callers.{is_receipted}
+use Rattle.sg_multi.specs.sg_sim.sg_plain.Playing.Given.{GaveIds}
+use Rattle.sg_multi.specs.sg_sim.sg_plain.Script.{call_fits}
+use Rattle.sg_multi.specs.sg_sim.sg_play.sg_hist.Inside.Reads.{desc_of}
+use Rattle.sg_multi.specs.sg_sim.sg_script.declared.multi.MultiCall.{MultiCall}
+use Rattle.sg_multi.specs.sg_sim.sg_script.declared.multi.MultiScript.{MultiScript}
+use Rattle.sg_multi.specs.sg_sim.sg_clients.WorldView.{Seat, is_offered}
 use Rattle.sg_multi.specs.Calls.{AreFirstMultiCalls, IsCallOf, multi_calls}
 use Rattle.sg_multi.specs.Inside.Callers.{IsSeatOf}
 use Rattle.sg_multi.specs.Merged.{MultiEntry, entries_in, own_in}

@@ -6,9 +6,9 @@ use Rattle.std.proofs.lemmas.Bool.{cases_lt}
 use Rattle.std.proofs.lemmas.Bool.Decides.{nat_tests}
 use Rattle.std.proofs.lemmas.List.{map-append}
 use Rattle.std.proofs.lemmas.List.Elements.{filter-append}
-use Rattle.sg_members.specs.declared.member.Member.{Member}
-use Rattle.sg_members.specs.sg_sim.sg_plain.Calls.{ascending_from, most_client}
-use Rattle.sg_members.specs.sg_sim.sg_script.declared.multi.MultiScript.{MultiScript}
+use Rattle.sg_multi.specs.declared.member.Member.{Member}
+use Rattle.sg_multi.specs.sg_sim.sg_plain.Calls.{ascending_from, most_client}
+use Rattle.sg_multi.specs.sg_sim.sg_script.declared.multi.MultiScript.{MultiScript}
 use Rattle.sg_multi.specs.Calls.{has_multi_calls}
 use Rattle.sg_multi.specs.Inside.Turns.{NobodyGoesNow, NoneBehind, end_by, end_of_client, ends_up_to, may_go_now}
 use Rattle.sg_multi.specs.declared.ended.MultiEnd.{MultiEnd}

@@ -5,7 +5,7 @@ use Rattle.std.specs.List.{list_all, list_any}
 use Rattle.std.specs.Option.{option_map_or}
 use Rattle.std.specs.declared.option.Option.{Option}
 use Rattle.std.proofs.lemmas.Bool.Decides.{nat_tests}
-use Rattle.sg_members.specs.sg_edge.Stops.{AscendsAbove, up_to}
+use Rattle.sg_multi.specs.sg_edge.Stops.{AscendsAbove, up_to}
 use Rattle.sg_facts.specs.Interface.{Declared}
 use Rattle.sg_facts.specs.Legal.{IsLegal, answer}
 use Rattle.sg_facts.specs.Object.{object_of}
@@ -14,34 +14,34 @@ use Rattle.sg_facts.specs.sg_base.Lists.{Each}
 use Rattle.sg_facts.specs.sg_base.declared.call.Call.{Call}
 use Rattle.sg_facts.proofs.Legality.{IsLegal-from}
 use Rattle.sg_facts.proofs.Replaying.Found.{other_test, same_test}
-use Rattle.sg_members.proofs.sg_sim.sg_play.Ends.{IsOver, over_by}
-use Rattle.sg_members.proofs.sg_sim.sg_play.Waking.Waking.{waking_woken}
-use Rattle.sg_members.proofs.sg_sim.sg_play.sg_world.sg_world_laws.sg_recovery_laws.Lists.{each_append}
-use Rattle.sg_members.specs.Members.{kind_in, setting_by, setting_in, view_in, world_in}
-use Rattle.sg_members.specs.sg_load.declared.kind.ServiceKind.{ServiceKind}
-use Rattle.sg_members.specs.sg_load.declared.kind.ServiceKind.TheVariants.{Locks as locks, Events as events, Pages as pages, Files as files, Threads as threads, Timers as timers}
-use Rattle.sg_members.specs.declared.member.Member.{Member}
-use Rattle.sg_members.specs.sg_sim.Played.{IsOfWorld}
-use Rattle.sg_members.specs.sg_sim.sg_plain.Calls.{ascending_from, most_client}
-use Rattle.sg_members.specs.sg_sim.sg_plain.Plain.{IsPlay}
-use Rattle.sg_members.specs.sg_sim.sg_plain.Playing.Callers.{is_receipted}
-use Rattle.sg_members.specs.sg_sim.sg_plain.Playing.Given.{given_in}
-use Rattle.sg_members.specs.sg_sim.sg_plain.Playing.Ends.{ends_from}
-use Rattle.sg_members.specs.sg_sim.sg_plain.Playing.Turns.{NobodyGoes, may_go}
-use Rattle.sg_members.specs.sg_sim.sg_plain.Promises.{AreWoken}
-use Rattle.sg_members.specs.sg_sim.sg_play.Recovering.{RecoversSoFar}
-use Rattle.sg_members.specs.sg_sim.sg_play.sg_hist.Clients.{AreNumbered}
-use Rattle.sg_members.specs.sg_sim.sg_play.sg_hist.Ending.{HasRecovered}
-use Rattle.sg_members.specs.sg_sim.sg_play.sg_hist.Inside.Parts.{IsStillBlocked, waiting_in}
-use Rattle.sg_members.specs.sg_sim.sg_play.sg_hist.Recovered.{IsRecovered, struck_in, waiting}
-use Rattle.sg_members.specs.sg_sim.sg_play.sg_hist.declared.ended.End.TheVariants.{Done as done, Blocked as blocked}
-use Rattle.sg_members.specs.sg_sim.sg_play.sg_hist.declared.ended.Ended.{Ended}
-use Rattle.sg_members.specs.sg_sim.sg_script.declared.multi.MultiCall.{MultiCall}
-use Rattle.sg_members.specs.sg_sim.sg_script.declared.multi.MultiScript.{MultiScript}
-use Rattle.sg_members.specs.sg_sim.sg_seat.WorldView.{Seat, WorldView, is_blocked_phase, is_offered, no_seat, offered_by, seat_of, unanswered}
-use Rattle.sg_members.specs.sg_sim.sg_seat.declared.phase.Phase.{Phase}
-use Rattle.sg_members.specs.sg_sim.sg_seat.declared.phase.Phase.TheVariants.{Idle, Asked, Held, Receipted, Blocked as Waits, Left}
-use Rattle.sg_members.specs.sg_sim.sg_world_laws.Setting.{Setting, stubs_of}
+use Rattle.sg_multi.proofs.sg_sim.sg_play.Ends.{IsOver, over_by}
+use Rattle.sg_multi.proofs.sg_sim.sg_play.Waking.Waking.{waking_woken}
+use Rattle.sg_multi.proofs.sg_sim.sg_play.sg_world.sg_world_laws.sg_recovery_laws.Lists.{each_append}
+use Rattle.sg_multi.specs.Members.{kind_in, setting_by, setting_in, view_in, world_in}
+use Rattle.sg_multi.specs.sg_load.declared.kind.ServiceKind.{ServiceKind}
+use Rattle.sg_multi.specs.sg_load.declared.kind.ServiceKind.TheVariants.{Locks as locks, Events as events, Pages as pages, Files as files, Threads as threads, Timers as timers}
+use Rattle.sg_multi.specs.declared.member.Member.{Member}
+use Rattle.sg_multi.specs.sg_sim.Played.{IsOfWorld}
+use Rattle.sg_multi.specs.sg_sim.sg_plain.Calls.{ascending_from, most_client}
+use Rattle.sg_multi.specs.sg_sim.sg_plain.Plain.{IsPlay}
+use Rattle.sg_multi.specs.sg_sim.sg_plain.Playing.Callers.{is_receipted}
+use Rattle.sg_multi.specs.sg_sim.sg_plain.Playing.Given.{given_in}
+use Rattle.sg_multi.specs.sg_sim.sg_plain.Playing.Ends.{ends_from}
+use Rattle.sg_multi.specs.sg_sim.sg_plain.Playing.Turns.{NobodyGoes, may_go}
+use Rattle.sg_multi.specs.sg_sim.sg_plain.Promises.{AreWoken}
+use Rattle.sg_multi.specs.sg_sim.sg_play.Recovering.{RecoversSoFar}
+use Rattle.sg_multi.specs.sg_sim.sg_play.sg_hist.Clients.{AreNumbered}
+use Rattle.sg_multi.specs.sg_sim.sg_play.sg_hist.Ending.{HasRecovered}
+use Rattle.sg_multi.specs.sg_sim.sg_play.sg_hist.Inside.Parts.{IsStillBlocked, waiting_in}
+use Rattle.sg_multi.specs.sg_sim.sg_play.sg_hist.Recovered.{IsRecovered, struck_in, waiting}
+use Rattle.sg_multi.specs.sg_sim.sg_play.sg_hist.declared.ended.End.TheVariants.{Done as done, Blocked as blocked}
+use Rattle.sg_multi.specs.sg_sim.sg_play.sg_hist.declared.ended.Ended.{Ended}
+use Rattle.sg_multi.specs.sg_sim.sg_script.declared.multi.MultiCall.{MultiCall}
+use Rattle.sg_multi.specs.sg_sim.sg_script.declared.multi.MultiScript.{MultiScript}
+use Rattle.sg_multi.specs.sg_sim.sg_clients.WorldView.{Seat, WorldView, is_blocked_phase, is_offered, no_seat, offered_by, seat_of, unanswered}
+use Rattle.sg_multi.specs.sg_sim.sg_clients.declared.phase.Phase.{Phase}
+use Rattle.sg_multi.specs.sg_sim.sg_clients.declared.phase.Phase.TheVariants.{Idle, Asked, Held, Receipted, Blocked as Waits, Left}
+use Rattle.sg_multi.specs.sg_sim.sg_world_laws.Setting.{Setting, stubs_of}
 use Rattle.sg_multi.specs.Calls.{AreFirstMultiCalls, AreMultiCalls, IsCallOf, has_multi_calls, multi_callers, multi_calls}
 use Rattle.sg_multi.specs.Ends.{AreMultiEnds, IsMultiEnd, IsWaiting, end_at, ends_at}
 use Rattle.sg_multi.specs.Inside.Callers.{IsSeatOf}

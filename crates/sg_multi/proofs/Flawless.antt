@@ -6,11 +6,11 @@ use Rattle.std.specs.Prelude.{◌==◌, filter, unwrap_or}
 use Rattle.std.specs.declared.option.Option.{Option}
 use Rattle.std.specs.Option.{option_map_or}
 use Rattle.std.specs.List.{flat_map, range_with_len}
-use Rattle.sg_members.specs.sg_edge.Stops.{AscendsAbove}
+use Rattle.sg_multi.specs.sg_edge.Stops.{AscendsAbove}
 use Rattle.sg_facts.specs.sg_base.Lists.{Each}
 use Rattle.sg_facts.specs.Facts.{fun_at}
 use Rattle.sg_facts.specs.Interface.{Declared}
-use Rattle.sg_members.specs.sg_sim.sg_plain.Calls.{part_of}
+use Rattle.sg_multi.specs.sg_sim.sg_plain.Calls.{part_of}
 use Rattle.sg_script.specs.sg_script_parse.declared.tree.WrittenCall.{WrittenCall}
 use Rattle.sg_script.specs.declared.multi.MultiCall.{MultiCall}
 use Rattle.sg_script.specs.declared.multi.MultiScript.{MultiScript}
@@ -19,9 +19,9 @@ use Rattle.sg_script.specs.Inside.Parts.{fun_flaws}
 use Rattle.sg_script.specs.Reads.{IsMultiReadingOf}
 use Rattle.sg_script.specs.Scripts.{calls_of_setup, clients_of, declared_fun, found_from, function_named, is_stop_of, most_members, multi_call_of, script_args, script_call_of, stops_of}
 use Rattle.sg_script.proofs.Held.{back_none, front_none}
-use Rattle.sg_members.proofs.sg_sim.sg_plain.Flawless.Clients.{IsRead, calls_few, clients_read, of_part}
-use Rattle.sg_members.proofs.sg_sim.sg_plain.Flawless.Once.{IsFlawlessSetup, all_turns, setup_flawless, stops_ascending}
-use Rattle.sg_members.proofs.sg_sim.sg_plain.Flawless.Parts.{IsGoodCall, fun_fits}
+use Rattle.sg_multi.proofs.sg_sim.sg_plain.Flawless.Clients.{IsRead, calls_few, clients_read, of_part}
+use Rattle.sg_multi.proofs.sg_sim.sg_plain.Flawless.Once.{IsFlawlessSetup, all_turns, setup_flawless, stops_ascending}
+use Rattle.sg_multi.proofs.sg_sim.sg_plain.Flawless.Parts.{IsGoodCall, fun_fits}
 use Rattle.sg_multi.specs.Playable.{AllFit, FitsMember, IsMultiPlayable, MayNotWait}
 
 -- ---- the member of a call

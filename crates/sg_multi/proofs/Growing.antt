@@ -1,9 +1,9 @@
 -- Lists that grow by one member, place by place.
 use Rattle.std.proofs.Common.{◌≡◌, ◌⊎◌, inl, inr, ℕ, zero, suc, ◌+◌, List, [], ◌∷◌, ◌++◌, Some, length, refl, sym, ◌∙◌, ap, subst}
 use Rattle.std.specs.Prelude.{slice_get}
-use Rattle.sg_members.specs.Members.{IsNewMember}
-use Rattle.sg_members.specs.declared.member.Member.{Member}
-use Rattle.sg_members.specs.sg_sim.sg_play.sg_hist.declared.ended.Ended.{Ended}
+use Rattle.sg_multi.specs.Members.{IsNewMember}
+use Rattle.sg_multi.specs.declared.member.Member.{Member}
+use Rattle.sg_multi.specs.sg_sim.sg_play.sg_hist.declared.ended.Ended.{Ended}
 use Rattle.sg_multi.specs.Beginning.{AreNew}
 use Rattle.sg_multi.specs.Inside.Ended.{AreEnded, IsEndedMember}
 use Rattle.sg_multi.specs.declared.ended.MultiEnd.{MultiEnd}

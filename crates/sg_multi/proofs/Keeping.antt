@@ -7,35 +7,35 @@ use Rattle.sg_facts.specs.sg_base.declared.call.Call.{Call}
 use Rattle.sg_facts.specs.sg_base.declared.reply.Reply.{Reply}
 use Rattle.sg_facts.specs.Tables.{Compiled}
 use Rattle.sg_facts.proofs.Replaying.Found.{same_test}
-use Rattle.sg_members.proofs.sg_sim.sg_play.Waking.Shapes.{call_is_next, call_is_own}
-use Rattle.sg_members.proofs.sg_sim.sg_play.sg_plain.sg_seat.Lines.{length_set, same_or_other, seat_here, seat_there}
-use Rattle.sg_members.specs.Members.{ChangesAt, kind_in, setting_by, setting_in, view_in, world_in}
-use Rattle.sg_members.specs.declared.member.Member.{Member}
-use Rattle.sg_members.specs.sg_load.declared.kind.ServiceKind.{ServiceKind}
-use Rattle.sg_members.specs.sg_sim.sg_plain.Calls.{most_client}
-use Rattle.sg_members.specs.sg_sim.sg_plain.Playing.Callers.{is_receipted}
-use Rattle.sg_members.specs.sg_sim.sg_plain.Playing.Given.{GaveIds, given_in, with_handed}
-use Rattle.sg_members.specs.sg_sim.sg_plain.Playing.Turns.{is_free_phase}
-use Rattle.sg_members.specs.sg_sim.sg_play.Recovering.{RecoversSoFar}
-use Rattle.sg_members.specs.sg_sim.sg_play.Turning.{handed_by}
-use Rattle.sg_members.specs.sg_sim.sg_play.sg_hist.Clients.{calls_of}
-use Rattle.sg_members.specs.sg_sim.sg_play.sg_hist.Inside.Reads.{desc_of}
-use Rattle.sg_members.specs.sg_sim.sg_script.declared.multi.MultiCall.{MultiCall}
-use Rattle.sg_members.specs.sg_sim.sg_script.declared.multi.MultiScript.{MultiScript}
-use Rattle.sg_members.specs.sg_sim.sg_seat.WorldView.{Seat, WorldView, happened, is_offered, offered, seat_in, seat_of}
-use Rattle.sg_members.specs.sg_sim.sg_seat.declared.phase.Phase.{Phase}
-use Rattle.sg_members.specs.sg_sim.sg_seat.declared.phase.Phase.TheVariants.{Idle, Asked, Held, Receipted, Blocked, Left}
-use Rattle.sg_members.specs.sg_sim.sg_world.declared.did.Did.{Did}
-use Rattle.sg_members.specs.sg_sim.sg_world.declared.did.Did.TheVariants.{Answered, Blocked as Waits, Booted, Loaded, Lost, Replayed, Served, Skipped, Struck}
-use Rattle.sg_members.specs.sg_sim.sg_world.Steps.{AnswersLast, HasStepped, WantsMemory}
+use Rattle.sg_multi.proofs.sg_sim.sg_play.Waking.Shapes.{call_is_next, call_is_own}
+use Rattle.sg_multi.proofs.sg_sim.sg_play.sg_plain.sg_clients.Lines.{length_set, same_or_other, seat_here, seat_there}
+use Rattle.sg_multi.specs.Members.{ChangesAt, kind_in, setting_by, setting_in, view_in, world_in}
+use Rattle.sg_multi.specs.declared.member.Member.{Member}
+use Rattle.sg_multi.specs.sg_load.declared.kind.ServiceKind.{ServiceKind}
+use Rattle.sg_multi.specs.sg_sim.sg_plain.Calls.{most_client}
+use Rattle.sg_multi.specs.sg_sim.sg_plain.Playing.Callers.{is_receipted}
+use Rattle.sg_multi.specs.sg_sim.sg_plain.Playing.Given.{GaveIds, given_in, with_handed}
+use Rattle.sg_multi.specs.sg_sim.sg_plain.Playing.Turns.{is_free_phase}
+use Rattle.sg_multi.specs.sg_sim.sg_play.Recovering.{RecoversSoFar}
+use Rattle.sg_multi.specs.sg_sim.sg_play.Turning.{handed_by}
+use Rattle.sg_multi.specs.sg_sim.sg_play.sg_hist.Clients.{calls_of}
+use Rattle.sg_multi.specs.sg_sim.sg_play.sg_hist.Inside.Reads.{desc_of}
+use Rattle.sg_multi.specs.sg_sim.sg_script.declared.multi.MultiCall.{MultiCall}
+use Rattle.sg_multi.specs.sg_sim.sg_script.declared.multi.MultiScript.{MultiScript}
+use Rattle.sg_multi.specs.sg_sim.sg_clients.WorldView.{Seat, WorldView, happened, is_offered, offered, seat_in, seat_of}
+use Rattle.sg_multi.specs.sg_sim.sg_clients.declared.phase.Phase.{Phase}
+use Rattle.sg_multi.specs.sg_sim.sg_clients.declared.phase.Phase.TheVariants.{Idle, Asked, Held, Receipted, Blocked, Left}
+use Rattle.sg_multi.specs.sg_sim.sg_world.declared.did.Did.{Did}
+use Rattle.sg_multi.specs.sg_sim.sg_world.declared.did.Did.TheVariants.{Answered, Blocked as Waits, Booted, Loaded, Lost, Replayed, Served, Skipped, Struck}
+use Rattle.sg_multi.specs.sg_sim.sg_world.Steps.{AnswersLast, HasStepped, WantsMemory}
 use Rattle.sg_multi.specs.Calls.{AreFirstMultiCalls, IsCallOf, multi_calls}
 use Rattle.sg_multi.specs.Inside.Callers.{HasReceipt, IsSeatOf, Offers}
 use Rattle.sg_multi.specs.Inside.Keeps.{IsAllHanded, IsMultiCaller, KeepsMulti, all_of_first, interfaces_of, is_multi_setting_up}
 use Rattle.sg_multi.specs.Inside.Member.{KeepsMember}
 use Rattle.sg_multi.specs.Inside.Turns.{SameMembers}
 use Rattle.sg_multi.specs.Merged.{Merges, MultiEntry, entries_at, entries_in, own_in}
-use Rattle.sg_members.specs.sg_sim.sg_world_laws.Seats.{last_of}
-use Rattle.sg_members.specs.sg_sim.sg_world_laws.Setting.{stubs_of}
+use Rattle.sg_multi.specs.sg_sim.sg_world_laws.Seats.{last_of}
+use Rattle.sg_multi.specs.sg_sim.sg_world_laws.Setting.{stubs_of}
 use Rattle.sg_multi.specs.Playable.{IsMultiPlayable}
 use Rattle.sg_multi.specs.Played.{stubs_in}
 use Rattle.sg_multi.proofs.Calling.{call_grown, few_given, first_grown, first_more, first_same, fits_at, gave_front, gave_last, gave_same, last_member, offers_alone, receipt_alone, seat_free, seat_goes_on}

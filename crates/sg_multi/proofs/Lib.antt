@@ -12,6 +12,7 @@ pub mod NextTurn
 pub mod NumberingCalls
 pub mod Onward
 pub mod Own
+pub mod Places
 pub mod Players
 pub mod PrintedMembers
 pub mod ReadingMerged
@@ -19,3 +20,4 @@ pub mod Stages
 pub mod Stepping
 pub mod Turning
 pub mod Unstopped
+pub use Rattle.sg_sim.proofs as sg_sim

@@ -12,36 +12,36 @@ use Rattle.sg_facts.specs.Kinds.{AreWords, FitsKinds}
 use Rattle.sg_facts.specs.Legal.{LegalFrom}
 use Rattle.sg_facts.specs.Limits.{last_client, most_script_calls}
 use Rattle.sg_facts.specs.Object.{empty_object}
-use Rattle.sg_members.proofs.sg_sim.Beginning.{playing_new}
-use Rattle.sg_members.proofs.sg_sim.sg_play.Offering.{next_here, next_is, offered_playing}
-use Rattle.sg_members.proofs.sg_sim.sg_play.Turning.{stepped_handed, stepped_quiet}
-use Rattle.sg_members.proofs.sg_sim.sg_play.Waking.Shapes.{call_is_next, call_is_own}
-use Rattle.sg_members.proofs.sg_sim.sg_play.Waking.Turned.{stepped}
-use Rattle.sg_members.proofs.sg_sim.sg_play.Waking.Waking.{waking_new, waking_offer}
-use Rattle.sg_members.proofs.sg_sim.sg_play.Withdrawn.{withdrawn_stepped}
-use Rattle.sg_members.proofs.sg_sim.sg_play.sg_world.sg_world_laws.Entered.{numbered_push}
-use Rattle.sg_members.proofs.sg_sim.sg_play.sg_plain.sg_seat.Lines.{length_set}
-use Rattle.sg_members.specs.sg_sim.sg_plain.Calls.{ascending_from, call_after}
-use Rattle.sg_members.specs.sg_sim.sg_plain.Playing.Callers.{IsCaller, handed, is_setting_up}
-use Rattle.sg_members.specs.sg_sim.sg_plain.Playing.Given.{given_in}
-use Rattle.sg_members.specs.sg_sim.sg_plain.Playing.Plays.{IsPlaying}
-use Rattle.sg_members.specs.sg_sim.sg_plain.Playing.Turns.{is_free_phase}
-use Rattle.sg_members.specs.sg_sim.sg_plain.Script.{call_fits, desc_among, values_of}
-use Rattle.sg_members.specs.sg_sim.sg_play.NextCall.{IsNextCall}
-use Rattle.sg_members.specs.sg_sim.sg_play.Recovering.{RecoversSoFar}
-use Rattle.sg_members.specs.sg_sim.sg_play.Turning.{with_call}
-use Rattle.sg_members.specs.sg_sim.sg_play.Waking.Waking.{IsWaking, no_query_waits}
-use Rattle.sg_members.specs.sg_sim.sg_play.sg_hist.Clients.{AreNumbered, calls_of}
-use Rattle.sg_members.specs.sg_sim.sg_play.sg_hist.Inside.Reads.{desc_of}
-use Rattle.sg_members.specs.sg_sim.sg_script.declared.script.Script.{Script}
-use Rattle.sg_members.specs.sg_sim.sg_script.declared.script.ScriptCall.{ScriptCall}
-use Rattle.sg_members.specs.sg_sim.sg_seat.WorldView.{Seat, WorldView, happened, is_offered, new_world, no_seat, offered, seat_in, seat_of}
-use Rattle.sg_members.specs.sg_sim.sg_seat.declared.phase.Phase.{Phase}
-use Rattle.sg_members.specs.sg_sim.sg_seat.declared.phase.Phase.TheVariants.{Asked, Idle, Receipted}
-use Rattle.sg_members.specs.sg_sim.sg_world.declared.did.Did.{Did}
-use Rattle.sg_members.specs.sg_sim.sg_world.declared.did.Did.TheVariants.{Answered, Blocked as Waits, Booted, Loaded, Lost, Replayed, Served, Skipped, Struck}
-use Rattle.sg_members.specs.sg_sim.sg_world.Steps.{AnswersLast, HasStepped, WantsMemory}
-use Rattle.sg_members.specs.sg_sim.sg_world_laws.Setting.{Setting}
+use Rattle.sg_multi.proofs.sg_sim.Beginning.{playing_new}
+use Rattle.sg_multi.proofs.sg_sim.sg_play.Offering.{next_here, next_is, offered_playing}
+use Rattle.sg_multi.proofs.sg_sim.sg_play.Turning.{stepped_handed, stepped_quiet}
+use Rattle.sg_multi.proofs.sg_sim.sg_play.Waking.Shapes.{call_is_next, call_is_own}
+use Rattle.sg_multi.proofs.sg_sim.sg_play.Waking.Turned.{stepped}
+use Rattle.sg_multi.proofs.sg_sim.sg_play.Waking.Waking.{waking_new, waking_offer}
+use Rattle.sg_multi.proofs.sg_sim.sg_play.Withdrawn.{withdrawn_stepped}
+use Rattle.sg_multi.proofs.sg_sim.sg_play.sg_world.sg_world_laws.Entered.{numbered_push}
+use Rattle.sg_multi.proofs.sg_sim.sg_play.sg_plain.sg_clients.Lines.{length_set}
+use Rattle.sg_multi.specs.sg_sim.sg_plain.Calls.{ascending_from, call_after}
+use Rattle.sg_multi.specs.sg_sim.sg_plain.Playing.Callers.{IsCaller, handed, is_setting_up}
+use Rattle.sg_multi.specs.sg_sim.sg_plain.Playing.Given.{given_in}
+use Rattle.sg_multi.specs.sg_sim.sg_plain.Playing.Plays.{IsPlaying}
+use Rattle.sg_multi.specs.sg_sim.sg_plain.Playing.Turns.{is_free_phase}
+use Rattle.sg_multi.specs.sg_sim.sg_plain.Script.{call_fits, desc_among, values_of}
+use Rattle.sg_multi.specs.sg_sim.sg_play.NextCall.{IsNextCall}
+use Rattle.sg_multi.specs.sg_sim.sg_play.Recovering.{RecoversSoFar}
+use Rattle.sg_multi.specs.sg_sim.sg_play.Turning.{with_call}
+use Rattle.sg_multi.specs.sg_sim.sg_play.Waking.Waking.{IsWaking, no_query_waits}
+use Rattle.sg_multi.specs.sg_sim.sg_play.sg_hist.Clients.{AreNumbered, calls_of}
+use Rattle.sg_multi.specs.sg_sim.sg_play.sg_hist.Inside.Reads.{desc_of}
+use Rattle.sg_multi.specs.sg_sim.sg_script.declared.script.Script.{Script}
+use Rattle.sg_multi.specs.sg_sim.sg_script.declared.script.ScriptCall.{ScriptCall}
+use Rattle.sg_multi.specs.sg_sim.sg_clients.WorldView.{Seat, WorldView, happened, is_offered, new_world, no_seat, offered, seat_in, seat_of}
+use Rattle.sg_multi.specs.sg_sim.sg_clients.declared.phase.Phase.{Phase}
+use Rattle.sg_multi.specs.sg_sim.sg_clients.declared.phase.Phase.TheVariants.{Asked, Idle, Receipted}
+use Rattle.sg_multi.specs.sg_sim.sg_world.declared.did.Did.{Did}
+use Rattle.sg_multi.specs.sg_sim.sg_world.declared.did.Did.TheVariants.{Answered, Blocked as Waits, Booted, Loaded, Lost, Replayed, Served, Skipped, Struck}
+use Rattle.sg_multi.specs.sg_sim.sg_world.Steps.{AnswersLast, HasStepped, WantsMemory}
+use Rattle.sg_multi.specs.sg_sim.sg_world_laws.Setting.{Setting}
 use Rattle.sg_multi.specs.Inside.Member.{KeepsMember}
 use Rattle.sg_multi.proofs.Stepping.{Answers, Enters, GoesQuietly, goes_quietly, is_answered}
 use Rattle.sg_multi.proofs.Own.{empty_all, empty_most, empty_playable, empty_script, grown, grown_all, grown_playing, new_next}

@@ -6,18 +6,18 @@ use Rattle.std.specs.Option.{option_map_or}
 use Rattle.std.specs.declared.option.Option.{Option}
 use Rattle.std.proofs.lemmas.Bool.{cases_lt}
 use Rattle.sg_facts.specs.sg_base.declared.reply.Reply.{Reply}
-use Rattle.sg_members.proofs.sg_sim.sg_play.Following.Whose.{from_one}
-use Rattle.sg_members.specs.declared.member.Member.{Member}
-use Rattle.sg_members.specs.sg_sim.Inside.Givens.{lists_of}
-use Rattle.sg_members.specs.sg_sim.sg_plain.Calls.{ascending_from, most_client}
-use Rattle.sg_members.specs.sg_sim.sg_plain.Inside.Turns.{first_of, in_a_circle, is_under_way, some_or}
-use Rattle.sg_members.specs.sg_sim.sg_plain.Plain.{Player, Stage, left_after_first, left_schedule, may_turn, next_turn, player_of, ready, through}
-use Rattle.sg_members.specs.sg_sim.sg_play.Following.Stages.{phase_by}
-use Rattle.sg_members.specs.sg_sim.sg_script.declared.multi.MultiCall.{MultiCall}
-use Rattle.sg_members.specs.sg_sim.sg_script.declared.multi.MultiScript.{MultiScript}
-use Rattle.sg_members.specs.sg_sim.sg_seat.WorldView.{is_blocked_phase}
-use Rattle.sg_members.specs.sg_sim.sg_seat.declared.phase.Phase.{Phase}
-use Rattle.sg_members.specs.sg_sim.sg_seat.declared.phase.Phase.TheVariants.{Idle, Asked, Held, Receipted, Blocked, Left}
+use Rattle.sg_multi.proofs.sg_sim.sg_play.Following.Whose.{from_one}
+use Rattle.sg_multi.specs.declared.member.Member.{Member}
+use Rattle.sg_multi.specs.sg_sim.Inside.Givens.{lists_of}
+use Rattle.sg_multi.specs.sg_sim.sg_plain.Calls.{ascending_from, most_client}
+use Rattle.sg_multi.specs.sg_sim.sg_plain.Inside.Turns.{first_of, in_a_circle, is_under_way, some_or}
+use Rattle.sg_multi.specs.sg_sim.sg_plain.Plain.{Player, Stage, left_after_first, left_schedule, may_turn, next_turn, player_of, ready, through}
+use Rattle.sg_multi.specs.sg_sim.sg_play.Following.Stages.{phase_by}
+use Rattle.sg_multi.specs.sg_sim.sg_script.declared.multi.MultiCall.{MultiCall}
+use Rattle.sg_multi.specs.sg_sim.sg_script.declared.multi.MultiScript.{MultiScript}
+use Rattle.sg_multi.specs.sg_sim.sg_clients.WorldView.{is_blocked_phase}
+use Rattle.sg_multi.specs.sg_sim.sg_clients.declared.phase.Phase.{Phase}
+use Rattle.sg_multi.specs.sg_sim.sg_clients.declared.phase.Phase.TheVariants.{Idle, Asked, Held, Receipted, Blocked, Left}
 use Rattle.sg_multi.specs.Inside.Following.{IsNextMultiTurn, phase_at, player_now, stage_now}
 use Rattle.sg_multi.specs.Inside.Keeps.{is_multi_setting_up}
 use Rattle.sg_multi.specs.Inside.Turns.{IsFirstBehind, KeepsRunning, NoneBehind, NoneScheduled, TakesNextTurn, is_at_setup, may_go_now}

@@ -5,11 +5,11 @@ use Rattle.std.proofs.lemmas.Bool.{cases_lt}
 use Rattle.sg_facts.specs.sg_base.Lists.{Each}
 use Rattle.sg_facts.specs.declared.entry.Entry.{Entry}
 use Rattle.sg_facts.proofs.Replaying.Found.{other_test, same_test}
-use Rattle.sg_members.specs.declared.member.Member.{Member}
-use Rattle.sg_members.specs.sg_sim.sg_plain.Inside.Turns.{after_turn}
-use Rattle.sg_members.specs.sg_sim.sg_plain.Plain.{Stage, System, Workload, first_stage, next_stage, player_of, stage_from, turned}
-use Rattle.sg_members.specs.sg_sim.sg_script.declared.multi.MultiScript.{MultiScript}
-use Rattle.sg_members.proofs.sg_sim.sg_play.sg_plain.sg_seat.Lines.{same_or_other}
+use Rattle.sg_multi.specs.declared.member.Member.{Member}
+use Rattle.sg_multi.specs.sg_sim.sg_plain.Inside.Turns.{after_turn}
+use Rattle.sg_multi.specs.sg_sim.sg_plain.Plain.{Stage, System, Workload, first_stage, next_stage, player_of, stage_from, turned}
+use Rattle.sg_multi.specs.sg_sim.sg_script.declared.multi.MultiScript.{MultiScript}
+use Rattle.sg_multi.proofs.sg_sim.sg_play.sg_plain.sg_clients.Lines.{same_or_other}
 use Rattle.sg_multi.specs.Inside.Following.{IsNextMultiTurn, stage_now, stage_with}
 use Rattle.sg_multi.specs.Merged.{Merges, MultiEntry, entries_at}
 use Rattle.sg_multi.specs.SeveralServices.{MemberCall, multi_workload}

@@ -9,23 +9,23 @@ use Rattle.sg_facts.specs.Facts.{Facts, fun_at}
 use Rattle.sg_facts.specs.Interface.{Declared, declares}
 use Rattle.sg_facts.specs.Limits.{last_client, most_script_calls}
 use Rattle.sg_facts.proofs.Replaying.Found.{other_test, same_test}
-use Rattle.sg_members.proofs.sg_sim.sg_play.sg_plain.sg_seat.Lines.{same_or_other}
-use Rattle.sg_members.specs.sg_sim.sg_plain.Calls.{ascending_from, most_client, part_of, script_calls}
-use Rattle.sg_members.specs.sg_sim.sg_plain.Inside.Turns.{resolved}
-use Rattle.sg_members.specs.sg_sim.sg_plain.Playing.Callers.{IsCaller}
-use Rattle.sg_members.specs.sg_sim.sg_plain.Playing.Playable.{AreClients, IsPlayable}
-use Rattle.sg_members.specs.sg_sim.sg_plain.Playing.Plays.{IsPlaying}
-use Rattle.sg_members.specs.sg_sim.sg_plain.Playing.Turns.{is_free_phase}
-use Rattle.sg_members.specs.sg_sim.sg_plain.Promises.{AreFirstCalls}
-use Rattle.sg_members.specs.sg_sim.sg_plain.Script.{arg_fits, arg_value, args_fit, call_fits, calls_fit, desc_among, id_of_call, value_of, values_of}
-use Rattle.sg_members.specs.sg_sim.sg_play.sg_hist.Clients.{calls_of}
-use Rattle.sg_members.specs.sg_sim.sg_script.declared.script.Arg.{Arg}
-use Rattle.sg_members.specs.sg_sim.sg_script.declared.script.Arg.TheVariants.{Number, Text, Back}
-use Rattle.sg_members.specs.sg_sim.sg_script.declared.script.Script.{Script}
-use Rattle.sg_members.specs.sg_sim.sg_script.declared.script.ScriptCall.{ScriptCall}
-use Rattle.sg_members.specs.sg_sim.sg_seat.WorldView.{Seat, is_offered, seat_in}
-use Rattle.sg_members.specs.sg_sim.sg_seat.declared.phase.Phase.{Phase}
-use Rattle.sg_members.specs.sg_sim.sg_seat.declared.phase.Phase.TheVariants.{Idle, Asked, Held, Receipted, Blocked, Left}
+use Rattle.sg_multi.proofs.sg_sim.sg_play.sg_plain.sg_clients.Lines.{same_or_other}
+use Rattle.sg_multi.specs.sg_sim.sg_plain.Calls.{ascending_from, most_client, part_of, script_calls}
+use Rattle.sg_multi.specs.sg_sim.sg_plain.Inside.Turns.{resolved}
+use Rattle.sg_multi.specs.sg_sim.sg_plain.Playing.Callers.{IsCaller}
+use Rattle.sg_multi.specs.sg_sim.sg_plain.Playing.Playable.{AreClients, IsPlayable}
+use Rattle.sg_multi.specs.sg_sim.sg_plain.Playing.Plays.{IsPlaying}
+use Rattle.sg_multi.specs.sg_sim.sg_plain.Playing.Turns.{is_free_phase}
+use Rattle.sg_multi.specs.sg_sim.sg_plain.Promises.{AreFirstCalls}
+use Rattle.sg_multi.specs.sg_sim.sg_plain.Script.{arg_fits, arg_value, args_fit, call_fits, calls_fit, desc_among, id_of_call, value_of, values_of}
+use Rattle.sg_multi.specs.sg_sim.sg_play.sg_hist.Clients.{calls_of}
+use Rattle.sg_multi.specs.sg_sim.sg_script.declared.script.Arg.{Arg}
+use Rattle.sg_multi.specs.sg_sim.sg_script.declared.script.Arg.TheVariants.{Number, Text, Back}
+use Rattle.sg_multi.specs.sg_sim.sg_script.declared.script.Script.{Script}
+use Rattle.sg_multi.specs.sg_sim.sg_script.declared.script.ScriptCall.{ScriptCall}
+use Rattle.sg_multi.specs.sg_sim.sg_clients.WorldView.{Seat, is_offered, seat_in}
+use Rattle.sg_multi.specs.sg_sim.sg_clients.declared.phase.Phase.{Phase}
+use Rattle.sg_multi.specs.sg_sim.sg_clients.declared.phase.Phase.TheVariants.{Idle, Asked, Held, Receipted, Blocked, Left}
 
 -- ---- numbers in place of `$k`
 

@@ -1,8 +1,8 @@
 -- The players of clients in ascending numbers, by look-ups, and where one is another then, or those who wait are woken.
 use Rattle.std.proofs.Common.{◌≡◌, ◌≢◌, ℕ, zero, suc, ◌+◌, ◌-◌, ◌<◌, ◌≤◌, Bool, true, false, ◌∷◌, None, Some, length, map, refl, ◌∙◌, ap, arith, slice_set}
 use Rattle.std.specs.Prelude.{slice_get}
-use Rattle.sg_members.specs.sg_sim.sg_plain.Calls.{ascending_from}
-use Rattle.sg_members.specs.sg_sim.sg_plain.Plain.{PlainPhase, Player, after_wakes, blocked, holding, ready, replied, through, woken_phase}
+use Rattle.sg_multi.specs.sg_sim.sg_plain.Calls.{ascending_from}
+use Rattle.sg_multi.specs.sg_sim.sg_plain.Plain.{PlainPhase, Player, after_wakes, blocked, holding, ready, replied, through, woken_phase}
 
 module _ (f : ℕ → Player) where
   pub get_from : (k n j : ℕ) → j < n → slice_get (map f (ascending_from k n)) j ≡ Some (f (k + j))

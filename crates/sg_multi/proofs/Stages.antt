@@ -14,28 +14,28 @@ use Rattle.sg_facts.specs.Guard.{guard}
 use Rattle.sg_facts.specs.Interface.{Declared}
 use Rattle.sg_facts.specs.Object.{object_of}
 use Rattle.sg_facts.proofs.Replaying.Found.{other_test, same_test}
-use Rattle.sg_members.proofs.sg_sim.sg_play.Waking.Shapes.{call_is_next}
-use Rattle.sg_members.proofs.sg_sim.sg_play.sg_plain.sg_seat.Lines.{length_map, same_or_other, seat_here, seat_there, seat_woken}
-use Rattle.sg_members.proofs.sg_sim.sg_play.sg_world.sg_world_laws.Ending.Shapes.{seat_behind, woken}
-use Rattle.sg_members.specs.Members.{ChangesAt, kind_in, setting_in, view_in, world_in}
-use Rattle.sg_members.specs.declared.member.Member.{Member}
-use Rattle.sg_members.specs.sg_sim.sg_plain.Calls.{ascending_from, most_client, resolved_by}
-use Rattle.sg_members.specs.sg_sim.sg_plain.Inside.Turns.{after_call, after_guard, handed_over, served}
-use Rattle.sg_members.specs.sg_sim.sg_plain.Plain.{PlainPhase, Player, Stage, System, Workload, appended, at_phase, blocked, gone_on, holding, player_at, player_of, ready, replied, through, turned, woken_phase}
-use Rattle.sg_members.specs.sg_sim.sg_plain.Playing.Callers.{is_receipted}
-use Rattle.sg_members.specs.sg_sim.sg_plain.Playing.Given.{given_in, with_handed}
-use Rattle.sg_members.specs.sg_sim.sg_play.Following.Stages.{phase_by}
-use Rattle.sg_members.specs.sg_sim.sg_play.Turning.{handed_by}
-use Rattle.sg_members.specs.sg_sim.sg_play.sg_hist.Clients.{calls_of}
-use Rattle.sg_members.specs.sg_sim.sg_play.sg_hist.Recovered.{Stubs}
-use Rattle.sg_members.specs.sg_sim.sg_play.sg_hist.Wakes.{wakes}
-use Rattle.sg_members.specs.sg_sim.sg_script.declared.multi.MultiCall.{MultiCall}
-use Rattle.sg_members.specs.sg_sim.sg_script.declared.multi.MultiScript.{MultiScript}
-use Rattle.sg_members.specs.sg_sim.sg_seat.WorldView.{Seat, WorldView, is_blocked_phase, is_offered, no_reply, no_seat, seat_in, seat_of, wakes_seat, woken_seat}
-use Rattle.sg_members.specs.sg_sim.sg_seat.declared.phase.Phase.{Phase}
-use Rattle.sg_members.specs.sg_sim.sg_seat.declared.phase.Phase.TheVariants.{Idle, Asked, Held, Receipted, Blocked, Left}
-use Rattle.sg_members.specs.sg_sim.sg_world.declared.did.Did.{Did}
-use Rattle.sg_members.specs.sg_sim.sg_world_laws.Setting.{Setting}
+use Rattle.sg_multi.proofs.sg_sim.sg_play.Waking.Shapes.{call_is_next}
+use Rattle.sg_multi.proofs.sg_sim.sg_play.sg_plain.sg_clients.Lines.{length_map, same_or_other, seat_here, seat_there, seat_woken}
+use Rattle.sg_multi.proofs.sg_sim.sg_play.sg_world.sg_world_laws.Ending.Shapes.{seat_behind, woken}
+use Rattle.sg_multi.specs.Members.{ChangesAt, kind_in, setting_in, view_in, world_in}
+use Rattle.sg_multi.specs.declared.member.Member.{Member}
+use Rattle.sg_multi.specs.sg_sim.sg_plain.Calls.{ascending_from, most_client, resolved_by}
+use Rattle.sg_multi.specs.sg_sim.sg_plain.Inside.Turns.{after_call, after_guard, handed_over, served}
+use Rattle.sg_multi.specs.sg_sim.sg_plain.Plain.{PlainPhase, Player, Stage, System, Workload, appended, at_phase, blocked, gone_on, holding, player_at, player_of, ready, replied, through, turned, woken_phase}
+use Rattle.sg_multi.specs.sg_sim.sg_plain.Playing.Callers.{is_receipted}
+use Rattle.sg_multi.specs.sg_sim.sg_plain.Playing.Given.{given_in, with_handed}
+use Rattle.sg_multi.specs.sg_sim.sg_play.Following.Stages.{phase_by}
+use Rattle.sg_multi.specs.sg_sim.sg_play.Turning.{handed_by}
+use Rattle.sg_multi.specs.sg_sim.sg_play.sg_hist.Clients.{calls_of}
+use Rattle.sg_multi.specs.sg_sim.sg_play.sg_hist.Recovered.{Stubs}
+use Rattle.sg_multi.specs.sg_sim.sg_play.sg_hist.Wakes.{wakes}
+use Rattle.sg_multi.specs.sg_sim.sg_script.declared.multi.MultiCall.{MultiCall}
+use Rattle.sg_multi.specs.sg_sim.sg_script.declared.multi.MultiScript.{MultiScript}
+use Rattle.sg_multi.specs.sg_sim.sg_clients.WorldView.{Seat, WorldView, is_blocked_phase, is_offered, no_reply, no_seat, seat_in, seat_of, wakes_seat, woken_seat}
+use Rattle.sg_multi.specs.sg_sim.sg_clients.declared.phase.Phase.{Phase}
+use Rattle.sg_multi.specs.sg_sim.sg_clients.declared.phase.Phase.TheVariants.{Idle, Asked, Held, Receipted, Blocked, Left}
+use Rattle.sg_multi.specs.sg_sim.sg_world.declared.did.Did.{Did}
+use Rattle.sg_multi.specs.sg_sim.sg_world_laws.Setting.{Setting}
 use Rattle.sg_multi.specs.Calls.{multi_calls}
 use Rattle.sg_multi.specs.Inside.Callers.{IsSeatOf}
 use Rattle.sg_multi.specs.Inside.Following.{phase_at, player_now, stage_with}

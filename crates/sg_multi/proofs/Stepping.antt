@@ -4,17 +4,17 @@ use Rattle.sg_facts.specs.sg_base.declared.call.Call.{Call}
 use Rattle.sg_facts.specs.sg_base.declared.reply.Reply.{Reply}
 use Rattle.sg_facts.specs.Facts.{Facts}
 use Rattle.sg_facts.specs.Object.{object_of}
-use Rattle.sg_members.proofs.sg_sim.sg_play.sg_world.sg_world_laws.Ending.Shapes.{answered_seats, given_seats, seat_behind, woken}
-use Rattle.sg_members.proofs.sg_sim.sg_play.sg_world.sg_world_laws.Woken.{woken_is}
-use Rattle.sg_members.proofs.sg_sim.sg_play.sg_plain.sg_seat.Lines.{length_map, length_set, same_or_other, seat_here, seat_there, seat_woken}
-use Rattle.sg_members.specs.sg_sim.sg_plain.Playing.Callers.{is_receipted}
-use Rattle.sg_members.specs.sg_sim.sg_seat.WorldView.{Seat, WorldView, happened, is_offered, no_reply, seat_in, seat_of, wakes_seat, woken_seat}
-use Rattle.sg_members.specs.sg_sim.sg_seat.declared.phase.Phase.{Phase}
-use Rattle.sg_members.specs.sg_sim.sg_seat.declared.phase.Phase.TheVariants.{Idle, Asked, Held, Receipted, Blocked}
-use Rattle.sg_members.specs.sg_sim.sg_world.declared.did.Did.{Did}
-use Rattle.sg_members.specs.sg_sim.sg_world.declared.did.Did.TheVariants.{Answered, Blocked as Waits, Booted, Loaded, Lost, Replayed, Served, Skipped, Struck}
-use Rattle.sg_members.specs.sg_sim.sg_world.Steps.{Commits, HasStepped, Steps}
-use Rattle.sg_members.specs.sg_sim.sg_world_laws.Setting.{Setting}
+use Rattle.sg_multi.proofs.sg_sim.sg_play.sg_world.sg_world_laws.Ending.Shapes.{answered_seats, given_seats, seat_behind, woken}
+use Rattle.sg_multi.proofs.sg_sim.sg_play.sg_world.sg_world_laws.Woken.{woken_is}
+use Rattle.sg_multi.proofs.sg_sim.sg_play.sg_plain.sg_clients.Lines.{length_map, length_set, same_or_other, seat_here, seat_there, seat_woken}
+use Rattle.sg_multi.specs.sg_sim.sg_plain.Playing.Callers.{is_receipted}
+use Rattle.sg_multi.specs.sg_sim.sg_clients.WorldView.{Seat, WorldView, happened, is_offered, no_reply, seat_in, seat_of, wakes_seat, woken_seat}
+use Rattle.sg_multi.specs.sg_sim.sg_clients.declared.phase.Phase.{Phase}
+use Rattle.sg_multi.specs.sg_sim.sg_clients.declared.phase.Phase.TheVariants.{Idle, Asked, Held, Receipted, Blocked}
+use Rattle.sg_multi.specs.sg_sim.sg_world.declared.did.Did.{Did}
+use Rattle.sg_multi.specs.sg_sim.sg_world.declared.did.Did.TheVariants.{Answered, Blocked as Waits, Booted, Loaded, Lost, Replayed, Served, Skipped, Struck}
+use Rattle.sg_multi.specs.sg_sim.sg_world.Steps.{Commits, HasStepped, Steps}
+use Rattle.sg_multi.specs.sg_sim.sg_world_laws.Setting.{Setting}
 
 -- ---- what a seat goes through
 

@@ -13,30 +13,30 @@ use Rattle.sg_facts.specs.Interface.{Declared, declares}
 use Rattle.sg_facts.specs.Kinds.{AreWords, FitsKinds}
 use Rattle.sg_facts.specs.Limits.{most_script_calls}
 use Rattle.sg_facts.specs.Tables.{Compiled}
-use Rattle.sg_members.proofs.Places.{ok_so}
-use Rattle.sg_members.proofs.sg_sim.sg_play.sg_plain.sg_seat.Lines.{seat_here}
-use Rattle.sg_members.specs.Members.{ChangesAt, kind_in, setting_by, setting_in, view_in, world_in}
-use Rattle.sg_members.specs.declared.member.Member.{Member}
-use Rattle.sg_members.specs.sg_load.declared.kind.ServiceKind.{ServiceKind}
-use Rattle.sg_members.specs.sg_sim.Inside.Givens.{lists_of}
-use Rattle.sg_members.specs.sg_sim.sg_plain.Calls.{most_client}
-use Rattle.sg_members.specs.sg_sim.sg_plain.Playing.Given.{GaveIds, given_in, with_handed}
-use Rattle.sg_members.specs.sg_sim.sg_plain.Playing.Turns.{is_free_phase}
-use Rattle.sg_members.specs.sg_sim.sg_plain.Script.{call_fits, desc_among, values_of}
-use Rattle.sg_members.specs.sg_sim.sg_play.NextCall.{IsResolved}
-use Rattle.sg_members.specs.sg_sim.sg_play.Recovering.{RecoversSoFar}
-use Rattle.sg_members.specs.sg_sim.sg_play.Turning.{handed_by}
-use Rattle.sg_members.specs.sg_sim.sg_play.declared.calls.NextCall.{NextCall}
-use Rattle.sg_members.specs.sg_sim.sg_play.sg_clients.Clients.{IsClient}
-use Rattle.sg_members.specs.sg_sim.sg_play.sg_hist.Clients.{calls_of}
-use Rattle.sg_members.specs.sg_sim.sg_play.sg_hist.Recovered.{Stubs}
-use Rattle.sg_members.specs.sg_sim.sg_script.declared.multi.MultiCall.{MultiCall}
-use Rattle.sg_members.specs.sg_sim.sg_script.declared.multi.MultiScript.{MultiScript}
-use Rattle.sg_members.specs.sg_sim.sg_seat.WorldView.{IsFree, Seat, WorldView, happened, no_seat, offered, seat_of}
-use Rattle.sg_members.specs.sg_sim.sg_seat.declared.phase.Phase.{Phase}
-use Rattle.sg_members.specs.sg_sim.sg_seat.declared.phase.Phase.TheVariants.{Idle, Asked, Held, Receipted, Blocked, Left}
-use Rattle.sg_members.specs.sg_sim.sg_world.Steps.{AnswersLast, HasStepped, WantsMemory}
-use Rattle.sg_members.specs.sg_sim.sg_world.declared.did.Did.{Did}
+use Rattle.sg_multi.proofs.Places.{ok_so}
+use Rattle.sg_multi.proofs.sg_sim.sg_play.sg_plain.sg_clients.Lines.{seat_here}
+use Rattle.sg_multi.specs.Members.{ChangesAt, kind_in, setting_by, setting_in, view_in, world_in}
+use Rattle.sg_multi.specs.declared.member.Member.{Member}
+use Rattle.sg_multi.specs.sg_load.declared.kind.ServiceKind.{ServiceKind}
+use Rattle.sg_multi.specs.sg_sim.Inside.Givens.{lists_of}
+use Rattle.sg_multi.specs.sg_sim.sg_plain.Calls.{most_client}
+use Rattle.sg_multi.specs.sg_sim.sg_plain.Playing.Given.{GaveIds, given_in, with_handed}
+use Rattle.sg_multi.specs.sg_sim.sg_plain.Playing.Turns.{is_free_phase}
+use Rattle.sg_multi.specs.sg_sim.sg_plain.Script.{call_fits, desc_among, values_of}
+use Rattle.sg_multi.specs.sg_sim.sg_play.NextCall.{IsResolved}
+use Rattle.sg_multi.specs.sg_sim.sg_play.Recovering.{RecoversSoFar}
+use Rattle.sg_multi.specs.sg_sim.sg_play.Turning.{handed_by}
+use Rattle.sg_multi.specs.sg_sim.sg_play.declared.calls.NextCall.{NextCall}
+use Rattle.sg_multi.specs.sg_sim.sg_play.sg_clients.Clients.{IsClient}
+use Rattle.sg_multi.specs.sg_sim.sg_play.sg_hist.Clients.{calls_of}
+use Rattle.sg_multi.specs.sg_sim.sg_play.sg_hist.Recovered.{Stubs}
+use Rattle.sg_multi.specs.sg_sim.sg_script.declared.multi.MultiCall.{MultiCall}
+use Rattle.sg_multi.specs.sg_sim.sg_script.declared.multi.MultiScript.{MultiScript}
+use Rattle.sg_multi.specs.sg_sim.sg_clients.WorldView.{IsFree, Seat, WorldView, happened, no_seat, offered, seat_of}
+use Rattle.sg_multi.specs.sg_sim.sg_clients.declared.phase.Phase.{Phase}
+use Rattle.sg_multi.specs.sg_sim.sg_clients.declared.phase.Phase.TheVariants.{Idle, Asked, Held, Receipted, Blocked, Left}
+use Rattle.sg_multi.specs.sg_sim.sg_world.Steps.{AnswersLast, HasStepped, WantsMemory}
+use Rattle.sg_multi.specs.sg_sim.sg_world.declared.did.Did.{Did}
 use Rattle.sg_multi.specs.Calls.{IsCallOf, multi_calls}
 use Rattle.sg_multi.specs.Inside.Keeps.{KeepsMulti, interfaces_of, is_multi_setting_up}
 use Rattle.sg_multi.specs.Inside.Following.{FollowsMulti, IsNextMultiTurn, NoneStruck, players_now, stage_now}
@@ -47,8 +47,8 @@ use Rattle.sg_multi.specs.Playable.{FitsMember}
 use Rattle.sg_multi.specs.Played.{AreOfMembers, stubs_in}
 use Rattle.sg_multi.specs.Inside.Ended.{AreEndedMembers}
 use Rattle.sg_multi.specs.declared.ended.MultiEnd.{MultiEnd}
-use Rattle.sg_members.specs.sg_sim.sg_script.Scripts.{most_members}
-use Rattle.sg_members.specs.sg_sim.sg_play.sg_hist.declared.ended.Ended.{Ended}
+use Rattle.sg_multi.specs.sg_sim.sg_script.Scripts.{most_members}
+use Rattle.sg_multi.specs.sg_sim.sg_play.sg_hist.declared.ended.Ended.{Ended}
 use Rattle.sg_multi.specs.declared.running.Running.{Running}
 use Rattle.sg_multi.proofs.Beginning.{first_client, its_interface}
 use Rattle.sg_multi.proofs.Calling.{fits_at}

@@ -17,32 +17,32 @@ use Rattle.sg_facts.specs.Legal.{answer}
 use Rattle.sg_facts.specs.Inside.Rows.{refused_or}
 use Rattle.sg_facts.specs.Object.{Object, object_of}
 use Rattle.sg_facts.specs.Trace.{Boot, Run}
-use Rattle.sg_members.proofs.sg_sim.Beginning.{new_seat as seat_of_new}
-use Rattle.sg_members.proofs.sg_sim.sg_play.Following.Numbered.{NoneHas, have_items, next_is_new, one_boot}
-use Rattle.sg_members.proofs.sg_sim.sg_play.Following.Seats.{HeldFirst, asked_first, asked_holds, each_set, each_woken, plain_holds}
-use Rattle.sg_members.proofs.sg_sim.sg_play.Following.There.{none_loaded, none_walked, nothing_there, there_committed, there_hidden, there_noted, there_refused}
-use Rattle.sg_members.proofs.sg_sim.sg_play.Waking.Shapes.{call_is_next, call_is_own}
-use Rattle.sg_members.proofs.sg_sim.sg_play.sg_plain.sg_seat.Lines.{length_map}
-use Rattle.sg_members.proofs.sg_sim.sg_play.sg_world.sg_world_laws.Ending.Shapes.{answered_seats, given_seats, seat_behind, woken}
-use Rattle.sg_members.specs.sg_sim.sg_plain.Calls.{script_calls}
-use Rattle.sg_members.specs.sg_sim.sg_plain.Playing.Callers.{IsCaller}
-use Rattle.sg_members.specs.sg_sim.sg_plain.Playing.Turns.{is_free_phase}
-use Rattle.sg_members.specs.sg_sim.sg_play.Following.Follows.{HoldAll, HoldsSo, IsAllThere}
-use Rattle.sg_members.specs.sg_sim.sg_play.Recovering.{RecoversSoFar}
-use Rattle.sg_members.specs.sg_sim.sg_play.Turning.{handed_by}
-use Rattle.sg_members.specs.sg_sim.sg_play.sg_hist.Clients.{calls_of}
-use Rattle.sg_members.specs.sg_sim.sg_play.sg_hist.Growing.{IsNextItem, booted, noted, place_after, struck}
-use Rattle.sg_members.specs.sg_sim.sg_play.sg_hist.Inside.Parts.{HasItem}
-use Rattle.sg_members.specs.sg_sim.sg_play.sg_hist.Inside.Reads.{desc_of}
-use Rattle.sg_members.specs.sg_sim.sg_play.sg_hist.Recovered.{struck_in}
-use Rattle.sg_members.specs.sg_sim.sg_play.sg_world.sg_recovery_laws.LastItem.LastPlace.{HaveItems, last_place}
-use Rattle.sg_members.specs.sg_sim.sg_seat.WorldView.{Seat, WorldView, answered_to, boot_number, committed, happened, is_offered, new_world, no_reply, no_seat, offered, seat_in, seat_of, unanswered, wakes_seat, woken_seat}
-use Rattle.sg_members.specs.sg_sim.sg_seat.declared.phase.Phase.{Phase}
-use Rattle.sg_members.specs.sg_sim.sg_seat.declared.phase.Phase.TheVariants.{Idle, Asked, Held, Receipted, Blocked, Left}
-use Rattle.sg_members.specs.sg_sim.sg_world.declared.did.Did.{Did}
-use Rattle.sg_members.specs.sg_sim.sg_world.declared.did.Did.TheVariants.{Answered, Blocked as Waits, Booted, Loaded, Lost, Replayed, Served, Skipped, Struck}
-use Rattle.sg_members.specs.sg_sim.sg_world.Steps.{Commits, HandsOver, HasStepped, Holds, Loads, Loses, Refuses, Replays, Returns, Skips, Steps, WaitsNow}
-use Rattle.sg_members.specs.sg_sim.sg_world_laws.Setting.{Setting, stubs_of}
+use Rattle.sg_multi.proofs.sg_sim.Beginning.{new_seat as seat_of_new}
+use Rattle.sg_multi.proofs.sg_sim.sg_play.Following.Numbered.{NoneHas, have_items, next_is_new, one_boot}
+use Rattle.sg_multi.proofs.sg_sim.sg_play.Following.Seats.{HeldFirst, asked_first, asked_holds, each_set, each_woken, plain_holds}
+use Rattle.sg_multi.proofs.sg_sim.sg_play.Following.There.{none_loaded, none_walked, nothing_there, there_committed, there_hidden, there_noted, there_refused}
+use Rattle.sg_multi.proofs.sg_sim.sg_play.Waking.Shapes.{call_is_next, call_is_own}
+use Rattle.sg_multi.proofs.sg_sim.sg_play.sg_plain.sg_clients.Lines.{length_map}
+use Rattle.sg_multi.proofs.sg_sim.sg_play.sg_world.sg_world_laws.Ending.Shapes.{answered_seats, given_seats, seat_behind, woken}
+use Rattle.sg_multi.specs.sg_sim.sg_plain.Calls.{script_calls}
+use Rattle.sg_multi.specs.sg_sim.sg_plain.Playing.Callers.{IsCaller}
+use Rattle.sg_multi.specs.sg_sim.sg_plain.Playing.Turns.{is_free_phase}
+use Rattle.sg_multi.specs.sg_sim.sg_play.Following.Follows.{HoldAll, HoldsSo, IsAllThere}
+use Rattle.sg_multi.specs.sg_sim.sg_play.Recovering.{RecoversSoFar}
+use Rattle.sg_multi.specs.sg_sim.sg_play.Turning.{handed_by}
+use Rattle.sg_multi.specs.sg_sim.sg_play.sg_hist.Clients.{calls_of}
+use Rattle.sg_multi.specs.sg_sim.sg_play.sg_hist.Growing.{IsNextItem, booted, noted, place_after, struck}
+use Rattle.sg_multi.specs.sg_sim.sg_play.sg_hist.Inside.Parts.{HasItem}
+use Rattle.sg_multi.specs.sg_sim.sg_play.sg_hist.Inside.Reads.{desc_of}
+use Rattle.sg_multi.specs.sg_sim.sg_play.sg_hist.Recovered.{struck_in}
+use Rattle.sg_multi.specs.sg_sim.sg_play.sg_world.sg_recovery_laws.LastItem.LastPlace.{HaveItems, last_place}
+use Rattle.sg_multi.specs.sg_sim.sg_clients.WorldView.{Seat, WorldView, answered_to, boot_number, committed, happened, is_offered, new_world, no_reply, no_seat, offered, seat_in, seat_of, unanswered, wakes_seat, woken_seat}
+use Rattle.sg_multi.specs.sg_sim.sg_clients.declared.phase.Phase.{Phase}
+use Rattle.sg_multi.specs.sg_sim.sg_clients.declared.phase.Phase.TheVariants.{Idle, Asked, Held, Receipted, Blocked, Left}
+use Rattle.sg_multi.specs.sg_sim.sg_world.declared.did.Did.{Did}
+use Rattle.sg_multi.specs.sg_sim.sg_world.declared.did.Did.TheVariants.{Answered, Blocked as Waits, Booted, Loaded, Lost, Replayed, Served, Skipped, Struck}
+use Rattle.sg_multi.specs.sg_sim.sg_world.Steps.{Commits, HandsOver, HasStepped, Holds, Loads, Loses, Refuses, Replays, Returns, Skips, Steps, WaitsNow}
+use Rattle.sg_multi.specs.sg_sim.sg_world_laws.Setting.{Setting, stubs_of}
 use Rattle.sg_multi.specs.Inside.Following.{NeverStruck}
 use Rattle.sg_multi.specs.Inside.Member.{KeepsMember}
 

@@ -1,7 +1,7 @@
 -- How a play over several services begins.
 use Rattle.std.specs.Prelude.{ℕ, ◌≡◌, List, Some, length, slice_get}
-use Rattle.sg_members.specs.Members.{IsNewMember}
-use Rattle.sg_members.specs.declared.member.Member.{Member}
+use Rattle.sg_multi.specs.Members.{IsNewMember}
+use Rattle.sg_multi.specs.declared.member.Member.{Member}
 use Rattle.sg_multi.specs.declared.play.MemberTables.{MemberTables}
 
 -- each of these members is of the service at its place, with its tables and stops, and nothing was done in its world

@@ -4,9 +4,9 @@ use Rattle.std.specs.List.{list_all, list_any}
 use Rattle.sg_facts.specs.sg_base.Lists.{Each}
 use Rattle.sg_facts.specs.sg_base.declared.call.Call.{Call}
 use Rattle.sg_facts.specs.Interface.{Declared}
-use Rattle.sg_members.specs.sg_sim.sg_plain.Calls.{ascending_from, calls_with_setup, most_client, resolved_by}
-use Rattle.sg_members.specs.sg_sim.sg_script.declared.multi.MultiCall.{MultiCall}
-use Rattle.sg_members.specs.sg_sim.sg_script.declared.multi.MultiScript.{MultiScript}
+use Rattle.sg_multi.specs.sg_sim.sg_plain.Calls.{ascending_from, calls_with_setup, most_client, resolved_by}
+use Rattle.sg_multi.specs.sg_sim.sg_script.declared.multi.MultiCall.{MultiCall}
+use Rattle.sg_multi.specs.sg_sim.sg_script.declared.multi.MultiScript.{MultiScript}
 use Rattle.sg_multi.specs.Merged.{MultiEntry, entries_in, own_in}
 
 -- ---- the calls of a client

@@ -4,11 +4,11 @@ use Rattle.sg_facts.specs.Legal.{answer}
 use Rattle.sg_facts.specs.Object.{object_of}
 use Rattle.sg_facts.specs.sg_base.Lists.{Each}
 use Rattle.sg_facts.specs.sg_base.declared.call.Call.{Call}
-use Rattle.sg_members.specs.sg_sim.sg_play.sg_hist.Recovered.{Stubs}
-use Rattle.sg_members.specs.sg_sim.sg_play.sg_hist.declared.ended.End.{End}
-use Rattle.sg_members.specs.sg_sim.sg_play.sg_hist.declared.ended.End.TheVariants.{Done as done, Blocked as blocked}
-use Rattle.sg_members.specs.sg_sim.sg_script.declared.multi.MultiCall.{MultiCall}
-use Rattle.sg_members.specs.sg_sim.sg_script.declared.multi.MultiScript.{MultiScript}
+use Rattle.sg_multi.specs.sg_sim.sg_play.sg_hist.Recovered.{Stubs}
+use Rattle.sg_multi.specs.sg_sim.sg_play.sg_hist.declared.ended.End.{End}
+use Rattle.sg_multi.specs.sg_sim.sg_play.sg_hist.declared.ended.End.TheVariants.{Done as done, Blocked as blocked}
+use Rattle.sg_multi.specs.sg_sim.sg_script.declared.multi.MultiCall.{MultiCall}
+use Rattle.sg_multi.specs.sg_sim.sg_script.declared.multi.MultiScript.{MultiScript}
 use Rattle.sg_multi.specs.Calls.{IsCallOf, multi_callers, multi_calls}
 use Rattle.sg_multi.specs.Merged.{MultiEntry, entries_at, own_in}
 use Rattle.sg_multi.specs.declared.ended.MultiEnd.{MultiEnd}

@@ -2,10 +2,13 @@ pub mod Beginning
 pub mod Calls
 pub mod Ends
 pub mod Inside
+pub mod Members
 pub mod Merged
 pub mod Playable
 pub mod Played
 pub mod Playing
 pub mod Report
 pub mod SeveralServices
-pub use Rattle.sg_members.specs as sg_members
+pub use Rattle.sg_edge.specs as sg_edge
+pub use Rattle.sg_load.specs as sg_load
+pub use Rattle.sg_sim.specs as sg_sim

@@ -1,16 +1,16 @@
 -- Which scripts are played over several members.
 use Rattle.std.specs.Prelude.{ℕ, ◌≡◌, ◌+◌, ◌-◌, ◌≤◌, true, not, nat_le, List, [], ◌∷◌, Some, length, slice_get}
 use Rattle.std.specs.List.{list_all}
-use Rattle.sg_members.specs.sg_edge.Stops.{AscendsAbove}
+use Rattle.sg_multi.specs.sg_edge.Stops.{AscendsAbove}
 use Rattle.sg_facts.specs.sg_base.Lists.{Each}
 use Rattle.sg_facts.specs.Facts.{fun_at}
 use Rattle.sg_facts.specs.Interface.{Declared}
 use Rattle.sg_facts.specs.Limits.{most_script_calls}
-use Rattle.sg_members.specs.sg_sim.sg_plain.Playing.Playable.{AreClients}
-use Rattle.sg_members.specs.sg_sim.sg_plain.Script.{call_fits}
-use Rattle.sg_members.specs.sg_sim.sg_script.declared.multi.MultiCall.{MultiCall}
-use Rattle.sg_members.specs.sg_sim.sg_script.declared.multi.MultiScript.{MultiScript}
-use Rattle.sg_members.specs.sg_sim.sg_script.Scripts.{most_members}
+use Rattle.sg_multi.specs.sg_sim.sg_plain.Playing.Playable.{AreClients}
+use Rattle.sg_multi.specs.sg_sim.sg_plain.Script.{call_fits}
+use Rattle.sg_multi.specs.sg_sim.sg_script.declared.multi.MultiCall.{MultiCall}
+use Rattle.sg_multi.specs.sg_sim.sg_script.declared.multi.MultiScript.{MultiScript}
+use Rattle.sg_multi.specs.sg_sim.sg_script.Scripts.{most_members}
 use Rattle.sg_multi.specs.Calls.{multi_calls}
 
 -- a call is of a member, and fits its interface as its client's call of a number, counted over all members

@@ -3,17 +3,17 @@ use Rattle.std.specs.Prelude.{ℕ, ◌≡◌, ◌+◌, nat_le, List, [], Some, f
 use Rattle.sg_facts.specs.Legal.{IsLegal}
 use Rattle.sg_facts.specs.Trace.{run_of}
 use Rattle.sg_facts.specs.sg_base.Lists.{Each}
-use Rattle.sg_members.specs.Members.{setting_by, setting_in, view_in}
-use Rattle.sg_members.specs.declared.member.Member.{Member}
-use Rattle.sg_members.specs.sg_sim.Played.{IsOfWorld}
-use Rattle.sg_members.specs.sg_sim.sg_plain.Plain.{IsPlay}
-use Rattle.sg_members.specs.sg_sim.sg_plain.Promises.{AreWoken}
-use Rattle.sg_members.specs.sg_sim.sg_play.sg_hist.Clients.{AreNumbered}
-use Rattle.sg_members.specs.sg_sim.sg_play.sg_hist.Ending.{HasRecovered}
-use Rattle.sg_members.specs.sg_sim.sg_play.sg_hist.Recovered.{Stubs, struck_in}
-use Rattle.sg_members.specs.sg_sim.sg_play.sg_hist.declared.ended.Ended.{Ended}
-use Rattle.sg_members.specs.sg_sim.sg_script.declared.multi.MultiScript.{MultiScript}
-use Rattle.sg_members.specs.sg_sim.sg_world_laws.Setting.{stubs_of}
+use Rattle.sg_multi.specs.Members.{setting_by, setting_in, view_in}
+use Rattle.sg_multi.specs.declared.member.Member.{Member}
+use Rattle.sg_multi.specs.sg_sim.Played.{IsOfWorld}
+use Rattle.sg_multi.specs.sg_sim.sg_plain.Plain.{IsPlay}
+use Rattle.sg_multi.specs.sg_sim.sg_plain.Promises.{AreWoken}
+use Rattle.sg_multi.specs.sg_sim.sg_play.sg_hist.Clients.{AreNumbered}
+use Rattle.sg_multi.specs.sg_sim.sg_play.sg_hist.Ending.{HasRecovered}
+use Rattle.sg_multi.specs.sg_sim.sg_play.sg_hist.Recovered.{Stubs, struck_in}
+use Rattle.sg_multi.specs.sg_sim.sg_play.sg_hist.declared.ended.Ended.{Ended}
+use Rattle.sg_multi.specs.sg_sim.sg_script.declared.multi.MultiScript.{MultiScript}
+use Rattle.sg_multi.specs.sg_sim.sg_world_laws.Setting.{stubs_of}
 use Rattle.sg_multi.specs.Calls.{AreMultiCalls}
 use Rattle.sg_multi.specs.Ends.{AreMultiEnds, ends_at}
 use Rattle.sg_multi.specs.Merged.{Merges, MultiEntry}

@@ -6,13 +6,13 @@ use Rattle.sg_facts.specs.sg_base.declared.call.Call.{Call}
 use Rattle.sg_facts.specs.Facts.{is_visible}
 use Rattle.sg_facts.specs.Guard.{guard}
 use Rattle.sg_facts.specs.Object.{Object, object_of}
-use Rattle.sg_members.specs.sg_sim.sg_plain.Calls.{most_client, resolved_by}
-use Rattle.sg_members.specs.sg_sim.sg_plain.Plain.{System, Workload}
-use Rattle.sg_members.specs.sg_sim.sg_play.sg_hist.Clients.{calls_of}
-use Rattle.sg_members.specs.sg_sim.sg_play.sg_hist.Recovered.{Stubs}
-use Rattle.sg_members.specs.sg_sim.sg_play.sg_hist.Wakes.{wakes}
-use Rattle.sg_members.specs.sg_sim.sg_script.declared.multi.MultiCall.{MultiCall}
-use Rattle.sg_members.specs.sg_sim.sg_script.declared.multi.MultiScript.{MultiScript}
+use Rattle.sg_multi.specs.sg_sim.sg_plain.Calls.{most_client, resolved_by}
+use Rattle.sg_multi.specs.sg_sim.sg_plain.Plain.{System, Workload}
+use Rattle.sg_multi.specs.sg_sim.sg_play.sg_hist.Clients.{calls_of}
+use Rattle.sg_multi.specs.sg_sim.sg_play.sg_hist.Recovered.{Stubs}
+use Rattle.sg_multi.specs.sg_sim.sg_play.sg_hist.Wakes.{wakes}
+use Rattle.sg_multi.specs.sg_sim.sg_script.declared.multi.MultiCall.{MultiCall}
+use Rattle.sg_multi.specs.sg_sim.sg_script.declared.multi.MultiScript.{MultiScript}
 use Rattle.sg_multi.specs.Calls.{multi_calls}
 use Rattle.sg_multi.specs.Merged.{MultiEntry, entries_at, entries_in}
 

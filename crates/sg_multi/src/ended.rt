@@ -1,6 +1,6 @@
 // What a play over several services came to.
+use crate::Ended;
 use sg_facts::{Call, ListOf};
-use sg_members::Ended;
 use std::marker::Model;
 
 /// How a client ended, over all members.

@@ -1,16 +1,16 @@
 // How clients end over several services.
 ghost use Rattle.std.specs.Prelude.{◌≡◌, ◌++◌, ◌≤◌, IfOk, OnOk};
-ghost use Rattle.sg_members.specs.sg_sim.Inside.Givens.{lists_of};
-ghost use Rattle.sg_members.specs.sg_sim.sg_plain.Calls.{most_client};
-ghost use Rattle.sg_members.specs.sg_sim.sg_plain.Playing.Playable.{AreClients};
+ghost use Rattle.sg_multi.specs.sg_sim.Inside.Givens.{lists_of};
+ghost use Rattle.sg_multi.specs.sg_sim.sg_plain.Calls.{most_client};
+ghost use Rattle.sg_multi.specs.sg_sim.sg_plain.Playing.Playable.{AreClients};
 ghost use Rattle.sg_multi.specs.Calls.{has_multi_calls};
 ghost use Rattle.sg_multi.specs.Ends.{end_at, ends_at};
 ghost use Rattle.sg_multi.specs.Inside.Turns.{KeepsRunning, end_by, end_of_client, ends_up_to};
 
 use crate::ended::{MultiEnd, MultiEndList};
 use crate::running::Running;
+use crate::{End, EndList, call_with_setup, most_client};
 use sg_facts::{NoMemory, TryCopy};
-use sg_members::{End, EndList, call_with_setup, most_client};
 use sg_script::MultiScript;
 use std::alloc::Global;
 

@@ -1,22 +1,22 @@
 // The worlds of the members of a play, and how far its clients have come with their calls.
 ghost use Rattle.std.specs.Prelude.{ℕ, ◌≡◌, ◌++◌, ◌∷◌, ◌≤◌, ◌<◌, ◌-◌, [], if◌then◌else◌, Some, OnErr, OnOk, false, true, length, option_map, slice_get};
 ghost use Rattle.std.specs.Option.{option_copied};
-ghost use Rattle.sg_members.specs.Members.{setting_in, view_in};
-ghost use Rattle.sg_members.specs.declared.member.Member.{Member as One};
-ghost use Rattle.sg_members.specs.sg_sim.Inside.Givens.{lists_of, room_for};
-ghost use Rattle.sg_members.specs.sg_sim.sg_plain.Calls.{most_client};
-ghost use Rattle.sg_members.specs.sg_sim.sg_plain.Playing.Given.{with_handed};
-ghost use Rattle.sg_members.specs.sg_sim.sg_plain.Playing.Turns.{is_free_phase};
-ghost use Rattle.sg_members.specs.sg_sim.sg_play.Recovering.{RecoversSoFar};
-ghost use Rattle.sg_members.specs.sg_sim.sg_play.Turning.{handed_by};
-ghost use Rattle.sg_members.specs.sg_sim.sg_play.sg_clients.Clients.{IsClient};
-ghost use Rattle.sg_members.specs.sg_sim.sg_seat.WorldView.{is_blocked_phase, seat_of};
+ghost use Rattle.sg_multi.specs.Members.{setting_in, view_in};
+ghost use Rattle.sg_multi.specs.declared.member.Member.{Member as One};
+ghost use Rattle.sg_multi.specs.sg_sim.Inside.Givens.{lists_of, room_for};
+ghost use Rattle.sg_multi.specs.sg_sim.sg_plain.Calls.{most_client};
+ghost use Rattle.sg_multi.specs.sg_sim.sg_plain.Playing.Given.{with_handed};
+ghost use Rattle.sg_multi.specs.sg_sim.sg_plain.Playing.Turns.{is_free_phase};
+ghost use Rattle.sg_multi.specs.sg_sim.sg_play.Recovering.{RecoversSoFar};
+ghost use Rattle.sg_multi.specs.sg_sim.sg_play.Turning.{handed_by};
+ghost use Rattle.sg_multi.specs.sg_sim.sg_play.sg_clients.Clients.{IsClient};
+ghost use Rattle.sg_multi.specs.sg_sim.sg_clients.WorldView.{is_blocked_phase, seat_of};
 ghost use Rattle.sg_multi.specs.Inside.Following.{players_now};
 ghost use Rattle.sg_multi.specs.Inside.Turns.{KeepsRunning, SameMembers, TakesNextTurn, is_at_setup, may_go_now};
 ghost use Rattle.sg_multi.specs.Inside.Whose.{next_of, seat_at};
 
+use crate::{Did, Given, Member, Members, NextCall, Phase, call_with_setup, desc_of, resolve};
 use sg_facts::{Call, NoMemory, RoomyList};
-use sg_members::{Did, Given, Member, Members, NextCall, Phase, call_with_setup, desc_of, resolve};
 use sg_script::{MultiCall, MultiScript};
 use std::alloc::Global;
 

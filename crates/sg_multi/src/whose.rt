@@ -1,10 +1,10 @@
 // Whose turn it is.
 ghost use Rattle.std.specs.Prelude.{◌≡◌, ◌≤◌, ◌<◌, IfSome, None, false, length, true};
-ghost use Rattle.sg_members.specs.sg_sim.sg_plain.Calls.{most_client};
+ghost use Rattle.sg_multi.specs.sg_sim.sg_plain.Calls.{most_client};
 ghost use Rattle.sg_multi.specs.Inside.Turns.{IsFirstBehind, IsOverNow, KeepsRunning, NobodyGoesNow, NoneBehind, NoneScheduled, TakesNextTurn, is_at_setup};
 
+use crate::most_client;
 use crate::running::Running;
-use sg_members::most_client;
 use sg_script::MultiScript;
 
 /// The first client, which makes the calls of the setup.

@@ -1,5 +1,5 @@
 pub mod Ending
 pub mod Flawless
 pub mod Playing
-pub use Rattle.sg_seat.proofs.sg_hist
-pub use Rattle.sg_seat.proofs as sg_seat
+pub use Rattle.sg_clients.proofs.sg_hist
+pub use Rattle.sg_clients.proofs as sg_clients

@@ -10,9 +10,9 @@ use Rattle.sg_facts.specs.Facts.{Facts, fun_at}
 use Rattle.sg_facts.specs.Interface.{Declared}
 use Rattle.sg_facts.specs.Legal.{Table, answer}
 use Rattle.sg_facts.specs.Object.{object_of}
-use Rattle.sg_seat.specs.sg_hist.declared.ended.End.{End}
-use Rattle.sg_seat.specs.sg_hist.declared.ended.End.TheVariants.{Done, Blocked}
-use Rattle.sg_seat.specs.sg_hist.Clients.{calls_of}
+use Rattle.sg_clients.specs.sg_hist.declared.ended.End.{End}
+use Rattle.sg_clients.specs.sg_hist.declared.ended.End.TheVariants.{Done, Blocked}
+use Rattle.sg_clients.specs.sg_hist.Clients.{calls_of}
 use Rattle.sg_script.specs.declared.script.Script.{Script}
 use Rattle.sg_script.specs.declared.script.ScriptCall.{ScriptCall}
 use Rattle.sg_plain.specs.Script.{desc_among, values_of}

@@ -7,6 +7,6 @@ pub mod Playing
 pub mod Promises
 pub mod Script
 pub use Rattle.sg_edge.specs as sg_edge
-pub use Rattle.sg_seat.specs.sg_hist
+pub use Rattle.sg_clients.specs.sg_hist
 pub use Rattle.sg_script.specs as sg_script
-pub use Rattle.sg_seat.specs as sg_seat
+pub use Rattle.sg_clients.specs as sg_clients

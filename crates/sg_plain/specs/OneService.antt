@@ -9,7 +9,7 @@ use Rattle.sg_facts.specs.Interface.{Declared}
 use Rattle.sg_facts.specs.Legal.{Table}
 use Rattle.sg_facts.specs.Object.{object_of}
 use Rattle.sg_script.specs.declared.script.Script.{Script}
-use Rattle.sg_seat.specs.sg_hist.Wakes.{wakes}
+use Rattle.sg_clients.specs.sg_hist.Wakes.{wakes}
 use Rattle.sg_plain.specs.Calls.{call_after, most_client, script_calls}
 use Rattle.sg_plain.specs.Plain.{System, Workload}
 

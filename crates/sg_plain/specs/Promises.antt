@@ -6,14 +6,14 @@ use Rattle.sg_facts.specs.declared.entry.Entry.{Entry}
 use Rattle.sg_facts.specs.declared.trace.Tag.TheVariants.{Walk, Load, Client}
 use Rattle.sg_facts.specs.Facts.{Facts, is_visible}
 use Rattle.sg_facts.specs.Trace.{Boot, Run}
-use Rattle.sg_seat.specs.sg_hist.Clients.{calls_of}
-use Rattle.sg_seat.specs.sg_hist.Ending.{client_of}
-use Rattle.sg_seat.specs.sg_hist.Reading.{Position, is_by_guard, is_item_of, is_tagged, items_of, places_in, places_of}
-use Rattle.sg_seat.specs.sg_hist.Recovered.{struck_in}
+use Rattle.sg_clients.specs.sg_hist.Clients.{calls_of}
+use Rattle.sg_clients.specs.sg_hist.Ending.{client_of}
+use Rattle.sg_clients.specs.sg_hist.Reading.{Position, is_by_guard, is_item_of, is_tagged, items_of, places_in, places_of}
+use Rattle.sg_clients.specs.sg_hist.Recovered.{struck_in}
 use Rattle.sg_script.specs.declared.script.Script.{Script}
 use Rattle.sg_script.specs.declared.script.ScriptCall.{ScriptCall}
 use Rattle.sg_plain.specs.Calls.{callers, resolved_by, script_calls}
-use Rattle.sg_seat.specs.sg_hist.Wakes.{has_blocked, wakes_at}
+use Rattle.sg_clients.specs.sg_hist.Wakes.{has_blocked, wakes_at}
 
 -- ---- each client's calls
 

@@ -10,7 +10,7 @@ use Rattle.sg_facts.specs.declared.shape.Kind.TheVariants.{Text as IsText}
 use Rattle.sg_facts.specs.Facts.{fun_at, is_id}
 use Rattle.sg_facts.specs.Interface.{Declared, declares}
 use Rattle.sg_facts.specs.Track.{word_of}
-use Rattle.sg_seat.specs.sg_hist.Reading.{desc_in}
+use Rattle.sg_clients.specs.sg_hist.Reading.{desc_in}
 use Rattle.sg_script.specs.declared.script.Arg.{Arg}
 use Rattle.sg_script.specs.declared.script.Arg.TheVariants.{Number, Text, Back}
 use Rattle.sg_script.specs.declared.script.ScriptCall.{ScriptCall}

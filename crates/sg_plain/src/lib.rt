@@ -7,4 +7,4 @@
 #![tactic(auto)]
 
 pub use sg_script::{Arg, ArgList, CallList, ClientList, Script, ScriptCall, TurnList, text_of};
-pub use sg_seat::{End, EndList, Ended, Phase};
+pub use sg_clients::{End, EndList, Ended, Phase};

@@ -9,9 +9,9 @@ use Rattle.sg_plain.specs.Calls.{script_calls}
 use Rattle.sg_plain.specs.Playing.Ends.{end_of, ends_from, has_calls}
 use Rattle.sg_plain.specs.Playing.Turns.{NobodyGoes, may_go}
 use Rattle.sg_plain.specs.sg_script.declared.script.Script.{Script}
-use Rattle.sg_plain.specs.sg_seat.WorldView.{Seat, WorldView, is_blocked_phase, no_seat, seat_of}
-use Rattle.sg_plain.specs.sg_seat.declared.phase.Phase.{Phase}
-use Rattle.sg_plain.specs.sg_seat.declared.phase.Phase.TheVariants.{Idle, Asked, Held, Receipted, Blocked, Left}
+use Rattle.sg_plain.specs.sg_clients.WorldView.{Seat, WorldView, is_blocked_phase, no_seat, seat_of}
+use Rattle.sg_plain.specs.sg_clients.declared.phase.Phase.{Phase}
+use Rattle.sg_plain.specs.sg_clients.declared.phase.Phase.TheVariants.{Idle, Asked, Held, Receipted, Blocked, Left}
 use Rattle.sg_plain.specs.sg_hist.Ending.{AreLost}
 use Rattle.sg_plain.specs.sg_hist.Inside.Parts.{EndsQuiet, EndsUsed, IsStillBlocked, waiting_in, waking_entries}
 use Rattle.sg_plain.specs.sg_hist.Reading.{last_items}

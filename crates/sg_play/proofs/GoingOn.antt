@@ -16,12 +16,12 @@ use Rattle.sg_plain.specs.Playing.Given.{HaveGiven}
 use Rattle.sg_plain.specs.Playing.Plays.{IsPlaying}
 use Rattle.sg_plain.specs.Playing.Turns.{is_free_phase}
 use Rattle.sg_plain.specs.sg_script.declared.script.Script.{Script}
-use Rattle.sg_plain.specs.sg_seat.WorldView.{IsFree, Seat, WorldView, happened, in_phase, is_left_phase, is_offered, no_seat, offered, seat_in, seat_of, with_leave, with_mark}
-use Rattle.sg_plain.specs.sg_seat.declared.mark.MarkKind.TheVariants.{Leave}
-use Rattle.sg_plain.specs.sg_seat.declared.phase.Phase.{Phase}
-use Rattle.sg_plain.specs.sg_seat.declared.phase.Phase.TheVariants.{Idle, Asked, Held, Receipted, Blocked, Left}
+use Rattle.sg_plain.specs.sg_clients.WorldView.{IsFree, Seat, WorldView, happened, in_phase, is_left_phase, is_offered, no_seat, offered, seat_in, seat_of, with_leave, with_mark}
+use Rattle.sg_plain.specs.sg_clients.declared.mark.MarkKind.TheVariants.{Leave}
+use Rattle.sg_plain.specs.sg_clients.declared.phase.Phase.{Phase}
+use Rattle.sg_plain.specs.sg_clients.declared.phase.Phase.TheVariants.{Idle, Asked, Held, Receipted, Blocked, Left}
 use Rattle.sg_plain.proofs.Playing.Calling.{its_client, next_of}
-use Rattle.sg_plain.proofs.sg_seat.Lines.{same_or_other, seat_here, seat_there}
+use Rattle.sg_plain.proofs.sg_clients.Lines.{same_or_other, seat_here, seat_there}
 use Rattle.sg_play.proofs.Offering.{offered_playing, offered_setup}
 use Rattle.sg_play.proofs.SettingUp.{setting_up_step, setting_up_still}
 use Rattle.sg_play.proofs.Stepping.{handed_step, quiet_step}

@@ -23,16 +23,16 @@ use Rattle.sg_plain.specs.sg_script.declared.script.Arg.{Arg}
 use Rattle.sg_plain.specs.sg_script.declared.script.Arg.TheVariants.{Number, Text, Back}
 use Rattle.sg_plain.specs.sg_script.declared.script.Script.{Script}
 use Rattle.sg_plain.specs.sg_script.declared.script.ScriptCall.{ScriptCall}
-use Rattle.sg_plain.specs.sg_seat.WorldView.{Seat, seat_in}
-use Rattle.sg_plain.specs.sg_seat.declared.phase.Phase.{Phase}
-use Rattle.sg_plain.specs.sg_seat.declared.phase.Phase.TheVariants.{Idle, Asked, Held, Receipted, Blocked, Left}
+use Rattle.sg_plain.specs.sg_clients.WorldView.{Seat, seat_in}
+use Rattle.sg_plain.specs.sg_clients.declared.phase.Phase.{Phase}
+use Rattle.sg_plain.specs.sg_clients.declared.phase.Phase.TheVariants.{Idle, Asked, Held, Receipted, Blocked, Left}
 use Rattle.sg_plain.specs.Script.{arg_fits, args_fit, call_fits, desc_among, values_of}
 use Rattle.sg_plain.specs.Playing.Callers.{handed, is_receipted, is_setting_up}
 use Rattle.sg_plain.specs.Playing.Given.{GaveIds, given_in}
 use Rattle.sg_plain.specs.Playing.Playable.{IsPlayable}
 use Rattle.sg_plain.specs.Playing.Plays.{IsPlaying}
 use Rattle.sg_plain.specs.Playing.Turns.{is_free_phase}
-use Rattle.sg_plain.proofs.sg_seat.Lines.{length_set, same_or_other, seat_here, seat_there}
+use Rattle.sg_plain.proofs.sg_clients.Lines.{length_set, same_or_other, seat_here, seat_there}
 use Rattle.sg_plain.proofs.Playing.Playing.{playing_offer}
 use Rattle.sg_plain.proofs.Playing.Resolving.{fits_at}
 use Rattle.sg_play.specs.NextCall.{IsNextCall}

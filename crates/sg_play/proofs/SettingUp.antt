@@ -23,9 +23,9 @@ use Rattle.sg_plain.specs.Playing.Turns.{is_free_phase}
 use Rattle.sg_plain.specs.sg_hist.Ending.{client_of}
 use Rattle.sg_plain.specs.Inside.Kept.{is_of_setup, is_setup_first}
 use Rattle.sg_plain.specs.sg_script.declared.script.Script.{Script}
-use Rattle.sg_plain.specs.sg_seat.WorldView.{Seat, WorldView, happened, in_phase, is_left_phase, is_offered, new_world, no_seat, seat_in, seat_of, with_mark}
-use Rattle.sg_plain.specs.sg_seat.declared.mark.MarkKind.TheVariants.{Leave}
-use Rattle.sg_plain.specs.sg_seat.declared.phase.Phase.TheVariants.{Asked, Left}
+use Rattle.sg_plain.specs.sg_clients.WorldView.{Seat, WorldView, happened, in_phase, is_left_phase, is_offered, new_world, no_seat, seat_in, seat_of, with_mark}
+use Rattle.sg_plain.specs.sg_clients.declared.mark.MarkKind.TheVariants.{Leave}
+use Rattle.sg_plain.specs.sg_clients.declared.phase.Phase.TheVariants.{Asked, Left}
 use Rattle.sg_play.proofs.Fronts.{up_to_end, up_to_front}
 use Rattle.sg_play.proofs.Waking.Shapes.{call_is_next}
 use Rattle.sg_play.specs.SettingUp.{IsSettingUpFirst}

@@ -3,16 +3,16 @@ use Rattle.std.proofs.Common.{◌≡◌, ℕ, ◌+◌, ◌-◌, ◌≤◌, true,
 use Rattle.sg_facts.specs.sg_base.declared.reply.Reply.{Reply}
 use Rattle.sg_facts.specs.declared.entry.Entry.{Entry}
 use Rattle.sg_facts.specs.Object.{object_of}
-use Rattle.sg_plain.specs.sg_seat.WorldView.{Seat, WorldView, answered_to, committed, given_to, is_offered, no_reply, seat_in, seat_of, wakes_seat, with_seat, woken_seat}
-use Rattle.sg_plain.specs.sg_seat.declared.phase.Phase.{Phase}
-use Rattle.sg_plain.specs.sg_seat.declared.phase.Phase.TheVariants.{Idle, Asked, Held, Receipted, Blocked, Left}
+use Rattle.sg_plain.specs.sg_clients.WorldView.{Seat, WorldView, answered_to, committed, given_to, is_offered, no_reply, seat_in, seat_of, wakes_seat, with_seat, woken_seat}
+use Rattle.sg_plain.specs.sg_clients.declared.phase.Phase.{Phase}
+use Rattle.sg_plain.specs.sg_clients.declared.phase.Phase.TheVariants.{Idle, Asked, Held, Receipted, Blocked, Left}
 use Rattle.sg_world.specs.declared.did.Did.{Did}
 use Rattle.sg_world.specs.declared.did.Did.TheVariants.{Answered, Blocked as Waits, Booted, Loaded, Lost, Replayed, Served, Skipped, Struck}
 use Rattle.sg_world.specs.Steps.{Boots, Commits, Loses, Skips, Steps}
 use Rattle.sg_world.specs.sg_world_laws.Setting.{Setting}
 use Rattle.sg_plain.specs.Playing.Callers.{EntersCall, EntersNothing, StepsOn, handed, is_receipted}
 use Rattle.sg_plain.proofs.Playing.Lines.{line_entered, line_same, line_set, line_woken, handed_woken}
-use Rattle.sg_plain.proofs.sg_seat.Lines.{seat_here, length_map, seat_woken}
+use Rattle.sg_plain.proofs.sg_clients.Lines.{seat_here, length_map, seat_woken}
 
 -- who offers a call has no receipt
 offers_none : (p : Phase) → is_offered p ≡ true → is_receipted p ≡ false

@@ -5,9 +5,9 @@ use Rattle.sg_facts.specs.declared.entry.Entry.{Entry}
 use Rattle.sg_plain.specs.sg_hist.Clients.{calls_of}
 use Rattle.sg_plain.specs.sg_hist.Inside.Reads.{desc_of}
 use Rattle.sg_plain.specs.sg_script.declared.script.Script.{Script}
-use Rattle.sg_plain.specs.sg_seat.WorldView.{Seat, WorldView, happened, in_phase, is_left_phase, is_offered, seat_of, with_leave, with_mark}
-use Rattle.sg_plain.specs.sg_seat.declared.mark.MarkKind.TheVariants.{Leave}
-use Rattle.sg_plain.specs.sg_seat.declared.phase.Phase.TheVariants.{Idle, Left}
+use Rattle.sg_plain.specs.sg_clients.WorldView.{Seat, WorldView, happened, in_phase, is_left_phase, is_offered, seat_of, with_leave, with_mark}
+use Rattle.sg_plain.specs.sg_clients.declared.mark.MarkKind.TheVariants.{Leave}
+use Rattle.sg_plain.specs.sg_clients.declared.phase.Phase.TheVariants.{Idle, Left}
 use Rattle.sg_world.specs.declared.did.Did.{Did}
 use Rattle.sg_world.specs.declared.did.Did.TheVariants.{Answered, Blocked as Waits, Booted, Loaded, Lost, Replayed, Served, Skipped, Struck}
 use Rattle.sg_world.specs.Steps.{AnswersLast, HasStepped, WantsMemory}
@@ -18,7 +18,7 @@ use Rattle.sg_plain.specs.Playing.Given.{HandsReply, given_in}
 use Rattle.sg_plain.specs.Playing.Plays.{IsPlaying}
 use Rattle.sg_plain.proofs.Playing.Calling.{callers_step, its_client, next_of}
 use Rattle.sg_plain.proofs.Playing.Lines.{line_set}
-use Rattle.sg_plain.proofs.sg_seat.Lines.{seat_here}
+use Rattle.sg_plain.proofs.sg_clients.Lines.{seat_here}
 use Rattle.sg_plain.proofs.Playing.Playing.{playing_step, playing_still}
 use Rattle.sg_play.specs.Turning.{behind_step, handed_by}
 use Rattle.sg_play.proofs.Stepping.{IsHandedTo, handed_step, quiet_step}

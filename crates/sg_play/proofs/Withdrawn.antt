@@ -1,6 +1,6 @@
 -- A step withdraws no call.
 use Rattle.std.proofs.Common.{◌≡◌, ℕ, ap, ◌∙◌, inl, inr}
-use Rattle.sg_plain.specs.sg_seat.WorldView.{WorldView}
+use Rattle.sg_plain.specs.sg_clients.WorldView.{WorldView}
 use Rattle.sg_world.specs.declared.did.Did.{Did}
 use Rattle.sg_world.specs.declared.did.Did.TheVariants.{Answered, Blocked as Waits, Booted, Loaded, Lost, Replayed, Served, Skipped, Struck}
 use Rattle.sg_world.specs.Steps.{Commits, HasStepped, Steps, WantsMemory}

@@ -4,7 +4,7 @@ use Rattle.sg_plain.specs.Calls.{most_client}
 use Rattle.sg_plain.specs.Playing.Callers.{AreCallers, SetsUpFirst, is_setting_up}
 use Rattle.sg_plain.specs.Playing.Playable.{IsPlayable}
 use Rattle.sg_plain.specs.sg_script.declared.script.Script.{Script}
-use Rattle.sg_plain.specs.sg_seat.WorldView.{WorldView}
+use Rattle.sg_plain.specs.sg_clients.WorldView.{WorldView}
 use Rattle.sg_play.specs.SettingUp.{IsSettingUpFirst}
 use Rattle.sg_play.specs.Waking.Waking.{IsWaking}
 use Rattle.sg_world.specs.sg_world_laws.Setting.{Setting}

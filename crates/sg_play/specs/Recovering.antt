@@ -3,8 +3,8 @@ use Rattle.std.specs.Prelude.{ℕ, ◌≡◌, ◌≤◌, None, length}
 use Rattle.sg_facts.specs.Legal.{LegalFrom, answer}
 use Rattle.sg_facts.specs.Object.{empty_object, object_of}
 use Rattle.sg_plain.specs.sg_hist.Growing.{IsRecovering}
-use Rattle.sg_plain.specs.sg_seat.WorldView.{WorldView, seat_of, unanswered}
-use Rattle.sg_plain.specs.sg_seat.declared.phase.Phase.TheVariants.{Blocked}
+use Rattle.sg_plain.specs.sg_clients.WorldView.{WorldView, seat_of, unanswered}
+use Rattle.sg_plain.specs.sg_clients.declared.phase.Phase.TheVariants.{Blocked}
 use Rattle.sg_world.specs.sg_world_laws.Ending.{IsEnding}
 use Rattle.sg_world.specs.sg_world_laws.Setting.{IsSetting, Setting, stubs_of}
 

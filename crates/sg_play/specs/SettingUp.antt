@@ -6,7 +6,7 @@ use Rattle.sg_plain.specs.Playing.Callers.{is_setting_up}
 use Rattle.sg_plain.specs.sg_hist.Ending.{client_of}
 use Rattle.sg_plain.specs.Inside.Kept.{is_setup_first}
 use Rattle.sg_plain.specs.sg_script.declared.script.Script.{Script}
-use Rattle.sg_plain.specs.sg_seat.WorldView.{WorldView}
+use Rattle.sg_plain.specs.sg_clients.WorldView.{WorldView}
 
 -- no item of another client's turn stands before one of the setup, and until the setup is done all items were noted in turns of
 -- client 1

@@ -8,7 +8,7 @@ use Rattle.sg_plain.specs.sg_hist.Inside.Reads.{desc_of}
 use Rattle.sg_plain.specs.Calls.{call_after, script_calls}
 use Rattle.sg_plain.specs.Playing.Turns.{is_free_phase}
 use Rattle.sg_plain.specs.sg_script.declared.script.Script.{Script}
-use Rattle.sg_plain.specs.sg_seat.WorldView.{WorldView, happened, offered, seat_of, with_leave}
+use Rattle.sg_plain.specs.sg_clients.WorldView.{WorldView, happened, offered, seat_of, with_leave}
 use Rattle.sg_world.specs.declared.did.Did.{Did}
 use Rattle.sg_world.specs.declared.did.Did.TheVariants.{Answered, Blocked, Booted, Loaded, Lost, Replayed, Served, Skipped, Struck}
 use Rattle.sg_world.specs.Steps.{HasStepped}

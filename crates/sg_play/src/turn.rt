@@ -7,10 +7,10 @@ ghost use Rattle.sg_plain.specs.Playing.Given.{given_in, with_handed};
 ghost use Rattle.sg_plain.specs.Playing.Playable.{AreClients};
 ghost use Rattle.sg_plain.specs.Playing.Plays.{IsPlaying};
 ghost use Rattle.sg_play.specs.Turning.{StepsInTurn, with_leaving, with_offer};
-ghost use Rattle.sg_plain.specs.sg_seat.WorldView.{happened, seat_of};
+ghost use Rattle.sg_plain.specs.sg_clients.WorldView.{happened, seat_of};
 ghost use Rattle.sg_world.specs.Steps.{WantsMemory};
 ghost use Rattle.sg_world.specs.Worlded.{setting_of};
-ghost use Rattle.sg_plain.specs.sg_seat.declared.phase.Phase.TheVariants.{Idle};
+ghost use Rattle.sg_plain.specs.sg_clients.declared.phase.Phase.TheVariants.{Idle};
 ghost use Rattle.sg_plain.specs.Playing.Turns.{is_free_phase};
 
 use crate::calls::{NextCall, next_call};

@@ -10,7 +10,7 @@ ghost use Rattle.sg_report.specs.Report.{boots_lines, call_text, item_text, outc
 ghost use Rattle.sg_report.specs.Inside.Pieces.{boot_lines, replays_of, stop_line, trace_lines};
 ghost use Rattle.sg_facts.specs.Lent.{outcome_in, tag_in};
 ghost use Rattle.sg_facts.specs.sg_base.Counts.{last_count};
-ghost use Rattle.sg_facts.specs.sg_records.Lent.{call_in};
+ghost use Rattle.sg_facts.specs.sg_base.Lent.{call_in};
 ghost use Rattle.sg_facts.specs.Words.{line_end};
 
 use crate::words::{push_call, push_number};

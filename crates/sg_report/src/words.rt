@@ -4,7 +4,7 @@ ghost use Rattle.std.specs.Fmt.{decimal};
 ghost use Rattle.std.specs.List.{flat_map};
 ghost use Rattle.std.specs.Str.{bytes_eq};
 ghost use Rattle.sg_facts.specs.sg_base.declared.value.Value.TheVariants.{Word as IsWord};
-ghost use Rattle.sg_facts.specs.sg_records.Lent.{args_in, call_in, good_in, reply_in};
+ghost use Rattle.sg_facts.specs.sg_base.Lent.{args_in, call_in, good_in, reply_in};
 ghost use Rattle.sg_facts.specs.Facts.{fun_at, fun_of_shape, takes_desc, takes_parent};
 ghost use Rattle.sg_facts.specs.sg_base.Codes.{code_name};
 ghost use Rattle.sg_report.specs.Report.{call_text, listed, reply_text, value_text};

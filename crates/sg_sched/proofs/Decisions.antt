@@ -15,12 +15,12 @@ use Rattle.sg_facts.specs.Laws.{state_in}
 use Rattle.sg_facts.specs.Track.{row_at, arg_at}
 use Rattle.sg_facts.specs.Inside.Rows.{row_after}
 use Rattle.sg_facts.specs.Object.{Object, patch_of}
-use Rattle.sg_queues.specs.sg_slots.declared.decision.Decision.{Decision}
-use Rattle.sg_queues.specs.sg_slots.declared.decision.Decision.TheVariants.{Block, Keep, Remove}
-use Rattle.sg_queues.specs.sg_slots.Slots.{Held, AreIds, entry_at, object_of, rows_of, row_with, set_entry}
-use Rattle.sg_queues.specs.sg_slots.Decide.{Decides}
-use Rattle.sg_queues.proofs.sg_slots.Rows.{row_at-rows_of, rows_of-more, rows_of-set, rows_of-without}
-use Rattle.sg_queues.proofs.sg_slots.SoundRows.{change}
+use Rattle.sg_slots.specs.declared.decision.Decision.{Decision}
+use Rattle.sg_slots.specs.declared.decision.Decision.TheVariants.{Block, Keep, Remove}
+use Rattle.sg_slots.specs.Slots.{Held, AreIds, entry_at, object_of, rows_of, row_with, set_entry}
+use Rattle.sg_slots.specs.Decide.{Decides}
+use Rattle.sg_slots.proofs.Rows.{row_at-rows_of, rows_of-more, rows_of-set, rows_of-without}
+use Rattle.sg_slots.proofs.SoundRows.{change}
 use Rattle.sg_sched.specs.declared.thread.Thread.{Thread}
 use Rattle.sg_sched.specs.SchedFacts.{sched_facts}
 use Rattle.sg_sched.specs.SchedTable.{sched_table, sched_parts, next_rank, first_ready}

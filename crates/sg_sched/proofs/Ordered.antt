@@ -2,10 +2,10 @@
 use Rattle.std.proofs.Common.{◌≡◌, ℕ, Bool, true, false, List, None, Some, refl, sym, ◌∙◌, ap, subst, arith}
 use Rattle.std.specs.Prelude.{◌==◌, ◌≤◌, if◌then◌else◌}
 use Rattle.std.specs.declared.option.Option.{Option}
-use Rattle.sg_queues.specs.sg_slots.Slots.{AreIds, row_with, rows_of}
-use Rattle.sg_queues.specs.declared.standing.Standing.{Standing}
-use Rattle.sg_queues.specs.Orders.{HasGreatest, IsGreatest}
-use Rattle.sg_queues.proofs.FirstRows.{Agrees, row_of, row_standing, found_row_of, rows_all}
+use Rattle.sg_slots.specs.Slots.{AreIds, row_with, rows_of}
+use Rattle.sg_slots.specs.declared.standing.Standing.{Standing}
+use Rattle.sg_slots.specs.Orders.{HasGreatest, IsGreatest}
+use Rattle.sg_slots.proofs.FirstRows.{Agrees, row_of, row_standing, found_row_of, rows_all}
 use Rattle.sg_sched.specs.declared.thread.Thread.{Thread}
 use Rattle.sg_sched.specs.SchedRow.{thread_body}
 use Rattle.sg_sched.specs.SchedTable.{rank_of}

@@ -1,6 +1,6 @@
 -- What the thread service holds.
 use Rattle.sg_facts.specs.Object.{Object}
-use Rattle.sg_queues.specs.sg_slots.Slots.{object_of}
+use Rattle.sg_slots.specs.Slots.{object_of}
 use Rattle.sg_sched.specs.SchedRow.{thread_body}
 use Rattle.sg_sched.specs.declared.service.SchedService.{SchedService}
 

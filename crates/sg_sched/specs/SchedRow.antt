@@ -1,7 +1,7 @@
 -- The row that a thread stands for.
 use Rattle.std.specs.Prelude.{if◌then◌else◌, [], ◌∷◌}
 use Rattle.sg_facts.specs.sg_base.declared.value.Value.TheVariants.{Word}
-use Rattle.sg_queues.specs.sg_slots.Slots.{Body}
+use Rattle.sg_slots.specs.Slots.{Body}
 use Rattle.sg_sched.specs.declared.thread.Thread.{Thread}
 
 -- made by sched_create_thd, in the state that sched_create_thd leaves where it is ready and in that of sched_sleep where it

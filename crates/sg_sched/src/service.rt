@@ -7,8 +7,8 @@ ghost use Rattle.sg_facts.specs.declared.shape.Kind.TheVariants.{Word as IsWord}
 ghost use Rattle.sg_facts.specs.Kinds.{MayAsk, kinds_fit};
 ghost use Rattle.sg_facts.specs.Track.{row_at, arg_at};
 ghost use Rattle.sg_facts.specs.Inside.Rows.{has_child};
-ghost use Rattle.sg_queues.specs.sg_slots.Slots.{row_with, object_of, rows_of};
-ghost use Rattle.sg_queues.specs.sg_slots.Decide.{Decides};
+ghost use Rattle.sg_slots.specs.Slots.{row_with, object_of, rows_of};
+ghost use Rattle.sg_slots.specs.Decide.{Decides};
 ghost use Rattle.sg_sched.specs.Laws.SchedWalkLaw.{sched_walk_goes_on};
 ghost use Rattle.sg_sched.specs.SchedFacts.{sched_facts};
 ghost use Rattle.sg_sched.specs.SchedTable.{sched_table, sched_parts, next_rank, first_ready};
@@ -24,7 +24,7 @@ use crate::Thread;
 use crate::functions::{CREATE, NEXT, PLACE, SLEEP, WAIT, WAKEUP, YIELD};
 use crate::shape::sched_shape;
 use sg_facts::{Call, Code, LentValue, NoMemory, Outcome, Path, Service, Shape, Stops};
-use sg_queues::{Decision, Queue};
+use sg_slots::{Decision, Queue};
 use std::alloc::Global;
 
 /// The thread service: it makes and ends threads, puts them to sleep, wakes them, and tells which is next; who waits for

@@ -5,7 +5,7 @@ ghost use Rattle.sg_sched.specs.SchedFacts.{sched_facts};
 
 use crate::functions::{CREATE, EXIT, PLACE, SLEEP, WAIT, WAKEUP, YIELD};
 use sg_facts::{Effect, FieldShape, FunShape, Kind, Leaves, Shape};
-use sg_queues::SINGLE_ROWS;
+use sg_slots::SINGLE_ROWS;
 
 static FIELDS: [FieldShape; 2] = [
     FieldShape {

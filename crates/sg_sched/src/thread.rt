@@ -1,5 +1,5 @@
 // One thread.
-use sg_queues::{Queued, Slot, Standing};
+use sg_slots::{Queued, Slot, Standing};
 
 /// A thread.
 #[derive(Clone, Copy, Debug, PartialEq, Eq)]

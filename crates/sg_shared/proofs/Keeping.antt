@@ -6,7 +6,7 @@ use Rattle.sg_facts.specs.sg_base.declared.call.Call.{Call}
 use Rattle.sg_facts.specs.Legal.{LegalFrom}
 use Rattle.sg_facts.specs.Object.{empty_object}
 use Rattle.sg_log.specs.Names.{IsSeatOf}
-use Rattle.sg_log.specs.sg_passes.Told.{HasNoCall, Standing, asking, has_reply, idle, left}
+use Rattle.sg_log.specs.sg_turn.Told.{HasNoCall, Standing, asking, has_reply, idle, left}
 use Rattle.sg_shared.proofs.Reaching.{come_more}
 use Rattle.sg_shared.specs.Inside.Keeping.{KeepsPlayed}
 use Rattle.sg_sim.proofs.sg_play.GoingOn.{goes_happened, goes_left, goes_offered, goes_stepped, goes_wanted}
@@ -17,11 +17,11 @@ use Rattle.sg_sim.specs.sg_plain.sg_hist.Clients.{calls_of}
 use Rattle.sg_sim.specs.sg_plain.Calls.{call_after}
 use Rattle.sg_sim.specs.sg_plain.Playing.Turns.{is_free_phase}
 use Rattle.sg_sim.specs.sg_plain.sg_script.declared.script.Script.{Script}
-use Rattle.sg_sim.specs.sg_seat.WorldView.{IsFree, Seat, WorldView, happened, in_phase, is_left_phase, offered, seat_of, with_leave, with_mark, withdrawn_by}
-use Rattle.sg_sim.specs.sg_seat.declared.mark.MarkKind.TheVariants.{Leave}
-use Rattle.sg_sim.specs.sg_seat.declared.phase.Phase.{Phase}
-use Rattle.sg_sim.specs.sg_seat.declared.phase.Phase.TheVariants.{Idle, Asked, Held, Receipted, Blocked, Left}
-use Rattle.sg_sim.specs.sg_seat.declared.withdrawn.Withdrawn.{Withdrawn}
+use Rattle.sg_sim.specs.sg_clients.WorldView.{IsFree, Seat, WorldView, happened, in_phase, is_left_phase, offered, seat_of, with_leave, with_mark, withdrawn_by}
+use Rattle.sg_sim.specs.sg_clients.declared.mark.MarkKind.TheVariants.{Leave}
+use Rattle.sg_sim.specs.sg_clients.declared.phase.Phase.{Phase}
+use Rattle.sg_sim.specs.sg_clients.declared.phase.Phase.TheVariants.{Idle, Asked, Held, Receipted, Blocked, Left}
+use Rattle.sg_sim.specs.sg_clients.declared.withdrawn.Withdrawn.{Withdrawn}
 use Rattle.sg_sim.specs.sg_world.declared.did.Did.{Did}
 use Rattle.sg_sim.specs.sg_world.Steps.{AnswersLast, HasStepped, WantsMemory}
 use Rattle.sg_sim.specs.sg_world_laws.Setting.{Setting}

@@ -6,10 +6,10 @@ use Rattle.std.specs.declared.result.Result.{Result}
 use Rattle.sg_facts.specs.sg_base.Lists.{Each}
 use Rattle.sg_log.specs.Log.{log_of}
 use Rattle.sg_log.specs.Names.{IsSeatOf, TellsWorld}
-use Rattle.sg_log.specs.sg_passes.Passes.{AreAllPasses, Grows}
-use Rattle.sg_log.specs.sg_passes.Told.{HasNoCall, Standing, asking, entries_by, has_reply, idle, left, standing_in}
-use Rattle.sg_log.specs.sg_passes.sg_turn.declared.log.Face.{Face}
-use Rattle.sg_log.specs.sg_passes.sg_turn.Seats.{NumberedFrom, SeatView, TurnView, all_seats, first_seats, knowledge_of, new_seat}
+use Rattle.sg_log.specs.sg_turn.Passes.{AreAllPasses, Grows}
+use Rattle.sg_log.specs.sg_turn.Told.{HasNoCall, Standing, asking, entries_by, has_reply, idle, left, standing_in}
+use Rattle.sg_log.specs.sg_turn.declared.log.Face.{Face}
+use Rattle.sg_log.specs.sg_turn.Seats.{NumberedFrom, SeatView, TurnView, all_seats, first_seats, knowledge_of, new_seat}
 use Rattle.sg_shared.specs.Inside.Seats.{AllFree, AreSamePasses, IsSamePass, MayPlay}
 use Rattle.sg_sim.proofs.Beginning.{new_seat as new_seat_of}
 use Rattle.sg_sim.specs.Playing.{new_of}
@@ -17,9 +17,9 @@ use Rattle.sg_sim.specs.sg_plain.Calls.{most_client}
 use Rattle.sg_sim.specs.sg_plain.Playing.Callers.{is_setting_up}
 use Rattle.sg_sim.specs.sg_plain.Playing.Turns.{is_free_phase}
 use Rattle.sg_sim.specs.sg_plain.sg_script.declared.script.Script.{Script}
-use Rattle.sg_sim.specs.sg_seat.WorldView.{Seat, WorldView, is_offered, seat_of}
-use Rattle.sg_sim.specs.sg_seat.declared.phase.Phase.{Phase}
-use Rattle.sg_sim.specs.sg_seat.declared.phase.Phase.TheVariants.{Idle, Asked, Held, Receipted, Blocked, Left}
+use Rattle.sg_sim.specs.sg_clients.WorldView.{Seat, WorldView, is_offered, seat_of}
+use Rattle.sg_sim.specs.sg_clients.declared.phase.Phase.{Phase}
+use Rattle.sg_sim.specs.sg_clients.declared.phase.Phase.TheVariants.{Idle, Asked, Held, Receipted, Blocked, Left}
 
 -- ---- the same pass
 

@@ -13,7 +13,7 @@ use Rattle.sg_sim.specs.sg_plain.sg_hist.declared.ended.Ended.{Ended}
 use Rattle.sg_sim.specs.sg_plain.Calls.{call_after, script_calls}
 use Rattle.sg_sim.specs.sg_plain.Playing.Turns.{is_free_phase}
 use Rattle.sg_sim.specs.sg_plain.sg_script.declared.script.Script.{Script}
-use Rattle.sg_sim.specs.sg_seat.WorldView.{WorldView, happened, seat_of, with_leave}
+use Rattle.sg_sim.specs.sg_clients.WorldView.{WorldView, happened, seat_of, with_leave}
 use Rattle.sg_sim.specs.sg_world.declared.did.Did.{Did}
 use Rattle.sg_sim.specs.sg_world.declared.did.Did.TheVariants.{Answered, Blocked as Waits, Booted, Loaded, Lost, Replayed, Served, Skipped, Struck}
 use Rattle.sg_sim.specs.sg_world_laws.Setting.{Setting}

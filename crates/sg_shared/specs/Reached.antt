@@ -8,7 +8,7 @@ use Rattle.sg_sim.specs.sg_plain.Playing.Turns.{is_free_phase}
 use Rattle.sg_sim.specs.sg_plain.sg_script.declared.script.Script.{Script}
 use Rattle.sg_sim.specs.Played.{IsOfWorld}
 use Rattle.sg_sim.specs.Playing.{new_of}
-use Rattle.sg_sim.specs.sg_seat.WorldView.{WorldView, happened, offered, seat_of, with_leave, withdrawn_by}
+use Rattle.sg_sim.specs.sg_clients.WorldView.{WorldView, happened, offered, seat_of, with_leave, withdrawn_by}
 use Rattle.sg_sim.specs.sg_world.Steps.{HasStepped, WantsMemory}
 use Rattle.sg_sim.specs.sg_world.declared.did.Did.{Did}
 use Rattle.sg_sim.specs.sg_world_laws.Setting.{Setting}

@@ -1,8 +1,8 @@
 // The threads of the clients.
 ghost use Rattle.std.specs.Prelude.{◌≡◌, ◌≤◌, true, vec_capacity, vec_len};
 ghost use Rattle.sg_facts.specs.sg_base.Lists.{Each};
-ghost use Rattle.sg_log.specs.sg_passes.Passes.{standing_of};
-ghost use Rattle.sg_log.specs.sg_passes.Told.{HasNoCall};
+ghost use Rattle.sg_log.specs.sg_turn.Passes.{standing_of};
+ghost use Rattle.sg_log.specs.sg_turn.Told.{HasNoCall};
 ghost use Rattle.sg_shared.specs.Inside.Seats.{AreSamePasses, IsSamePass, MayPlay};
 ghost use Rattle.sg_sim.specs.sg_plain.Playing.Playable.{IsPlayable};
 

@@ -2,7 +2,7 @@
 ghost use Rattle.std.specs.Prelude.{◌≡◌, true, IfOk};
 ghost use Rattle.sg_facts.specs.sg_base.Lists.{Each};
 ghost use Rattle.sg_log.specs.Names.{TellsWorld};
-ghost use Rattle.sg_log.specs.sg_passes.sg_turn.Seats.{all_seats};
+ghost use Rattle.sg_log.specs.sg_turn.Seats.{all_seats};
 ghost use Rattle.sg_shared.specs.Inside.Keeping.{KeepsPlayed};
 ghost use Rattle.sg_shared.specs.Inside.Seats.{AllFree, MayPlay};
 ghost use Rattle.sg_shared.specs.Reached.{ComesByEvents};
@@ -109,7 +109,7 @@ impl<S: Service, N: Naming> Host for PlayedWorld<S, N> {
     ghost use Rattle.sg_facts.specs.Object.{empty_object};
     ghost use Rattle.sg_log.specs.Names.{HasNoAnswer, phases_of};
     ghost use Rattle.sg_sim.specs.sg_play.NextCall.{IsNextCall};
-    ghost use Rattle.sg_sim.specs.sg_seat.WorldView.{MayWithdraw, seat_of};
+    ghost use Rattle.sg_sim.specs.sg_clients.WorldView.{MayWithdraw, seat_of};
 
     ghost clients = { N.clients };
 

@@ -13,7 +13,7 @@ use Rattle.sg_play.specs.sg_plain.Playing.Given.{given_in, with_handed}
 use Rattle.sg_play.specs.sg_plain.Playing.Plays.{IsPlaying}
 use Rattle.sg_play.specs.sg_plain.Playing.Turns.{may_go, may_take_turn}
 use Rattle.sg_play.specs.sg_script.declared.script.Script.{Script}
-use Rattle.sg_play.specs.sg_seat.WorldView.{Seat, WorldView, happened, seat_in, seat_of}
+use Rattle.sg_play.specs.sg_clients.WorldView.{Seat, WorldView, happened, seat_in, seat_of}
 use Rattle.sg_sim.proofs.Beginning.{clients_from_one, given_count}
 use Rattle.sg_sim.specs.Inside.Taken.{MissesTurn, TakesTurn, behind_offer}
 use Rattle.sg_sim.specs.Playing.{Playing, can_step}

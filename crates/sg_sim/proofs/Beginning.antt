@@ -14,7 +14,7 @@ use Rattle.sg_play.specs.sg_plain.Playing.Playable.{AreClients, IsPlayable}
 use Rattle.sg_play.specs.sg_plain.Playing.Plays.{IsPlaying}
 use Rattle.sg_play.specs.sg_script.declared.script.Script.{Script}
 use Rattle.sg_play.specs.sg_script.declared.script.ScriptCall.{ScriptCall}
-use Rattle.sg_play.specs.sg_seat.WorldView.{Seat, is_offered, no_seat, seat_in}
+use Rattle.sg_play.specs.sg_clients.WorldView.{Seat, is_offered, no_seat, seat_in}
 
 -- there is a first client, and no more than there may be
 pub clients_from_one : (above : ℕ) (clients : List (ℕ × List ScriptCall)) → AreClients above clients → 1 ≤ most_client clients

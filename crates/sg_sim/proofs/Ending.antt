@@ -27,7 +27,7 @@ use Rattle.sg_play.proofs.sg_plain.Playing.Playing.{playing_calls}
 use Rattle.sg_play.specs.sg_plain.Playing.Ends.{end_of, ends_from, has_calls}
 use Rattle.sg_play.specs.sg_plain.Playing.Turns.{NobodyGoes}
 use Rattle.sg_play.specs.sg_script.declared.script.Script.{Script}
-use Rattle.sg_play.specs.sg_seat.WorldView.{Seat, WorldView, no_seat, offered_by, seat_in, unanswered}
+use Rattle.sg_play.specs.sg_clients.WorldView.{Seat, WorldView, no_seat, offered_by, seat_in, unanswered}
 use Rattle.sg_sim.specs.Inside.Keeps.{KeepsPlay}
 use Rattle.sg_sim.proofs.Beginning.{clients_from_one, few_handed}
 use Rattle.sg_sim.specs.Played.{FollowsSchedule, IsPlayed}

@@ -22,9 +22,9 @@ use Rattle.sg_play.specs.sg_plain.Playing.Playable.{IsPlayable}
 use Rattle.sg_play.specs.sg_plain.Playing.Plays.{IsPlaying}
 use Rattle.sg_play.specs.sg_plain.Playing.Turns.{is_free_phase}
 use Rattle.sg_play.specs.sg_script.declared.script.Script.{Script}
-use Rattle.sg_play.specs.sg_seat.WorldView.{WorldView, happened, in_phase, is_left_phase, new_world, no_seat, seat_of, with_mark}
-use Rattle.sg_play.specs.sg_seat.declared.mark.MarkKind.TheVariants.{Leave}
-use Rattle.sg_play.specs.sg_seat.declared.phase.Phase.TheVariants.{Left}
+use Rattle.sg_play.specs.sg_clients.WorldView.{WorldView, happened, in_phase, is_left_phase, new_world, no_seat, seat_of, with_mark}
+use Rattle.sg_play.specs.sg_clients.declared.mark.MarkKind.TheVariants.{Leave}
+use Rattle.sg_play.specs.sg_clients.declared.phase.Phase.TheVariants.{Left}
 use Rattle.sg_sim.proofs.AnyTurn.{settled_missed, settled_taken, still_settled}
 use Rattle.sg_sim.proofs.Beginning.{playing_new}
 use Rattle.sg_sim.specs.Inside.Keeps.{KeepsPlay}

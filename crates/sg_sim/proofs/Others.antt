@@ -12,7 +12,7 @@ use Rattle.sg_facts.specs.declared.entry.Entry.{Entry}
 use Rattle.sg_facts.specs.sg_base.declared.call.Call.{Call}
 use Rattle.sg_facts.specs.sg_base.declared.reply.Reply.{Reply}
 use Rattle.sg_play.proofs.sg_plain.Playing.Calling.{its_client}
-use Rattle.sg_play.proofs.sg_plain.sg_seat.Lines.{length_map, length_set, seat_here, seat_there, seat_woken}
+use Rattle.sg_play.proofs.sg_plain.sg_clients.Lines.{length_map, length_set, seat_here, seat_there, seat_woken}
 use Rattle.sg_play.specs.Turning.{StepsInTurn, behind_step, handed_by, with_call, with_leaving, with_offer}
 use Rattle.sg_play.specs.sg_hist.Clients.{calls_of}
 use Rattle.sg_play.specs.sg_plain.Calls.{call_after, script_calls}
@@ -22,10 +22,10 @@ use Rattle.sg_play.specs.sg_plain.Playing.Playable.{IsPlayable}
 use Rattle.sg_play.specs.sg_plain.Playing.Plays.{IsPlaying}
 use Rattle.sg_play.specs.sg_plain.Playing.Turns.{is_free_phase, may_go, may_take_turn}
 use Rattle.sg_play.specs.sg_script.declared.script.Script.{Script}
-use Rattle.sg_play.specs.sg_seat.WorldView.{Seat, WorldView, happened, in_phase, is_blocked_phase, is_left_phase, is_offered, no_reply, seat_in, seat_of, wakes_seat, with_leave, with_mark, woken_seat}
-use Rattle.sg_play.specs.sg_seat.declared.mark.MarkKind.TheVariants.{Leave}
-use Rattle.sg_play.specs.sg_seat.declared.phase.Phase.{Phase}
-use Rattle.sg_play.specs.sg_seat.declared.phase.Phase.TheVariants.{Asked, Blocked, Held, Idle, Left, Receipted}
+use Rattle.sg_play.specs.sg_clients.WorldView.{Seat, WorldView, happened, in_phase, is_blocked_phase, is_left_phase, is_offered, no_reply, seat_in, seat_of, wakes_seat, with_leave, with_mark, woken_seat}
+use Rattle.sg_play.specs.sg_clients.declared.mark.MarkKind.TheVariants.{Leave}
+use Rattle.sg_play.specs.sg_clients.declared.phase.Phase.{Phase}
+use Rattle.sg_play.specs.sg_clients.declared.phase.Phase.TheVariants.{Asked, Blocked, Held, Idle, Left, Receipted}
 use Rattle.sg_play.specs.sg_world.declared.did.Did.{Did}
 use Rattle.sg_play.specs.sg_world.declared.did.Did.TheVariants.{Answered, Blocked as Waits, Booted, Loaded, Lost, Replayed, Served, Skipped, Struck}
 use Rattle.sg_play.specs.sg_world.Steps.{Commits, HasStepped, Steps, WantsMemory}

@@ -12,9 +12,9 @@ use Rattle.sg_play.specs.sg_hist.Clients.{calls_of}
 use Rattle.sg_play.specs.sg_hist.Inside.Reads.{desc_of}
 use Rattle.sg_play.specs.sg_plain.Playing.Callers.{handed, is_receipted}
 use Rattle.sg_play.specs.sg_plain.Playing.Given.{GaveIds, given_in}
-use Rattle.sg_play.specs.sg_seat.WorldView.{Seat}
-use Rattle.sg_play.specs.sg_seat.declared.phase.Phase.{Phase}
-use Rattle.sg_play.specs.sg_seat.declared.phase.Phase.TheVariants.{Idle, Asked, Held, Receipted, Blocked, Left}
+use Rattle.sg_play.specs.sg_clients.WorldView.{Seat}
+use Rattle.sg_play.specs.sg_clients.declared.phase.Phase.{Phase}
+use Rattle.sg_play.specs.sg_clients.declared.phase.Phase.TheVariants.{Idle, Asked, Held, Receipted, Blocked, Left}
 use Rattle.sg_sim.specs.Inside.Givens.{lists_of}
 
 -- ---- one client

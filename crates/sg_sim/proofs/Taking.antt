@@ -7,7 +7,7 @@ use Rattle.sg_play.specs.Turning.{StepsInTurn, with_offer}
 use Rattle.sg_play.specs.sg_plain.Playing.Given.{with_handed}
 use Rattle.sg_play.specs.sg_plain.Playing.Plays.{IsPlaying}
 use Rattle.sg_play.specs.sg_script.declared.script.Script.{Script}
-use Rattle.sg_play.specs.sg_seat.WorldView.{WorldView, happened}
+use Rattle.sg_play.specs.sg_clients.WorldView.{WorldView, happened}
 use Rattle.sg_sim.specs.Inside.Taken.{MissesTurn, TakesTurn, behind_offer}
 use Rattle.sg_play.specs.sg_world.Steps.{WantsMemory}
 use Rattle.sg_play.specs.sg_world_laws.Setting.{Setting}

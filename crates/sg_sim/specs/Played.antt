@@ -14,7 +14,7 @@ use Rattle.sg_play.specs.sg_plain.OneService.{one_service, workload_of}
 use Rattle.sg_play.specs.sg_plain.Plain.{IsPlay}
 use Rattle.sg_play.specs.sg_plain.Promises.{AreScriptsCalls, AreWoken, FollowsPlain, IsSetupFirst}
 use Rattle.sg_play.specs.sg_script.declared.script.Script.{Script}
-use Rattle.sg_play.specs.sg_seat.WorldView.{WorldView}
+use Rattle.sg_play.specs.sg_clients.WorldView.{WorldView}
 
 -- the history and the trace of an end are those of a world
 abbrev pub IsOfWorld : WorldView → Ended → Type 0

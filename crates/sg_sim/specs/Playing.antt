@@ -7,7 +7,7 @@ use Rattle.sg_play.specs.sg_hist.declared.ended.Ended.{Ended}
 use Rattle.sg_play.specs.sg_plain.Calls.{most_client}
 use Rattle.sg_play.specs.sg_plain.Playing.Turns.{may_take_turn}
 use Rattle.sg_play.specs.sg_script.declared.script.Script.{Script}
-use Rattle.sg_play.specs.sg_seat.WorldView.{WorldView, happened, new_world, no_seat, seat_of}
+use Rattle.sg_play.specs.sg_clients.WorldView.{WorldView, happened, new_world, no_seat, seat_of}
 use Rattle.sg_play.specs.sg_world.Steps.{WantsMemory}
 use Rattle.sg_play.specs.sg_world_laws.Setting.{Setting}
 use Rattle.sg_sim.specs.Played.{IsOfWorld}

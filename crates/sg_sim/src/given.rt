@@ -1,12 +1,12 @@
 // What the calls of the clients were given.
 ghost use Rattle.std.specs.Prelude.{◌≡◌, ◌≤◌, ◌<◌, [], Some, IfOk, OnOk, length, replicate, take};
-ghost use Rattle.sg_facts.specs.sg_records.Lent.{reply_in};
+ghost use Rattle.sg_facts.specs.sg_base.Lent.{reply_in};
 ghost use Rattle.sg_play.specs.sg_clients.Clients.{IsClient};
 ghost use Rattle.sg_play.specs.sg_hist.Clients.{calls_of};
 ghost use Rattle.sg_play.specs.sg_hist.Inside.Reads.{desc_of};
 ghost use Rattle.sg_play.specs.sg_plain.Playing.Callers.{handed};
 ghost use Rattle.sg_play.specs.sg_plain.Playing.Given.{GaveIds, HaveGiven, given_in, with_handed};
-ghost use Rattle.sg_play.specs.sg_seat.WorldView.{seat_of};
+ghost use Rattle.sg_play.specs.sg_clients.WorldView.{seat_of};
 ghost use Rattle.sg_sim.specs.Inside.Givens.{lists_of, room_for};
 
 use sg_facts::{LentReply, NoMemory, RoomyList, Service, Stops};

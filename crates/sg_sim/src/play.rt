@@ -12,7 +12,7 @@ ghost use Rattle.sg_play.specs.Turning.{StepsInTurn, with_offer};
 ghost use Rattle.sg_play.specs.Following.Stages.{IsNextTurn};
 ghost use Rattle.sg_play.specs.GoingOn.{MayGoOn};
 ghost use Rattle.sg_sim.specs.Inside.Next.{IsFirstBehind, NoneBehind, NoneScheduled, may_go_next, stage_now};
-ghost use Rattle.sg_play.specs.sg_seat.WorldView.{is_blocked_phase, seat_of};
+ghost use Rattle.sg_play.specs.sg_clients.WorldView.{is_blocked_phase, seat_of};
 ghost use Rattle.sg_sim.specs.Played.{FollowsSchedule, IsOfWorld, IsPlayed};
 ghost use Rattle.sg_sim.specs.Playing.{ComesTo, EndsAs, HasMissed, IsTurnOf, can_step, new_of};
 ghost use Rattle.sg_play.specs.Waking.Waking.{no_query_waits};

@@ -1,7 +1,14 @@
+pub mod Alike
+pub mod Apart
+pub mod Changes
 pub mod Deciding
+pub mod FirstRows
+pub mod Firsts
+pub mod Found
 pub mod FoundRows
 pub mod Ids
 pub mod Maps
 pub mod RowLaws
 pub mod Rows
 pub mod SoundRows
+pub mod Told

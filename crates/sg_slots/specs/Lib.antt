@@ -1,4 +1,7 @@
-pub mod Slots
+pub mod Apart
 pub mod Carry
 pub mod Decide
+pub mod Inside
+pub mod Orders
 pub mod RowModel
+pub mod Slots

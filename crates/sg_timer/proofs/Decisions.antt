@@ -16,12 +16,12 @@ use Rattle.sg_facts.specs.Facts.{fun_at, takes_desc}
 use Rattle.sg_facts.specs.Kinds.{kinds_fit}
 use Rattle.sg_facts.specs.Object.{Object, patch_of}
 use Rattle.sg_facts.specs.Track.{row_at, arg_at, word_of}
-use Rattle.sg_queues.specs.sg_slots.declared.decision.Decision.{Decision}
-use Rattle.sg_queues.specs.sg_slots.declared.decision.Decision.TheVariants.{Refuse, Block, Enlist, Set, Remove}
-use Rattle.sg_queues.specs.sg_slots.Slots.{Held, AreIds, entry_at, object_of, rows_of, row_with}
-use Rattle.sg_queues.specs.sg_slots.Decide.{Decides}
-use Rattle.sg_queues.proofs.sg_slots.Rows.{row_at-rows_of, rows_of-more}
-use Rattle.sg_queues.proofs.sg_slots.Deciding.{plain, refuse_right, block_right, set_right, set_word_right, remove_right}
+use Rattle.sg_slots.specs.declared.decision.Decision.{Decision}
+use Rattle.sg_slots.specs.declared.decision.Decision.TheVariants.{Refuse, Block, Enlist, Set, Remove}
+use Rattle.sg_slots.specs.Slots.{Held, AreIds, entry_at, object_of, rows_of, row_with}
+use Rattle.sg_slots.specs.Decide.{Decides}
+use Rattle.sg_slots.proofs.Rows.{row_at-rows_of, rows_of-more}
+use Rattle.sg_slots.proofs.Deciding.{plain, refuse_right, block_right, set_right, set_word_right, remove_right}
 use Rattle.sg_timer.specs.declared.timer.Timer.{Timer}
 use Rattle.sg_timer.specs.TimerFacts.{timer_facts}
 use Rattle.sg_timer.specs.TimerTable.{timer_table, timer_parts, first_timer, most_ticks, skipped, tag_of, worded}

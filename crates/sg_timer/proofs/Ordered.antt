@@ -2,8 +2,8 @@
 use Rattle.std.proofs.Common.{◌≡◌, ℕ, Bool, true, List, [], ◌∷◌, None, Some, refl, ap}
 use Rattle.std.specs.Prelude.{◌==◌, ◌||◌}
 use Rattle.std.specs.List.{list_any}
-use Rattle.sg_queues.specs.sg_slots.Slots.{rows_of}
-use Rattle.sg_queues.proofs.FirstRows.{Agrees}
+use Rattle.sg_slots.specs.Slots.{rows_of}
+use Rattle.sg_slots.proofs.FirstRows.{Agrees}
 use Rattle.sg_timer.specs.declared.timer.Timer.{Timer}
 use Rattle.sg_timer.specs.TimerRow.{timer_body}
 use Rattle.sg_timer.specs.TimerTable.{left_of, tag_of}

@@ -1,6 +1,6 @@
 -- What the timer service holds.
 use Rattle.sg_facts.specs.Object.{Object}
-use Rattle.sg_queues.specs.sg_slots.Slots.{object_of}
+use Rattle.sg_slots.specs.Slots.{object_of}
 use Rattle.sg_timer.specs.TimerRow.{timer_body}
 use Rattle.sg_timer.specs.declared.service.TimerService.{TimerService}
 

@@ -6,7 +6,7 @@ use Rattle.sg_facts.specs.Limits.{last_client}
 use Rattle.sg_facts.specs.Object.{Object}
 use Rattle.sg_facts.specs.Sound.{IsSound, AreRows}
 use Rattle.sg_facts.specs.Track.{word_of, field_at}
-use Rattle.sg_queues.specs.Apart.{AreApart}
+use Rattle.sg_slots.specs.Apart.{AreApart}
 use Rattle.sg_timer.specs.TimerFacts.{timer_facts}
 use Rattle.sg_timer.specs.TimerTable.{most_ticks, tag_of}
 

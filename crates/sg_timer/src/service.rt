@@ -6,8 +6,8 @@ ghost use Rattle.sg_facts.specs.Facts.{facts_of};
 ghost use Rattle.sg_facts.specs.Kinds.{MayAsk};
 ghost use Rattle.sg_facts.specs.Track.{row_at, arg_at, word_of};
 ghost use Rattle.sg_facts.specs.Inside.Rows.{has_child};
-ghost use Rattle.sg_queues.specs.sg_slots.Slots.{row_with, object_of, rows_of};
-ghost use Rattle.sg_queues.specs.sg_slots.Decide.{Decides};
+ghost use Rattle.sg_slots.specs.Slots.{row_with, object_of, rows_of};
+ghost use Rattle.sg_slots.specs.Decide.{Decides};
 ghost use Rattle.sg_timer.specs.TimerFacts.{timer_facts};
 ghost use Rattle.sg_timer.specs.TimerTable.{timer_table, timer_parts, tag_of, first_timer, skipped};
 ghost use Rattle.sg_timer.specs.TimerRow.{timer_body};
@@ -24,7 +24,7 @@ use crate::Timer;
 use crate::functions::{CREATE, FIRST, PLACE, SKIP, TICK, WAIT};
 use crate::shape::timer_shape;
 use sg_facts::{Call, Code, LentValue, NoMemory, Outcome, Path, Service, Shape, Stops};
-use sg_queues::{Decision, Queue};
+use sg_slots::{Decision, Queue};
 use std::alloc::Global;
 
 /// The timer service: it makes, advances and ends timers, and tells which has the least left; who waits for a timer that

@@ -5,7 +5,7 @@ ghost use Rattle.sg_timer.specs.TimerFacts.{timer_facts};
 
 use crate::functions::{CREATE, FREE, PLACE, SKIP, TICK, WAIT};
 use sg_facts::{Effect, FieldShape, FunShape, Kind, Leaves, Shape};
-use sg_queues::SINGLE_ROWS;
+use sg_slots::SINGLE_ROWS;
 
 static FIELDS: [FieldShape; 5] = [
     FieldShape {

@@ -1,7 +1,7 @@
 // One timer.
 ghost use Rattle.std.specs.Prelude.{◌≡◌, ◌-◌};
 
-use sg_queues::{Queued, Slot, Standing};
+use sg_slots::{Queued, Slot, Standing};
 
 /// A timer, with a clock of its own.
 #[derive(Clone, Copy, Debug, PartialEq, Eq)]

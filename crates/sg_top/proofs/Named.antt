@@ -8,7 +8,7 @@ use Rattle.sg_facts.specs.Facts.{Fun, fun_at}
 use Rattle.sg_facts.specs.Fits.{Fits}
 use Rattle.sg_facts.specs.Interface.{Declared, declares}
 use Rattle.sg_facts.specs.sg_base.Lists.{Each}
-use Rattle.sg_explain.specs.sg_input.sg_entries.sg_entry_parse.Inside.Classes.{IsName}
+use Rattle.sg_explain.specs.sg_input.sg_entries.Inside.Classes.{IsName}
 use Rattle.sg_explain.specs.sg_input.sg_entries.Printed.{HasNames}
 use Rattle.sg_explain.specs.sg_input.sg_script.Scripts.{declared_from}
 use Rattle.sg_load.specs.sg_check.Shapes.{all_differ}

@@ -19,8 +19,8 @@ use Rattle.sg_load.specs.Services.{facts_by}
 use Rattle.sg_load.specs.declared.kind.ServiceKind.{ServiceKind}
 use Rattle.sg_load.specs.declared.kind.ServiceKind.TheVariants.{Locks, Events, Pages, Files, Threads, Timers}
 use Rattle.sg_load.specs.sg_check.Shapes.{IsSmall}
-use Rattle.sg_multi.specs.sg_members.Members.{setting_by}
-use Rattle.sg_multi.specs.sg_members.sg_sim.sg_world_laws.Setting.{stubs_of}
+use Rattle.sg_multi.specs.Members.{setting_by}
+use Rattle.sg_multi.specs.sg_sim.sg_world_laws.Setting.{stubs_of}
 use Rattle.sg_multi.specs.Playable.{IsMultiPlayable}
 use Rattle.sg_multi.specs.Played.{IsMultiPlayed, MultiCame, stubs_by}
 use Rattle.sg_multi.specs.Report.{multi_text_of}

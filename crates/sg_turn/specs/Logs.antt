@@ -1,7 +1,7 @@
 -- What contracts say of logs and faces.
 use Rattle.std.specs.Prelude.{◌≡◌, ℕ, ◌+◌, ◌≤◌, ◌<◌, ◌==◌, ◌⊎◌, if◌then◌else◌, List, [], ◌∷◌}
 use mathlib.Core.List.{IsPrefix}
-use Rattle.sg_base.specs.Counts.{last_count}
+use Rattle.sg_facts.specs.sg_base.Counts.{last_count}
 use Rattle.sg_turn.specs.declared.log.Face.{Face}
 use Rattle.sg_turn.specs.declared.log.LogMark.{LogMark}
 

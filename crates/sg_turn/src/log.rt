@@ -1,5 +1,5 @@
 // What happened to the clients of a value, and what the value shows. No value of these types is made: they are there for clauses.
-use sg_base::{Call, Reply};
+use sg_facts::{Call, Reply};
 
 /// What happened to a client.
 pub enum LogMarkKind {

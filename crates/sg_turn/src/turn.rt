@@ -9,7 +9,7 @@ use crate::dealing::Dealing;
 use crate::kept::Kept;
 use crate::seat::{Seat, SeatList};
 use crate::steps::{Board, draw, fetch, give_back, learn, wait_for};
-use sg_base::NoMemory;
+use sg_facts::NoMemory;
 use std::alloc::Global;
 use std::marker::Model;
 use std::sync::Wait;

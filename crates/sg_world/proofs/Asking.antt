@@ -25,8 +25,8 @@ use Rattle.sg_replay.specs.Missing.{is_empty, missing, missing_file, missing_row
 use Rattle.sg_replay.specs.Present.{HasMark, is_present}
 use Rattle.sg_replay.specs.Serving.{MayServe, ServesOne, real_call}
 use Rattle.sg_replay.specs.declared.todo.Todo.TheVariants.{Load}
-use Rattle.sg_clients.specs.sg_seat.WorldView.{Seat, WorldView, seat_in, with_points}
-use Rattle.sg_clients.specs.sg_seat.declared.phase.Phase.TheVariants.{Blocked}
+use Rattle.sg_clients.specs.WorldView.{Seat, WorldView, seat_in, with_points}
+use Rattle.sg_clients.specs.declared.phase.Phase.TheVariants.{Blocked}
 use Rattle.sg_replay.specs.sg_store.Stored.{HasRoom, bytes_of}
 use Rattle.sg_world.proofs.Points.{some_is, stops_noted, stores_same}
 use Rattle.sg_world.proofs.Reaching.{all_there, k, sp, stops_counted, stops_line, stops_on, waits_line, waits_on}

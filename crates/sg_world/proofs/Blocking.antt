@@ -17,9 +17,9 @@ use Rattle.sg_replay.specs.sg_hist.Reading.{Position, is_by_guard, is_item_of, i
 use Rattle.sg_replay.specs.sg_hist.Recovered.{is_clients}
 use Rattle.sg_replay.specs.sg_hist.Wakes.{has_blocked, wakes_at}
 use Rattle.sg_replay.specs.sg_hist.Growing.{IsGrown, IsOfNoEntry, booted, noted, struck}
-use Rattle.sg_world_laws.specs.sg_seat.WorldView.{Seat, WorldView, is_held_phase, is_offered, no_reply, seat_in, seat_of, wakes_seat, woken_seat}
-use Rattle.sg_world_laws.specs.sg_seat.declared.phase.Phase.{Phase}
-use Rattle.sg_world_laws.specs.sg_seat.declared.phase.Phase.TheVariants.{Idle, Asked, Held, Receipted, Blocked}
+use Rattle.sg_world_laws.specs.sg_clients.WorldView.{Seat, WorldView, is_held_phase, is_offered, no_reply, seat_in, seat_of, wakes_seat, woken_seat}
+use Rattle.sg_world_laws.specs.sg_clients.declared.phase.Phase.{Phase}
+use Rattle.sg_world_laws.specs.sg_clients.declared.phase.Phase.TheVariants.{Idle, Asked, Held, Receipted, Blocked}
 use Rattle.sg_world_laws.specs.sg_recovery_laws.LastItem.LastPlace.{HaveItems, last_place}
 use Rattle.sg_world_laws.proofs.Ending.Calls.{own_tag, none_of_stub}
 use Rattle.sg_world_laws.proofs.Ending.Boots.{places_last_struck}

@@ -12,10 +12,10 @@ use Rattle.sg_facts.specs.Trace.{Boot}
 use Rattle.sg_facts.specs.declared.entry.Entry.{Entry}
 use Rattle.sg_world_laws.specs.sg_recovery_laws.Objects.Waiting.{NoneBy}
 use Rattle.sg_replay.specs.Engined.{Engined}
-use Rattle.sg_clients.specs.sg_seat.WorldView.{Seat, WorldView, answered_to, committed, held_in, held_replies, is_blocked_phase, is_held_in, is_held_phase, is_offered, no_reply, offered_by, seat_of, unanswered, wakes_seat, woken_seat}
-use Rattle.sg_clients.specs.sg_seat.declared.mark.Mark.{Mark}
-use Rattle.sg_clients.specs.sg_seat.declared.mark.MarkKind.TheVariants.{Answer, Entry as IsEntered}
-use Rattle.sg_clients.specs.sg_seat.declared.phase.Phase.TheVariants.{Asked, Idle}
+use Rattle.sg_clients.specs.WorldView.{Seat, WorldView, answered_to, committed, held_in, held_replies, is_blocked_phase, is_held_in, is_held_phase, is_offered, no_reply, offered_by, seat_of, unanswered, wakes_seat, woken_seat}
+use Rattle.sg_clients.specs.declared.mark.Mark.{Mark}
+use Rattle.sg_clients.specs.declared.mark.MarkKind.TheVariants.{Answer, Entry as IsEntered}
+use Rattle.sg_clients.specs.declared.phase.Phase.TheVariants.{Asked, Idle}
 use Rattle.sg_world.proofs.Entering.{answered_told, entered_rooms, entered_some}
 use Rattle.sg_world.proofs.Returning.{view_answered}
 use Rattle.sg_world.proofs.Upright.{Upright, keeps_upright}

@@ -12,12 +12,12 @@ use Rattle.sg_facts.specs.Facts.{Facts, is_visible}
 use Rattle.sg_facts.specs.Object.{Object, object_of}
 use Rattle.sg_facts.specs.Trace.{Boot}
 use Rattle.sg_replay.specs.sg_hist.Recovered.{is_clients, is_replied, is_visible_reply}
-use Rattle.sg_world_laws.proofs.sg_seat.Lines.{length_set, seat_here}
+use Rattle.sg_world_laws.proofs.sg_clients.Lines.{length_set, seat_here}
 use Rattle.sg_world_laws.proofs.sg_recovery_laws.sg_hist.Growing.{object_of-more}
 use Rattle.sg_replay.specs.sg_hist.Growing.{noted, struck}
-use Rattle.sg_world_laws.specs.sg_seat.WorldView.{Seat, WorldView, is_offered, no_reply, seat_of, wakes_seat}
-use Rattle.sg_world_laws.specs.sg_seat.declared.phase.Phase.{Phase}
-use Rattle.sg_world_laws.specs.sg_seat.declared.phase.Phase.TheVariants.{Idle, Asked, Held, Receipted, Blocked}
+use Rattle.sg_world_laws.specs.sg_clients.WorldView.{Seat, WorldView, is_offered, no_reply, seat_of, wakes_seat}
+use Rattle.sg_world_laws.specs.sg_clients.declared.phase.Phase.{Phase}
+use Rattle.sg_world_laws.specs.sg_clients.declared.phase.Phase.TheVariants.{Idle, Asked, Held, Receipted, Blocked}
 use Rattle.sg_world_laws.proofs.Ending.Ended.{asked_noted, asked_struck, ending_booted, ending_kept, ending_now, ending_struck, goes_on, quiet_behind, quiet_running, stop_noted}
 use Rattle.sg_world_laws.proofs.Ending.Seats.{here_entered, length_entered, others_entered, others_same, others_set}
 use Rattle.sg_world_laws.proofs.Ending.Shapes.{answered_seats, entry_with, given_seats, seat_behind, woken}

@@ -14,16 +14,16 @@ use Rattle.sg_facts.specs.declared.entry.Entry.{Entry}
 use Rattle.sg_facts.specs.declared.trace.Item.{Item}
 use Rattle.sg_facts.specs.declared.trace.Tag.TheVariants.{Client}
 use Rattle.sg_replay.specs.sg_hist.Clients.{calls_of}
-use Rattle.sg_world_laws.proofs.sg_seat.Lines.{length_set, seat_here}
+use Rattle.sg_world_laws.proofs.sg_clients.Lines.{length_set, seat_here}
 use Rattle.sg_world_laws.proofs.sg_recovery_laws.Lists.{each_map}
 use Rattle.sg_replay.specs.sg_hist.Growing.{IsOfNoEntry, booted}
 use Rattle.sg_replay.specs.sg_hist.Reading.{last_items, older_items}
-use Rattle.sg_world_laws.specs.sg_seat.WorldView.{IsFree, Seat, WorldView, happened, in_phase, is_held_phase, is_left_phase, is_offered, new_world, no_seat, offered, seat_of, with_leave, with_mark, with_points, withdrawn_by}
-use Rattle.sg_world_laws.specs.sg_seat.declared.mark.Mark.{Mark}
-use Rattle.sg_world_laws.specs.sg_seat.declared.mark.MarkKind.TheVariants.{Leave}
-use Rattle.sg_world_laws.specs.sg_seat.declared.phase.Phase.{Phase}
-use Rattle.sg_world_laws.specs.sg_seat.declared.phase.Phase.TheVariants.{Idle, Asked, Held, Receipted, Blocked, Left}
-use Rattle.sg_world_laws.specs.sg_seat.declared.withdrawn.Withdrawn.{Withdrawn}
+use Rattle.sg_world_laws.specs.sg_clients.WorldView.{IsFree, Seat, WorldView, happened, in_phase, is_held_phase, is_left_phase, is_offered, new_world, no_seat, offered, seat_of, with_leave, with_mark, with_points, withdrawn_by}
+use Rattle.sg_world_laws.specs.sg_clients.declared.mark.Mark.{Mark}
+use Rattle.sg_world_laws.specs.sg_clients.declared.mark.MarkKind.TheVariants.{Leave}
+use Rattle.sg_world_laws.specs.sg_clients.declared.phase.Phase.{Phase}
+use Rattle.sg_world_laws.specs.sg_clients.declared.phase.Phase.TheVariants.{Idle, Asked, Held, Receipted, Blocked, Left}
+use Rattle.sg_world_laws.specs.sg_clients.declared.withdrawn.Withdrawn.{Withdrawn}
 use Rattle.sg_world_laws.specs.sg_recovery_laws.LastItem.LastPlace.{HaveItems}
 use Rattle.sg_world_laws.proofs.Ending.Calls.{none_of_next, test_same}
 use Rattle.sg_world_laws.proofs.Ending.Ended.{ending_kept}

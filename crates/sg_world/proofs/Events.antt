@@ -17,7 +17,7 @@ use Rattle.sg_world.specs.Engines.Stubs.{stub_of}
 use Rattle.sg_facts.specs.declared.entry.Entry.{Entry}
 use Rattle.sg_replay.specs.sg_hist.Clients.{calls_of}
 use Rattle.sg_replay.specs.Engined.{Engined}
-use Rattle.sg_clients.specs.sg_seat.WorldView.{Seat, WorldView, happened, is_offered, seat_of, with_points, woken_seat}
+use Rattle.sg_clients.specs.WorldView.{Seat, WorldView, happened, is_offered, seat_of, with_points, woken_seat}
 use Rattle.sg_world.proofs.Stepped.{steps_counted, wants_counted}
 use Rattle.sg_world.specs.declared.did.Did.{Did}
 use Rattle.sg_world.specs.declared.did.Did.TheVariants.{Answered, Blocked as Waits, Booted, Loaded, Lost, Replayed, Served, Skipped, Struck}

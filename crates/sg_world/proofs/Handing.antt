@@ -3,10 +3,10 @@ use Rattle.std.proofs.Common.{Bool, List, None, Option, Some, [], ap, arith, fal
 use Rattle.sg_facts.specs.Object.{Object}
 use Rattle.sg_replay.specs.Engined.{Engined}
 use Rattle.sg_world.specs.Engines.Stubs.{stub_of}
-use Rattle.sg_clients.specs.sg_seat.WorldView.{Seat, WorldView, boot_number, is_held_phase, is_offered, no_reply, offered_by, seat_of}
-use Rattle.sg_clients.specs.sg_seat.declared.mark.Mark.{Mark}
-use Rattle.sg_clients.specs.sg_seat.declared.mark.MarkKind.TheVariants.{Answer}
-use Rattle.sg_clients.specs.sg_seat.declared.phase.Phase.TheVariants.{Asked, Held, Idle, Receipted}
+use Rattle.sg_clients.specs.WorldView.{Seat, WorldView, boot_number, is_held_phase, is_offered, no_reply, offered_by, seat_of}
+use Rattle.sg_clients.specs.declared.mark.Mark.{Mark}
+use Rattle.sg_clients.specs.declared.mark.MarkKind.TheVariants.{Answer}
+use Rattle.sg_clients.specs.declared.phase.Phase.TheVariants.{Asked, Held, Idle, Receipted}
 use Rattle.sg_facts.proofs.Replaying.Found.{other_test}
 use Rattle.sg_world.proofs.Marking.{marks_on}
 use Rattle.sg_world.proofs.Moving.{rooms_moved, told_moved}

@@ -22,10 +22,10 @@ use Rattle.sg_replay.specs.sg_hist.Inside.Parts.{is_unentered}
 use Rattle.sg_replay.specs.sg_hist.Growing.{IsGrown, IsOfNoEntry, booted, last_stop, noted, struck}
 use Rattle.sg_replay.specs.sg_hist.Reading.{Position, is_by_guard, is_item_of, is_tagged}
 use Rattle.sg_replay.specs.sg_hist.Recovered.{is_clients, is_replied}
-use Rattle.sg_world_laws.proofs.sg_seat.Lines.{length_set, same_or_other, seat_here, seat_there, seat_woken}
-use Rattle.sg_world_laws.specs.sg_seat.WorldView.{Seat, WorldView, is_offered, no_reply, seat_in, seat_of, wakes_seat, woken_seat}
-use Rattle.sg_world_laws.specs.sg_seat.declared.phase.Phase.{Phase}
-use Rattle.sg_world_laws.specs.sg_seat.declared.phase.Phase.TheVariants.{Idle, Asked, Held, Receipted, Blocked}
+use Rattle.sg_world_laws.proofs.sg_clients.Lines.{length_set, same_or_other, seat_here, seat_there, seat_woken}
+use Rattle.sg_world_laws.specs.sg_clients.WorldView.{Seat, WorldView, is_offered, no_reply, seat_in, seat_of, wakes_seat, woken_seat}
+use Rattle.sg_world_laws.specs.sg_clients.declared.phase.Phase.{Phase}
+use Rattle.sg_world_laws.specs.sg_clients.declared.phase.Phase.TheVariants.{Idle, Asked, Held, Receipted, Blocked}
 use Rattle.sg_world_laws.proofs.Ending.Boots.{length_noted, length_struck}
 use Rattle.sg_world_laws.proofs.Ending.Calls.{none_of_stub, own_tag}
 use Rattle.sg_world_laws.proofs.Ending.Ended.{goes_on}

@@ -4,11 +4,11 @@ use Rattle.sg_facts.proofs.RowLists.{other}
 use Rattle.sg_facts.specs.Object.{after}
 use Rattle.sg_facts.specs.WalkArray.{back}
 use Rattle.sg_replay.proofs.sg_name.Directions.{there}
-use Rattle.sg_clients.specs.sg_seat.declared.mark.Mark.{Mark}
-use Rattle.sg_clients.specs.sg_seat.declared.mark.MarkKind.{MarkKind}
-use Rattle.sg_clients.specs.sg_seat.declared.mark.MarkKind.TheVariants.{Withdraw}
-use Rattle.sg_clients.specs.sg_seat.WorldView.{Seat, WorldView, no_seat}
-use Rattle.sg_clients.specs.sg_seat.declared.withdrawn.Withdrawn.{Withdrawn}
+use Rattle.sg_clients.specs.declared.mark.Mark.{Mark}
+use Rattle.sg_clients.specs.declared.mark.MarkKind.{MarkKind}
+use Rattle.sg_clients.specs.declared.mark.MarkKind.TheVariants.{Withdraw}
+use Rattle.sg_clients.specs.WorldView.{Seat, WorldView, no_seat}
+use Rattle.sg_clients.specs.declared.withdrawn.Withdrawn.{Withdrawn}
 use Rattle.sg_facts.proofs.Replaying.Files.{told}
 use Rattle.sg_facts.proofs.Replaying.Found.{other_test, same_test}
 use Rattle.sg_world.specs.Marked.{TellsAll, AreTold, IsPhaseAfter, is_entry_mark, is_withdrawal_mark, last_kind, marked_as, or_later}

@@ -17,7 +17,7 @@ use Rattle.sg_replay.specs.sg_hist.Reading.{last_items, older_items}
 use Rattle.sg_replay.specs.Engined.{Engined}
 use Rattle.sg_replay.specs.Missing.{is_empty, is_whole, missing, missing_file, next_number, or_else, todo_of}
 use Rattle.sg_replay.specs.declared.todo.Todo.TheVariants.{Load, Walk}
-use Rattle.sg_clients.specs.sg_seat.WorldView.{WorldView, held_replies}
+use Rattle.sg_clients.specs.WorldView.{WorldView, held_replies}
 use Rattle.sg_replay.specs.sg_store.Stored.{bytes_of}
 use Rattle.sg_world_laws.specs.sg_recovery_laws.LastItem.Told.{IsRead}
 use Rattle.sg_facts.proofs.Replaying.Found.{same_test}

@@ -2,12 +2,12 @@
 use Rattle.std.proofs.Common.{Bool, List, None, Option, Some, [], ap, arith, false, flat_map, if◌then◌else◌, length, map, refl, length-append, slice_get, slice_set, subst, sym, true, ℕ, ◌&&◌, ◌++◌, ◌+◌, ◌∙◌, ◌∷◌, ◌≡◌}
 use Rattle.std.proofs.lemmas.List.{length-map}
 use Rattle.sg_facts.specs.sg_base.declared.call.Call.{Call}
-use Rattle.sg_clients.specs.sg_seat.WorldView.{Seat, is_blocked_phase, is_offered, offered_by, woken_seat}
-use Rattle.sg_clients.specs.sg_seat.declared.mark.Mark.{Mark}
-use Rattle.sg_clients.specs.sg_seat.declared.mark.MarkKind.{MarkKind}
-use Rattle.sg_clients.specs.sg_seat.declared.mark.MarkKind.TheVariants.{Answer, Entry as IsEntered, Leave, Offer, Withdraw}
-use Rattle.sg_clients.specs.sg_seat.declared.phase.Phase.{Phase}
-use Rattle.sg_clients.specs.sg_seat.declared.phase.Phase.TheVariants.{Asked, Blocked, Held, Idle, Left, Receipted}
+use Rattle.sg_clients.specs.WorldView.{Seat, is_blocked_phase, is_offered, offered_by, woken_seat}
+use Rattle.sg_clients.specs.declared.mark.Mark.{Mark}
+use Rattle.sg_clients.specs.declared.mark.MarkKind.{MarkKind}
+use Rattle.sg_clients.specs.declared.mark.MarkKind.TheVariants.{Answer, Entry as IsEntered, Leave, Offer, Withdraw}
+use Rattle.sg_clients.specs.declared.phase.Phase.{Phase}
+use Rattle.sg_clients.specs.declared.phase.Phase.TheVariants.{Asked, Blocked, Held, Idle, Left, Receipted}
 use Rattle.sg_world.proofs.Rooming.{marks_set, offers_set}
 use Rattle.sg_world.specs.Marked.{AreTold, IsPhaseAfter, last_kind}
 use Rattle.sg_world.specs.Worlded.{HaveRooms, Rooms, marks_due, marks_left}

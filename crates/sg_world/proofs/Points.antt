@@ -12,7 +12,7 @@ use Rattle.sg_facts.specs.declared.trace.Item.{Item}
 use Rattle.sg_replay.specs.sg_hist.Inside.Parts.{stop_in}
 use Rattle.sg_replay.specs.sg_hist.Growing.{booted, last_stop, noted, struck}
 use Rattle.sg_replay.specs.Engined.{Engined}
-use Rattle.sg_clients.specs.sg_seat.WorldView.{WorldView, with_points}
+use Rattle.sg_clients.specs.WorldView.{WorldView, with_points}
 use Rattle.sg_replay.specs.sg_store.Stored.{bytes_of}
 use Rattle.sg_world.specs.Worlded.{IsWorld, Rooms, StoresObject}
 use Rattle.sg_world_laws.proofs.Points.{with_points_keeps}

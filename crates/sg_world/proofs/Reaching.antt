@@ -26,8 +26,8 @@ use Rattle.sg_replay.specs.sg_hist.Reading.{last_items}
 use Rattle.sg_replay.specs.Engined.{Engined}
 use Rattle.sg_replay.specs.Missing.{missing}
 use Rattle.sg_replay.specs.Serving.{real_call}
-use Rattle.sg_clients.specs.sg_seat.WorldView.{Seat, WorldView, is_held_phase, is_offered, seat_of, unanswered, with_points}
-use Rattle.sg_clients.specs.sg_seat.declared.phase.Phase.TheVariants.{Blocked}
+use Rattle.sg_clients.specs.WorldView.{Seat, WorldView, is_held_phase, is_offered, seat_of, unanswered, with_points}
+use Rattle.sg_clients.specs.declared.phase.Phase.TheVariants.{Blocked}
 use Rattle.sg_world.proofs.Missing.{due_is}
 use Rattle.sg_world.proofs.Moving.{rooms_moved, told_moved}
 use Rattle.sg_world.proofs.Points.{not_stopped, stops_noted, stops_struck}

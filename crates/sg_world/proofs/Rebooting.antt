@@ -10,7 +10,7 @@ use Rattle.sg_replay.specs.sg_hist.Growing.{booted}
 use Rattle.sg_replay.specs.Engined.{Engined}
 use Rattle.sg_replay.specs.Present.{is_present}
 use Rattle.sg_replay.specs.Serving.{pairs_of}
-use Rattle.sg_clients.specs.sg_seat.WorldView.{Seat, WorldView, woken_seat}
+use Rattle.sg_clients.specs.WorldView.{Seat, WorldView, woken_seat}
 use Rattle.sg_world.proofs.Moving.{rooms_woken, told_woken}
 use Rattle.sg_world.proofs.Points.{stores_same}
 use Rattle.sg_world.proofs.Upright.{Upright, keeps_upright}

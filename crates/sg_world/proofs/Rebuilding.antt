@@ -41,7 +41,7 @@ use Rattle.sg_replay.specs.declared.advance.Advanced.{Advanced}
 use Rattle.sg_replay.specs.declared.advance.Advanced.TheVariants.{Loaded, Replayed, Struck}
 use Rattle.sg_replay.specs.declared.todo.Todo.{Todo}
 use Rattle.sg_replay.specs.declared.todo.Todo.TheVariants.{Load as ToLoad, Walk as ToWalk}
-use Rattle.sg_clients.specs.sg_seat.WorldView.{WorldView, is_held_phase, is_offered, seat_of, unanswered, with_points}
+use Rattle.sg_clients.specs.WorldView.{WorldView, is_held_phase, is_offered, seat_of, unanswered, with_points}
 use Rattle.sg_replay.specs.sg_store.Stored.{bytes_of}
 use Rattle.sg_world.proofs.Missing.{due_is}
 use Rattle.sg_world.proofs.Points.{not_stopped, shown_on, stops_noted, stops_struck}

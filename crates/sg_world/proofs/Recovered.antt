@@ -3,7 +3,7 @@ use Rattle.std.proofs.Common.{ℕ, List, length, [], append-nil, subst, sym, ◌
 use Rattle.std.specs.Prelude.{◌==◌}
 use Rattle.sg_replay.specs.sg_hist.Recovered.{ArePointsOf, IsRecovered, struck_in}
 use Rattle.sg_replay.specs.sg_hist.Growing.{IsRecovering}
-use Rattle.sg_clients.specs.sg_seat.WorldView.{WorldView, held_replies, seat_of, unanswered}
+use Rattle.sg_clients.specs.WorldView.{WorldView, held_replies, seat_of, unanswered}
 use Rattle.sg_world.specs.Worlded.{CountsAll, CountsPoints}
 use Rattle.sg_world_laws.proofs.Moves.{its_seat}
 use Rattle.sg_world_laws.proofs.Struck.{no_drawn}

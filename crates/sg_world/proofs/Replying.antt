@@ -45,10 +45,10 @@ use Rattle.sg_replay.specs.Engined.{AreGiven, Engined, IsEngine}
 use Rattle.sg_replay.specs.Missing.{missing}
 use Rattle.sg_replay.specs.Present.{HasMark, is_present}
 use Rattle.sg_replay.specs.Serving.{TellsReply, is_named_by, pairs_of, real_call, real_in}
-use Rattle.sg_clients.specs.sg_seat.WorldView.{Seat, WorldView, held_in, is_blocked_phase, is_held_phase, is_offered, no_seat, seat_in, seat_of, unanswered, wakes_seat, with_points, woken_seat}
-use Rattle.sg_clients.specs.sg_seat.declared.mark.Mark.{Mark}
-use Rattle.sg_clients.specs.sg_seat.declared.mark.MarkKind.TheVariants.{Entry as IsEntered}
-use Rattle.sg_clients.specs.sg_seat.declared.phase.Phase.TheVariants.{Held, Receipted}
+use Rattle.sg_clients.specs.WorldView.{Seat, WorldView, held_in, is_blocked_phase, is_held_phase, is_offered, no_seat, seat_in, seat_of, unanswered, wakes_seat, with_points, woken_seat}
+use Rattle.sg_clients.specs.declared.mark.Mark.{Mark}
+use Rattle.sg_clients.specs.declared.mark.MarkKind.TheVariants.{Entry as IsEntered}
+use Rattle.sg_clients.specs.declared.phase.Phase.TheVariants.{Held, Receipted}
 use Rattle.sg_replay.specs.sg_store.Spans.{patched_at}
 use Rattle.sg_replay.specs.sg_store.Committing.{NamesNext}
 use Rattle.sg_replay.specs.sg_store.Stored.{HasRoom, bytes_of, tracked_in}

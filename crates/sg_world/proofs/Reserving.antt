@@ -6,7 +6,7 @@ use Rattle.sg_replay.specs.sg_name.Names.{named_at}
 use Rattle.sg_replay.specs.Engined.{Engined}
 use Rattle.sg_replay.specs.Present.{is_present}
 use Rattle.sg_replay.specs.Serving.{pairs_of}
-use Rattle.sg_clients.specs.sg_seat.WorldView.{WorldView}
+use Rattle.sg_clients.specs.WorldView.{WorldView}
 use Rattle.sg_replay.specs.sg_store.Stored.{bytes_of}
 use Rattle.sg_world.specs.Worlded.{IsWorld, Rooms}
 use Rattle.sg_world_laws.proofs.Alike.{keeps_alike}

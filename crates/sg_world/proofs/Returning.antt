@@ -29,15 +29,15 @@ use Rattle.sg_replay.proofs.Naming.{named_in_pairs, real_or_zero}
 use Rattle.sg_replay.specs.Committing.{MayCommitAt, is_written, name_left}
 use Rattle.sg_replay.specs.Engined.{Engined}
 use Rattle.sg_replay.specs.Present.{is_present}
-use Rattle.sg_clients.specs.sg_seat.WorldView.{Seat, WorldView, held_in, is_held_in, is_held_phase, is_offered, no_reply, offered_by, unanswered, wakes_seat, woken_seat, answered_to, boot_number, committed, is_blocked_phase, no_seat, seat_in, seat_of}
-use Rattle.sg_clients.specs.sg_seat.declared.phase.Phase.TheVariants.{Held, Idle}
+use Rattle.sg_clients.specs.WorldView.{Seat, WorldView, held_in, is_held_in, is_held_phase, is_offered, no_reply, offered_by, unanswered, wakes_seat, woken_seat, answered_to, boot_number, committed, is_blocked_phase, no_seat, seat_in, seat_of}
+use Rattle.sg_clients.specs.declared.phase.Phase.TheVariants.{Held, Idle}
 use Rattle.sg_replay.proofs.sg_track.Premises.{may_track}
 use Rattle.sg_replay.specs.sg_track.Tracked.{MayTrack, Tracked}
 use Rattle.sg_facts.proofs.Replaying.Found.{same_test}
 use Rattle.sg_facts.specs.sg_base.Lists.{Each}
 use Rattle.sg_world_laws.specs.sg_recovery_laws.Midway.Progress.{IsNone}
-use Rattle.sg_clients.specs.sg_seat.declared.mark.Mark.{Mark}
-use Rattle.sg_clients.specs.sg_seat.declared.mark.MarkKind.TheVariants.{Answer, Entry as IsEntered}
+use Rattle.sg_clients.specs.declared.mark.Mark.{Mark}
+use Rattle.sg_clients.specs.declared.mark.MarkKind.TheVariants.{Answer, Entry as IsEntered}
 use Rattle.sg_replay.specs.sg_store.Spans.{patched_at}
 use Rattle.sg_replay.specs.sg_store.Stored.{bytes_of}
 use Rattle.sg_world.proofs.Entering.{answered_told, entered_rooms, entered_some}

@@ -4,9 +4,9 @@
 use Rattle.std.proofs.Common.{Bool, List, Some, [], ap, arith, false, flat_map, if◌then◌else◌, length, length-append, refl, slice_get, slice_set, suc, true, zero, ℕ, ◌*◌, ◌++◌, ◌+◌, ◌∙◌, ◌∷◌, ◌≡◌, ◌≤◌}
 use Rattle.sg_facts.specs.WalkArray.{back}
 use Rattle.sg_replay.proofs.sg_name.Directions.{there}
-use Rattle.sg_clients.specs.sg_seat.WorldView.{Seat, is_offered, offered_by}
-use Rattle.sg_clients.specs.sg_seat.declared.phase.Phase.{Phase}
-use Rattle.sg_clients.specs.sg_seat.declared.phase.Phase.TheVariants.{Asked, Blocked, Held, Idle, Left, Receipted}
+use Rattle.sg_clients.specs.WorldView.{Seat, is_offered, offered_by}
+use Rattle.sg_clients.specs.declared.phase.Phase.{Phase}
+use Rattle.sg_clients.specs.declared.phase.Phase.TheVariants.{Asked, Blocked, Held, Idle, Left, Receipted}
 use Rattle.sg_world.specs.Worlded.{marks_left, marks_due}
 use Rattle.sg_world_laws.proofs.Seating.{HasSeat, has_seat, offered_at}
 

@@ -17,9 +17,9 @@ use Rattle.sg_replay.specs.sg_hist.Growing.{booted, struck}
 use Rattle.sg_replay.specs.Engined.{Engined}
 use Rattle.sg_replay.specs.Present.{is_present}
 use Rattle.sg_replay.specs.Serving.{pairs_of}
-use Rattle.sg_clients.specs.sg_seat.WorldView.{WorldView, new_world, no_seat, offered_by, Seat}
-use Rattle.sg_clients.specs.sg_seat.declared.mark.Mark.{Mark}
-use Rattle.sg_clients.specs.sg_seat.declared.withdrawn.Withdrawn.{Withdrawn}
+use Rattle.sg_clients.specs.WorldView.{WorldView, new_world, no_seat, offered_by, Seat}
+use Rattle.sg_clients.specs.declared.mark.Mark.{Mark}
+use Rattle.sg_clients.specs.declared.withdrawn.Withdrawn.{Withdrawn}
 use Rattle.sg_replay.specs.sg_store.Stored.{bytes_of}
 use Rattle.sg_world.proofs.Marking.{new_told}
 use Rattle.sg_world.specs.Worlded.{CountsAll, CountsPoints, IsWorld, Rooms, marks_left, setting_of, view_of}

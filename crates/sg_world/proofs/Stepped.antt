@@ -19,7 +19,7 @@ use Rattle.sg_replay.specs.sg_hist.Inside.Parts.{IsPointOf, answer_to, is_stoppe
 use Rattle.sg_world_laws.proofs.sg_recovery_laws.Points.{points_booted, points_counted, points_noted, points_stopped, points_struck}
 use Rattle.sg_replay.specs.sg_hist.Growing.{asked_over, booted, last_stop, noted, struck}
 use Rattle.sg_replay.specs.sg_hist.Reading.{last_items}
-use Rattle.sg_clients.specs.sg_seat.WorldView.{WorldView, seat_of, struck_at, with_points}
+use Rattle.sg_clients.specs.WorldView.{WorldView, seat_of, struck_at, with_points}
 use Rattle.sg_world.proofs.Counting.{count_on, point_of, sum_is, weak_of}
 use Rattle.sg_world.specs.declared.did.Did.{Did}
 use Rattle.sg_world.specs.declared.did.Did.TheVariants.{Answered, Blocked as Waits, Booted, Loaded, Lost, Replayed, Served, Skipped, Struck}

@@ -12,12 +12,12 @@ use Rattle.sg_facts.specs.declared.entry.Entry.{Entry}
 use Rattle.sg_world_laws.proofs.sg_recovery_laws.Objects.Guarded.{keeps}
 use Rattle.sg_world_laws.proofs.sg_recovery_laws.Objects.Left.{stays}
 use Rattle.sg_replay.specs.Engined.{Engined}
-use Rattle.sg_clients.specs.sg_seat.declared.mark.MarkKind.TheVariants.{Leave, Offer, Withdraw}
-use Rattle.sg_clients.specs.sg_seat.WorldView.{IsFree, Seat, WorldView, seat_of, is_left_phase, offered_by, MayWithdraw, is_offered}
-use Rattle.sg_clients.specs.sg_seat.declared.mark.Mark.{Mark}
-use Rattle.sg_clients.specs.sg_seat.declared.phase.Phase.{Phase}
-use Rattle.sg_clients.specs.sg_seat.declared.phase.Phase.TheVariants.{Asked, Blocked, Held, Idle, Left, Receipted}
-use Rattle.sg_clients.specs.sg_seat.declared.withdrawn.Withdrawn.{Withdrawn}
+use Rattle.sg_clients.specs.declared.mark.MarkKind.TheVariants.{Leave, Offer, Withdraw}
+use Rattle.sg_clients.specs.WorldView.{IsFree, Seat, WorldView, seat_of, is_left_phase, offered_by, MayWithdraw, is_offered}
+use Rattle.sg_clients.specs.declared.mark.Mark.{Mark}
+use Rattle.sg_clients.specs.declared.phase.Phase.{Phase}
+use Rattle.sg_clients.specs.declared.phase.Phase.TheVariants.{Asked, Blocked, Held, Idle, Left, Receipted}
+use Rattle.sg_clients.specs.declared.withdrawn.Withdrawn.{Withdrawn}
 use Rattle.sg_facts.proofs.Replaying.Steps.{declared_within}
 use Rattle.sg_world.proofs.Marking.{marks_on, withdrawal_marked}
 use Rattle.sg_world.proofs.Rooming.{length_set, marks_few, offers_few, marks_set, offers_set, marks_some, offers_some}

@@ -2,7 +2,7 @@
 use Rattle.std.proofs.Common.{List, Option, [], ap, refl, ◌∙◌, ◌∷◌, ◌≡◌, ◌≢◌}
 use Rattle.sg_facts.specs.Object.{Object}
 use Rattle.sg_facts.specs.Trace.{Boot}
-use Rattle.sg_clients.specs.sg_seat.WorldView.{WorldView}
+use Rattle.sg_clients.specs.WorldView.{WorldView}
 use Rattle.sg_world_laws.specs.Keeping.{KeepsPromise, Stub, standing}
 use Rattle.sg_world_laws.specs.Setting.{Setting}
 

@@ -8,10 +8,10 @@ use Rattle.sg_facts.specs.Guard.{guard}
 use Rattle.sg_facts.specs.Inside.Rows.{refused_or}
 use Rattle.sg_facts.specs.Object.{object_of}
 use Rattle.sg_world_laws.specs.sg_recovery_laws.Midway.Progress.{IsNone}
-use Rattle.sg_clients.specs.sg_seat.WorldView.{Seat, is_blocked_phase, is_offered}
-use Rattle.sg_clients.specs.sg_seat.declared.phase.Phase.{Phase}
-use Rattle.sg_clients.specs.sg_seat.declared.phase.Phase.TheVariants.{Asked, Blocked, Held, Idle, Left, Receipted}
-use Rattle.sg_clients.specs.sg_seat.declared.withdrawn.Withdrawn.{Withdrawn}
+use Rattle.sg_clients.specs.WorldView.{Seat, is_blocked_phase, is_offered}
+use Rattle.sg_clients.specs.declared.phase.Phase.{Phase}
+use Rattle.sg_clients.specs.declared.phase.Phase.TheVariants.{Asked, Blocked, Held, Idle, Left, Receipted}
+use Rattle.sg_clients.specs.declared.withdrawn.Withdrawn.{Withdrawn}
 use Rattle.sg_world_laws.proofs.LetIn.{desc_there}
 use Rattle.sg_world_laws.specs.Seats.{AreSeated}
 use Rattle.sg_world_laws.specs.Setting.{IsSetting, Setting}

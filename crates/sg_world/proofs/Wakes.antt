@@ -3,7 +3,7 @@ use Rattle.std.proofs.Common.{Bool, List, [], ap, arith, cond, false, filter, in
 use Rattle.std.specs.List.{list_any}
 use Rattle.std.specs.Prelude.{nat_lt, slice_set}
 use Rattle.std.proofs.lemmas.Bool.Decides.{eqb_tells, nat_tests}
-use Rattle.sg_clients.specs.sg_seat.declared.phase.Phase.TheVariants.{Asked}
+use Rattle.sg_clients.specs.declared.phase.Phase.TheVariants.{Asked}
 use Rattle.sg_facts.specs.sg_base.Lists.{Each}
 use Rattle.sg_facts.specs.sg_base.declared.call.Call.{Call}
 use Rattle.sg_facts.specs.sg_base.declared.reply.Good.{Good}
@@ -20,8 +20,8 @@ use Rattle.sg_facts.specs.declared.row.Row.{Row}
 use Rattle.sg_world_laws.specs.sg_recovery_laws.Midway.Progress.{IsNone}
 use Rattle.sg_world_laws.proofs.sg_recovery_laws.Objects.Guarded.{acts, keeps}
 use Rattle.sg_world_laws.proofs.sg_recovery_laws.Lists.{each_map}
-use Rattle.sg_clients.specs.sg_seat.WorldView.{Seat, is_blocked_phase, seat_in, wakes_seat, woken_seat}
-use Rattle.sg_world_laws.proofs.sg_seat.Lines.{seat_here}
+use Rattle.sg_clients.specs.WorldView.{Seat, is_blocked_phase, seat_in, wakes_seat, woken_seat}
+use Rattle.sg_world_laws.proofs.sg_clients.Lines.{seat_here}
 use Rattle.sg_facts.proofs.Replaying.Found.{other_test, same_test}
 use Rattle.sg_world.specs.Inside.Waiting.{WaitOnLive, refuses}
 

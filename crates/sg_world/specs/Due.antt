@@ -11,7 +11,7 @@ use Rattle.sg_replay.specs.sg_hist.Reading.{last_items, older_items}
 use Rattle.sg_replay.specs.declared.todo.Todo.{Todo}
 use Rattle.sg_replay.specs.declared.todo.Todo.TheVariants.{Walk, Load}
 use Rattle.sg_replay.specs.Missing.{is_empty, or_else}
-use Rattle.sg_clients.specs.sg_seat.WorldView.{WorldView}
+use Rattle.sg_clients.specs.WorldView.{WorldView}
 use Rattle.sg_world_laws.specs.sg_recovery_laws.LastItem.Told.{whole_behind}
 use Rattle.sg_world_laws.specs.Setting.{Setting}
 

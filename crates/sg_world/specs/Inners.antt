@@ -3,7 +3,7 @@ use Rattle.std.specs.Prelude.{ℕ, ◌≡◌, ◌≤◌, List, length}
 use Rattle.sg_facts.specs.Facts.{Facts}
 use Rattle.sg_facts.specs.Legal.{Table}
 use Rattle.sg_facts.specs.Object.{Object}
-use Rattle.sg_clients.specs.sg_seat.WorldView.{WorldView}
+use Rattle.sg_clients.specs.WorldView.{WorldView}
 use Rattle.sg_world.specs.declared.inner.Inner.{Inner}
 use Rattle.sg_world.specs.Worlded.{CountsPoints, IsWorld, Rooms, setting_of, view_of}
 

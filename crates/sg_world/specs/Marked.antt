@@ -1,12 +1,12 @@
 -- What the marks of a world tell: its entries, its withdrawn calls, and how far each client has come.
 use Rattle.std.specs.Prelude.{ℕ, ◌≡◌, ◌+◌, ◌==◌, Bool, true, false, List, [], ◌∷◌, None, Some, filter, if◌then◌else◌, map}
 use Rattle.std.specs.declared.option.Option.{Option}
-use Rattle.sg_clients.specs.sg_seat.WorldView.{Seat, WorldView, is_offered}
-use Rattle.sg_clients.specs.sg_seat.declared.mark.Mark.{Mark}
-use Rattle.sg_clients.specs.sg_seat.declared.mark.MarkKind.{MarkKind}
-use Rattle.sg_clients.specs.sg_seat.declared.mark.MarkKind.TheVariants.{Offer, Entry, Answer, Withdraw, Leave}
-use Rattle.sg_clients.specs.sg_seat.declared.phase.Phase.{Phase}
-use Rattle.sg_clients.specs.sg_seat.declared.phase.Phase.TheVariants.{Idle, Receipted, Left}
+use Rattle.sg_clients.specs.WorldView.{Seat, WorldView, is_offered}
+use Rattle.sg_clients.specs.declared.mark.Mark.{Mark}
+use Rattle.sg_clients.specs.declared.mark.MarkKind.{MarkKind}
+use Rattle.sg_clients.specs.declared.mark.MarkKind.TheVariants.{Offer, Entry, Answer, Withdraw, Leave}
+use Rattle.sg_clients.specs.declared.phase.Phase.{Phase}
+use Rattle.sg_clients.specs.declared.phase.Phase.TheVariants.{Idle, Receipted, Left}
 
 -- whether a mark is that of an entry
 abbrev pub is_entry_mark : MarkKind → Bool

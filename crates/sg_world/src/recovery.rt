@@ -3,7 +3,7 @@ ghost use Rattle.std.specs.Prelude.{◌≡◌, ◌≤◌, ℕ, None, Some, IsSom
 ghost use Rattle.sg_clients.specs.Clients.{IsClient};
 ghost use Rattle.sg_facts.specs.sg_base.Stops.{asked_after};
 ghost use Rattle.sg_replay.specs.Missing.{missing};
-ghost use Rattle.sg_clients.specs.sg_seat.WorldView.{rebooted, seat_in, struck_at, with_points};
+ghost use Rattle.sg_clients.specs.WorldView.{rebooted, seat_in, struck_at, with_points};
 ghost use Rattle.sg_world.specs.Due.{needs_in};
 ghost use Rattle.sg_world.specs.Inners.{IsInOrder, KeepsRest, view_in};
 ghost use Rattle.sg_world.specs.Steps.{PassesGuard, Steps};

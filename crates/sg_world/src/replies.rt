@@ -5,8 +5,8 @@ ghost use Rattle.sg_facts.specs.sg_base.declared.reply.Reply.TheVariants.{Refuse
 ghost use Rattle.sg_facts.specs.declared.entry.Entry.{Entry as IsEntry};
 ghost use Rattle.sg_facts.specs.Guard.{guard as the_guard};
 ghost use Rattle.sg_facts.specs.Object.{object_of};
-ghost use Rattle.sg_clients.specs.sg_seat.WorldView.{answered_to, boot_number, committed, in_phase, reply_handed_over, seat_in};
-ghost use Rattle.sg_clients.specs.sg_seat.declared.phase.Phase.TheVariants.{Asked, Held, Receipted};
+ghost use Rattle.sg_clients.specs.WorldView.{answered_to, boot_number, committed, in_phase, reply_handed_over, seat_in};
+ghost use Rattle.sg_clients.specs.declared.phase.Phase.TheVariants.{Asked, Held, Receipted};
 ghost use Rattle.sg_world.specs.Inners.{IsInOrder, KeepsRest, view_in};
 
 use crate::inner::Inner;

@@ -2,8 +2,8 @@
 ghost use Rattle.std.specs.Prelude.{◌≡◌, ◌≤◌, ℕ, None, Some, IsSome, IfOk, OnErr, length};
 ghost use Rattle.sg_clients.specs.Clients.{IsClient};
 ghost use Rattle.sg_facts.specs.sg_base.Stops.{asked_after};
-ghost use Rattle.sg_clients.specs.sg_seat.WorldView.{seat_in, with_points};
-ghost use Rattle.sg_clients.specs.sg_seat.declared.phase.Phase.TheVariants.{Asked, Held};
+ghost use Rattle.sg_clients.specs.WorldView.{seat_in, with_points};
+ghost use Rattle.sg_clients.specs.declared.phase.Phase.TheVariants.{Asked, Held};
 ghost use Rattle.sg_world.specs.Due.{needs_in};
 ghost use Rattle.sg_world.specs.Inners.{IsInOrder, KeepsRest, view_in};
 ghost use Rattle.sg_world.specs.Inside.Lines.{NoMemoryLeft};

@@ -4,7 +4,7 @@ ghost use Rattle.sg_facts.specs.Track.{is_live};
 ghost use Rattle.sg_facts.specs.Inside.Rows.{track};
 ghost use Rattle.sg_facts.specs.sg_base.declared.call.Call.{Call as IsCall};
 ghost use Rattle.sg_facts.specs.sg_base.declared.reply.Reply.{Reply as IsReply};
-ghost use Rattle.sg_clients.specs.sg_seat.WorldView.{wakes_seat, woken_seat};
+ghost use Rattle.sg_clients.specs.WorldView.{wakes_seat, woken_seat};
 ghost use Rattle.sg_facts.specs.declared.row.Row.{Row as IsRow};
 ghost use Rattle.sg_world.specs.Inside.Waiting.{WaitOnLive, refuses};
 

@@ -18,8 +18,8 @@ ghost use Rattle.sg_world_laws.specs.Setting.{IsSetting, stubs_of};
 ghost use Rattle.sg_world.specs.Marked.{TellsAll};
 ghost use Rattle.sg_world.specs.Steps.{AnswersLast, HasStepped, WantsMemory};
 ghost use Rattle.sg_world.specs.Worlded.{CountsAll, setting_of};
-ghost use Rattle.sg_clients.specs.sg_seat.declared.phase.Phase.TheVariants.{Blocked, Receipted};
-ghost use Rattle.sg_clients.specs.sg_seat.WorldView.{IsFree, MayWithdraw, happened, is_at_rest, is_offered, with_leave, new_world, no_seat, offered, seat_of, unanswered, withdrawn_by};
+ghost use Rattle.sg_clients.specs.declared.phase.Phase.TheVariants.{Blocked, Receipted};
+ghost use Rattle.sg_clients.specs.WorldView.{IsFree, MayWithdraw, happened, is_at_rest, is_offered, with_leave, new_world, no_seat, offered, seat_of, unanswered, withdrawn_by};
 
 use crate::did::Did;
 use crate::inner::Inner;

@@ -18,7 +18,7 @@ use Rattle.sg_recovery_laws.specs.Midway.Numbers.{AreNumbers, left_of, sum_told,
 use Rattle.sg_recovery_laws.specs.Midway.Progress.{IsNone, TellsCalls, Told, is_complete}
 use Rattle.sg_recovery_laws.specs.sg_hist.Inside.Parts.{is_walk_of}
 use Rattle.sg_recovery_laws.specs.sg_hist.Reading.{last_items, older_items}
-use Rattle.sg_seat.specs.WorldView.{WorldView, held_replies}
+use Rattle.sg_clients.specs.WorldView.{WorldView, held_replies}
 use Rattle.sg_recovery_laws.specs.LastItem.Told.{IsRead}
 use Rattle.sg_world_laws.specs.Setting.{Setting}
 

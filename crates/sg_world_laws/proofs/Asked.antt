@@ -29,7 +29,7 @@ use Rattle.sg_recovery_laws.proofs.Objects.Waiting.{behind_same}
 use Rattle.sg_recovery_laws.proofs.InBoots.{place_is}
 use Rattle.sg_recovery_laws.proofs.Lists.{each_map}
 use Rattle.sg_recovery_laws.specs.sg_hist.Growing.{IsNextItem, IsOfNoEntry, place_after}
-use Rattle.sg_seat.specs.WorldView.{WorldView, held_in, unanswered}
+use Rattle.sg_clients.specs.WorldView.{WorldView, held_in, unanswered}
 use Rattle.sg_recovery_laws.proofs.LastItem.Noting.{admitted_last, client_tracked}
 use Rattle.sg_recovery_laws.specs.LastItem.LastPlace.{last_place}
 use Rattle.sg_recovery_laws.specs.LastItem.Told.{IsKnown}

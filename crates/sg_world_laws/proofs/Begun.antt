@@ -13,7 +13,7 @@ use Rattle.sg_recovery_laws.specs.Midway.Progress.{fresh}
 use Rattle.sg_recovery_laws.specs.Objects.Waiting.{AreWaiting}
 use Rattle.sg_recovery_laws.proofs.Onward.{nothing_yet}
 use Rattle.sg_recovery_laws.specs.sg_hist.Growing.{IsInLast, IsRecovering}
-use Rattle.sg_seat.specs.WorldView.{Seat, held_in, held_replies, is_held_in, no_seat, offered_by, unanswered, new_world}
+use Rattle.sg_clients.specs.WorldView.{Seat, held_in, held_replies, is_held_in, no_seat, offered_by, unanswered, new_world}
 use Rattle.sg_world_laws.proofs.Booted.{begins}
 use Rattle.sg_world_laws.proofs.Struck.{none_drawn}
 use Rattle.sg_world_laws.specs.Keeping.{AreDrawn, KeepsPromise, MayEnter}

@@ -23,7 +23,7 @@ use Rattle.sg_recovery_laws.specs.Objects.Waiting.{AreWaiting}
 use Rattle.sg_recovery_laws.proofs.InBoots.{boots_booted}
 use Rattle.sg_recovery_laws.proofs.Onward.{booted_stays}
 use Rattle.sg_recovery_laws.specs.sg_hist.Growing.{IsInLast, IsRecovering, booted}
-use Rattle.sg_seat.specs.WorldView.{Seat, WorldView, held_in, unanswered, woken_seat}
+use Rattle.sg_clients.specs.WorldView.{Seat, WorldView, held_in, unanswered, woken_seat}
 use Rattle.sg_recovery_laws.specs.LastItem.LastPlace.{HaveItems}
 use Rattle.sg_recovery_laws.specs.LastItem.Told.{IsRead}
 use Rattle.sg_world_laws.proofs.Struck.{no_drawn, none_drawn}

@@ -10,10 +10,10 @@ use Rattle.sg_facts.specs.Object.{object_of}
 use Rattle.sg_facts.specs.declared.entry.Entry.{Entry}
 use Rattle.sg_recovery_laws.specs.sg_hist.Clients.{AreNumbered, MayBeMade, calls_of}
 use Rattle.sg_recovery_laws.proofs.Lists.{each_append, each_map, each_split}
-use Rattle.sg_seat.specs.WorldView.{Seat, wakes_seat, woken_seat}
-use Rattle.sg_seat.specs.declared.phase.Phase.{Phase}
-use Rattle.sg_seat.specs.declared.phase.Phase.TheVariants.{Asked, Blocked, Held, Idle, Left, Receipted}
-use Rattle.sg_seat.specs.declared.withdrawn.Withdrawn.{Withdrawn}
+use Rattle.sg_clients.specs.WorldView.{Seat, wakes_seat, woken_seat}
+use Rattle.sg_clients.specs.declared.phase.Phase.{Phase}
+use Rattle.sg_clients.specs.declared.phase.Phase.TheVariants.{Asked, Blocked, Held, Idle, Left, Receipted}
+use Rattle.sg_clients.specs.declared.withdrawn.Withdrawn.{Withdrawn}
 use Rattle.sg_facts.proofs.Replaying.Apart.{apart}
 use Rattle.sg_facts.proofs.Replaying.Found.{same_test}
 use Rattle.sg_world_laws.proofs.Onseat.{seat_on}

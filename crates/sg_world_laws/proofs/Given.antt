@@ -22,7 +22,7 @@ use Rattle.sg_recovery_laws.specs.sg_hist.Inside.Parts.{IsCommitted}
 use Rattle.sg_recovery_laws.proofs.Given.{HasEntry, IsGiven, committed_given, is_numbered, made_visible}
 use Rattle.sg_recovery_laws.proofs.Lists.{each_map, each_split}
 use Rattle.sg_recovery_laws.specs.sg_hist.Growing.{IsSameFor, IsSameId}
-use Rattle.sg_seat.specs.WorldView.{WorldView, held_replies}
+use Rattle.sg_clients.specs.WorldView.{WorldView, held_replies}
 use Rattle.sg_world_laws.proofs.Struck.{no_drawn}
 use Rattle.sg_world_laws.specs.Keeping.{KeepsPromise, Stub, standing}
 use Rattle.sg_world_laws.specs.Setting.{Setting}

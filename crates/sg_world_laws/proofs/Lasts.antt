@@ -10,10 +10,10 @@ use Rattle.sg_recovery_laws.specs.sg_hist.Clients.{calls_of}
 use Rattle.sg_recovery_laws.specs.sg_hist.Growing.{IsLastCall}
 use Rattle.sg_recovery_laws.specs.Objects.Waiting.{NoneBy}
 use Rattle.sg_recovery_laws.proofs.Lists.{each_append, each_contains, each_map}
-use Rattle.sg_seat.specs.WorldView.{Seat, WorldView, held_in, held_replies, is_held_in, is_offered, offered_by, unanswered}
-use Rattle.sg_seat.specs.declared.phase.Phase.{Phase}
-use Rattle.sg_seat.specs.declared.phase.Phase.TheVariants.{Asked, Blocked, Held, Idle, Left, Receipted}
-use Rattle.sg_seat.specs.declared.withdrawn.Withdrawn.{Withdrawn}
+use Rattle.sg_clients.specs.WorldView.{Seat, WorldView, held_in, held_replies, is_held_in, is_offered, offered_by, unanswered}
+use Rattle.sg_clients.specs.declared.phase.Phase.{Phase}
+use Rattle.sg_clients.specs.declared.phase.Phase.TheVariants.{Asked, Blocked, Held, Idle, Left, Receipted}
+use Rattle.sg_clients.specs.declared.withdrawn.Withdrawn.{Withdrawn}
 use Rattle.sg_world_laws.proofs.Entered.{numbers_below}
 use Rattle.sg_world_laws.proofs.Seating.{gone_is, offered_at, offered_other, one_is, seat_is, seated_split}
 use Rattle.sg_world_laws.specs.Keeping.{AreDrawn}

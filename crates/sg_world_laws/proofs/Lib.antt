@@ -27,4 +27,4 @@ pub mod Turns
 pub mod Waits
 pub mod Woken
 pub use Rattle.sg_recovery_laws.proofs as sg_recovery_laws
-pub use Rattle.sg_seat.proofs as sg_seat
+pub use Rattle.sg_clients.proofs as sg_clients

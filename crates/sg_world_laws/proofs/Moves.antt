@@ -9,10 +9,10 @@ use Rattle.sg_facts.specs.sg_base.declared.call.Call.{Call}
 use Rattle.sg_facts.specs.Limits.{last_client}
 use Rattle.sg_facts.specs.Object.{Object}
 use Rattle.sg_facts.specs.WalkArray.{back}
-use Rattle.sg_seat.specs.declared.mark.Mark.{Mark}
+use Rattle.sg_clients.specs.declared.mark.Mark.{Mark}
 use Rattle.sg_recovery_laws.proofs.Lists.{each_split}
-use Rattle.sg_seat.specs.WorldView.{Seat, WorldView, held_in, held_replies, is_held_in, offered_by, unanswered}
-use Rattle.sg_seat.specs.declared.withdrawn.Withdrawn.{Withdrawn}
+use Rattle.sg_clients.specs.WorldView.{Seat, WorldView, held_in, held_replies, is_held_in, offered_by, unanswered}
+use Rattle.sg_clients.specs.declared.withdrawn.Withdrawn.{Withdrawn}
 use Rattle.sg_world_laws.proofs.Reseated.{reseated}
 use Rattle.sg_world_laws.proofs.Seating.{HasSeat, client_last, gone_is, has_seat, held_at, offered_at, seat_is, seats_set, still_offered}
 use Rattle.sg_world_laws.specs.Keeping.{KeepsPromise, Stub}

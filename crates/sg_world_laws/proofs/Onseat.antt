@@ -16,9 +16,9 @@ use Rattle.sg_facts.specs.Object.{after, empty_object, object_of}
 use Rattle.sg_facts.specs.declared.entry.Entry.{Entry}
 use Rattle.sg_recovery_laws.proofs.Midway.Tabled.{passes_whole}
 use Rattle.sg_recovery_laws.specs.sg_hist.Clients.{MayBeMade, calls_of}
-use Rattle.sg_seat.specs.WorldView.{Seat, wakes_seat, woken_seat}
-use Rattle.sg_seat.specs.declared.phase.Phase.{Phase}
-use Rattle.sg_seat.specs.declared.phase.Phase.TheVariants.{Asked, Blocked, Held, Idle, Left, Receipted}
+use Rattle.sg_clients.specs.WorldView.{Seat, wakes_seat, woken_seat}
+use Rattle.sg_clients.specs.declared.phase.Phase.{Phase}
+use Rattle.sg_clients.specs.declared.phase.Phase.TheVariants.{Asked, Blocked, Held, Idle, Left, Receipted}
 use Rattle.sg_facts.proofs.Replaying.Found.{other_test}
 use Rattle.sg_world_laws.proofs.Drawn.{object_behind}
 use Rattle.sg_world_laws.proofs.Waits.{still_waits, waits_both}

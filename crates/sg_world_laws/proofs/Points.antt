@@ -5,7 +5,7 @@ use Rattle.sg_facts.specs.Object.{Object}
 use Rattle.sg_facts.specs.declared.entry.Entry.{Entry}
 use Rattle.sg_recovery_laws.proofs.Lists.{each_map}
 use Rattle.sg_recovery_laws.specs.sg_hist.Growing.{IsInLast, IsRecovering}
-use Rattle.sg_seat.specs.WorldView.{WorldView, held_replies, unanswered, with_points}
+use Rattle.sg_clients.specs.WorldView.{WorldView, held_replies, unanswered, with_points}
 use Rattle.sg_world_laws.specs.Keeping.{KeepsPromise, Stands, StandsIn, Stub}
 use Rattle.sg_world_laws.specs.Setting.{Setting, stubs_of}
 

@@ -30,7 +30,7 @@ use Rattle.sg_recovery_laws.proofs.InBoots.{boots_refused}
 use Rattle.sg_recovery_laws.proofs.Lists.{each_append, each_map}
 use Rattle.sg_recovery_laws.proofs.Same.{any_same, rebuilt_again}
 use Rattle.sg_recovery_laws.specs.sg_hist.Growing.{IsInLast, IsLastCall, IsSameId}
-use Rattle.sg_seat.specs.WorldView.{WorldView, held_in, held_replies, unanswered}
+use Rattle.sg_clients.specs.WorldView.{WorldView, held_in, held_replies, unanswered}
 use Rattle.sg_recovery_laws.proofs.LastItem.Reading.{unnamed}
 use Rattle.sg_recovery_laws.specs.LastItem.Told.{IsRead, whole_behind}
 use Rattle.sg_recovery_laws.proofs.sg_track.KeptLists.{read}

@@ -11,7 +11,7 @@ use Rattle.sg_recovery_laws.specs.Midway.Progress.{IsInRecovery}
 use Rattle.sg_recovery_laws.specs.Objects.Waiting.{AreWaiting}
 use Rattle.sg_recovery_laws.proofs.Onward.{made_stays}
 use Rattle.sg_recovery_laws.specs.sg_hist.Growing.{IsInLast}
-use Rattle.sg_seat.specs.WorldView.{WorldView, held_replies, unanswered}
+use Rattle.sg_clients.specs.WorldView.{WorldView, held_replies, unanswered}
 use Rattle.sg_facts.proofs.Replaying.Above.{up}
 use Rattle.sg_world_laws.proofs.Entering.{kept_all}
 use Rattle.sg_world_laws.specs.Keeping.{AreDrawn, KeepsPromise, MayEnter, StandsIn, Stub}

@@ -31,7 +31,7 @@ use Rattle.sg_recovery_laws.proofs.InBoots.{boots_appended}
 use Rattle.sg_recovery_laws.proofs.Lists.{each_append, each_both, each_map, each_split}
 use Rattle.sg_recovery_laws.proofs.Onward.{made_stays}
 use Rattle.sg_recovery_laws.specs.sg_hist.Growing.{IsInLast}
-use Rattle.sg_seat.specs.WorldView.{WorldView, held_in, unanswered}
+use Rattle.sg_clients.specs.WorldView.{WorldView, held_in, unanswered}
 use Rattle.sg_recovery_laws.specs.LastItem.Told.{IsRead}
 use Rattle.sg_facts.proofs.Replaying.Files.{told}
 use Rattle.sg_facts.proofs.Replaying.Found.{above, same_test}

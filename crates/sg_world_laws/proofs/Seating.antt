@@ -11,8 +11,8 @@ use Rattle.sg_facts.specs.Limits.{last_client}
 use Rattle.sg_facts.specs.declared.entry.Entry.{Entry}
 use Rattle.sg_recovery_laws.specs.sg_hist.Reading.{items_after}
 use Rattle.sg_recovery_laws.proofs.Lists.{each_append, each_split}
-use Rattle.sg_seat.specs.WorldView.{Seat, held_in, is_held_in, is_offered, offered, offered_by, woken_seat}
-use Rattle.sg_seat.specs.declared.withdrawn.Withdrawn.{Withdrawn}
+use Rattle.sg_clients.specs.WorldView.{Seat, held_in, is_held_in, is_offered, offered, offered_by, woken_seat}
+use Rattle.sg_clients.specs.declared.withdrawn.Withdrawn.{Withdrawn}
 use Rattle.sg_recovery_laws.proofs.sg_track.Ascending.{later}
 use Rattle.sg_facts.proofs.Replaying.Apart.{apart}
 use Rattle.sg_world_laws.specs.Seats.{AreGone, AreSeated, HaveSeats, IsSeated, all_seqs}

@@ -10,7 +10,7 @@ use Rattle.sg_recovery_laws.proofs.InBoots.{boots_struck}
 use Rattle.sg_recovery_laws.proofs.Onward.{struck_stays}
 use Rattle.sg_recovery_laws.specs.sg_hist.Growing.{IsRecovering, struck}
 use Rattle.sg_recovery_laws.specs.sg_hist.Reading.{last_items, older_items}
-use Rattle.sg_seat.specs.WorldView.{WorldView, held_replies, unanswered}
+use Rattle.sg_clients.specs.WorldView.{WorldView, held_replies, unanswered}
 use Rattle.sg_recovery_laws.specs.LastItem.LastPlace.{HaveItems}
 use Rattle.sg_recovery_laws.proofs.sg_track.Ascending.{later}
 use Rattle.sg_world_laws.specs.Keeping.{AreDrawn, KeepsPromise, Stub}

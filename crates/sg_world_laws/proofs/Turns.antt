@@ -9,11 +9,11 @@ use Rattle.sg_facts.specs.sg_base.declared.reply.Reply.{Reply}
 use Rattle.sg_facts.specs.Object.{Object}
 use Rattle.sg_recovery_laws.specs.sg_hist.Clients.{MayBeMade, calls_of}
 use Rattle.sg_recovery_laws.proofs.Lists.{each_append}
-use Rattle.sg_seat.specs.WorldView.{Seat, WorldView, is_held_phase, is_offered, no_seat, offered_by, seat_of, IsFree, MayWithdraw}
-use Rattle.sg_seat.specs.declared.mark.Mark.{Mark}
-use Rattle.sg_seat.specs.declared.phase.Phase.{Phase}
-use Rattle.sg_seat.specs.declared.phase.Phase.TheVariants.{Asked, Blocked, Held, Idle, Left, Receipted}
-use Rattle.sg_seat.specs.declared.withdrawn.Withdrawn.{Withdrawn}
+use Rattle.sg_clients.specs.WorldView.{Seat, WorldView, is_held_phase, is_offered, no_seat, offered_by, seat_of, IsFree, MayWithdraw}
+use Rattle.sg_clients.specs.declared.mark.Mark.{Mark}
+use Rattle.sg_clients.specs.declared.phase.Phase.{Phase}
+use Rattle.sg_clients.specs.declared.phase.Phase.TheVariants.{Asked, Blocked, Held, Idle, Left, Receipted}
+use Rattle.sg_clients.specs.declared.withdrawn.Withdrawn.{Withdrawn}
 use Rattle.sg_world_laws.proofs.Moves.{HoldsNoneNow, its_boot, its_gone, its_seat, moves}
 use Rattle.sg_world_laws.proofs.Refusing.{refused}
 use Rattle.sg_world_laws.proofs.Reseated.{reseated}

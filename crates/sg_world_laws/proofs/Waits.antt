@@ -22,7 +22,7 @@ use Rattle.sg_recovery_laws.proofs.Objects.Blocked.{passes_on, row_stays}
 use Rattle.sg_recovery_laws.proofs.Objects.Guarded.{acts, first_four, keeps}
 use Rattle.sg_recovery_laws.proofs.Objects.Serves.{desc_row}
 use Rattle.sg_recovery_laws.specs.Objects.Serving.{IsAnsweredAt, IsLegalObject, IsService}
-use Rattle.sg_seat.specs.WorldView.{wakes_seat}
+use Rattle.sg_clients.specs.WorldView.{wakes_seat}
 use Rattle.sg_facts.proofs.Replaying.Steps.{both_true, each_fun}
 
 -- what every function keeps to: who uses a file, and who may block

@@ -8,10 +8,10 @@ use Rattle.sg_facts.proofs.RowLists.{more}
 use Rattle.sg_facts.specs.Limits.{last_client}
 use Rattle.sg_facts.specs.declared.entry.Entry.{Entry}
 use Rattle.sg_recovery_laws.proofs.Lists.{each_map}
-use Rattle.sg_seat.specs.WorldView.{Seat, held_in, is_held_in, is_offered, woken_seat}
-use Rattle.sg_seat.specs.declared.phase.Phase.{Phase}
-use Rattle.sg_seat.specs.declared.phase.Phase.TheVariants.{Idle, Asked, Held, Receipted, Blocked, Left}
-use Rattle.sg_seat.specs.declared.withdrawn.Withdrawn.{Withdrawn}
+use Rattle.sg_clients.specs.WorldView.{Seat, held_in, is_held_in, is_offered, woken_seat}
+use Rattle.sg_clients.specs.declared.phase.Phase.{Phase}
+use Rattle.sg_clients.specs.declared.phase.Phase.TheVariants.{Idle, Asked, Held, Receipted, Blocked, Left}
+use Rattle.sg_clients.specs.declared.withdrawn.Withdrawn.{Withdrawn}
 use Rattle.sg_recovery_laws.proofs.sg_track.Ascending.{later}
 use Rattle.sg_facts.proofs.Replaying.Found.{other_test}
 use Rattle.sg_world_laws.specs.Seats.{AreGone, AreSeated, HaveSeats, IsSeated, all_seqs}

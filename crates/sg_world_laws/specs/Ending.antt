@@ -15,8 +15,8 @@ use Rattle.sg_facts.specs.Trace.{Boot}
 use Rattle.sg_recovery_laws.specs.sg_hist.Ending.{client_of, is_still_blocked}
 use Rattle.sg_recovery_laws.specs.sg_hist.Inside.Parts.{EndsQuiet, EndsUsed, IsLost, is_unentered, waking_entries}
 use Rattle.sg_recovery_laws.specs.sg_hist.Reading.{Position, is_by_guard, items_of, last_places, places_in}
-use Rattle.sg_seat.specs.WorldView.{Seat, WorldView, is_held_phase, seat_in}
-use Rattle.sg_seat.specs.declared.phase.Phase.TheVariants.{Asked, Blocked, Held}
+use Rattle.sg_clients.specs.WorldView.{Seat, WorldView, is_held_phase, seat_in}
+use Rattle.sg_clients.specs.declared.phase.Phase.TheVariants.{Asked, Blocked, Held}
 use Rattle.sg_world_laws.specs.Setting.{Setting}
 
 -- a fact of each client's seat

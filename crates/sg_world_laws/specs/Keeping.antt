@@ -22,7 +22,7 @@ use Rattle.sg_recovery_laws.specs.sg_hist.Recovered.{AreInBoots}
 use Rattle.sg_recovery_laws.specs.Objects.Serving.{IsLegalObject}
 use Rattle.sg_recovery_laws.specs.Objects.Waiting.{AreWaiting, NoneBy}
 use Rattle.sg_recovery_laws.specs.sg_hist.Growing.{IsInLast, IsRecovering}
-use Rattle.sg_seat.specs.WorldView.{WorldView, held_replies, unanswered}
+use Rattle.sg_clients.specs.WorldView.{WorldView, held_replies, unanswered}
 use Rattle.sg_recovery_laws.specs.LastItem.LastPlace.{HaveItems}
 use Rattle.sg_recovery_laws.specs.LastItem.Told.{IsRead}
 use Rattle.sg_world_laws.specs.Seats.{HaveSeats}

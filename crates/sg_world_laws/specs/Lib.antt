@@ -6,4 +6,4 @@ pub mod Seats
 pub mod Setting
 pub mod Turns
 pub use Rattle.sg_recovery_laws.specs as sg_recovery_laws
-pub use Rattle.sg_seat.specs as sg_seat
+pub use Rattle.sg_clients.specs as sg_clients

@@ -7,9 +7,9 @@ use Rattle.sg_facts.specs.Legal.{answer}
 use Rattle.sg_facts.specs.Limits.{last_client}
 use Rattle.sg_facts.specs.Object.{object_of}
 use Rattle.sg_recovery_laws.specs.sg_hist.Clients.{AreNumbered, MayBeMade, calls_of}
-use Rattle.sg_seat.specs.WorldView.{Seat, is_offered}
-use Rattle.sg_seat.specs.declared.phase.Phase.TheVariants.{Blocked, Receipted}
-use Rattle.sg_seat.specs.declared.withdrawn.Withdrawn.{Withdrawn}
+use Rattle.sg_clients.specs.WorldView.{Seat, is_offered}
+use Rattle.sg_clients.specs.declared.phase.Phase.TheVariants.{Blocked, Receipted}
+use Rattle.sg_clients.specs.declared.withdrawn.Withdrawn.{Withdrawn}
 use Rattle.sg_world_laws.specs.Setting.{Setting}
 
 -- the last of some entries

@@ -21,7 +21,7 @@ use Rattle.sg_recovery_laws.specs.Midway.Progress.{IsNone, complete}
 use Rattle.sg_recovery_laws.specs.sg_hist.Reading.{service_call}
 use Rattle.sg_recovery_laws.specs.sg_hist.Recovered.{IsByTable}
 use Rattle.sg_recovery_laws.specs.Objects.Waiting.{NoneBy}
-use Rattle.sg_seat.specs.WorldView.{WorldView, held_replies, unanswered}
+use Rattle.sg_clients.specs.WorldView.{WorldView, held_replies, unanswered}
 use Rattle.sg_world_laws.specs.Keeping.{Stub}
 use Rattle.sg_recovery_laws.specs.sg_hist.Clients.{MayBeMade}
 use Rattle.sg_world_laws.specs.Setting.{Setting}

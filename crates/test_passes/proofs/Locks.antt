@@ -1,10 +1,10 @@
 -- Calls on locks may be offered where the interface declares them.
 use Rattle.std.proofs.Common.{◌≡◌, ℕ, zero, suc, true, List, [], refl, sym, subst, arith}
-use Rattle.sg_log.specs.sg_passes.sg_facts.sg_base.declared.call.Call.{Call}
-use Rattle.sg_log.specs.sg_passes.sg_facts.declared.entry.Entry.{Entry}
-use Rattle.sg_log.specs.sg_passes.sg_facts.Facts.{Facts}
-use Rattle.sg_log.specs.sg_passes.sg_facts.Interface.{Declared, declares}
-use Rattle.sg_log.specs.sg_passes.sg_facts.Kinds.{FitsKinds}
+use Rattle.sg_log.specs.sg_turn.sg_facts.sg_base.declared.call.Call.{Call}
+use Rattle.sg_log.specs.sg_turn.sg_facts.declared.entry.Entry.{Entry}
+use Rattle.sg_log.specs.sg_turn.sg_facts.Facts.{Facts}
+use Rattle.sg_log.specs.sg_turn.sg_facts.Interface.{Declared, declares}
+use Rattle.sg_log.specs.sg_turn.sg_facts.Kinds.{FitsKinds}
 use Rattle.sg_log.specs.Names.{MayOffer}
 use Rattle.test_world.specs.test_tables.sg_lock.LockFacts.{lock_facts}
 use Rattle.test_passes.specs.Locks.{DeclaresLockCalls}

@@ -1,6 +1,6 @@
 -- Interfaces that declare calls on locks.
 use Rattle.std.specs.Prelude.{◌≡◌, true}
-use Rattle.sg_log.specs.sg_passes.sg_facts.Interface.{Declared, declares}
+use Rattle.sg_log.specs.sg_turn.sg_facts.Interface.{Declared, declares}
 use Rattle.test_world.specs.test_tables.sg_lock.LockFacts.{lock_facts}
 
 -- an interface of locks declares the functions that make one, take one and release one

@@ -1,10 +1,10 @@
 -- Passes whose client has no call under way, what calls leave of a pass, and calls on locks.
 use Rattle.std.specs.Prelude.{◌≡◌, ℕ, ◌+◌, ◌≤◌, List, [], length}
-use Rattle.sg_log.specs.sg_passes.sg_facts.sg_base.declared.call.Call.{Call}
-use Rattle.sg_log.specs.sg_passes.sg_facts.declared.entry.Entry.{Entry}
-use Rattle.sg_log.specs.sg_passes.sg_turn.Seats.{SeatView, TurnView}
-use Rattle.sg_log.specs.sg_passes.Passes.{own_entries, standing_of}
-use Rattle.sg_log.specs.sg_passes.Told.{HasNoCall}
+use Rattle.sg_log.specs.sg_turn.sg_facts.sg_base.declared.call.Call.{Call}
+use Rattle.sg_log.specs.sg_turn.sg_facts.declared.entry.Entry.{Entry}
+use Rattle.sg_log.specs.sg_turn.Seats.{SeatView, TurnView}
+use Rattle.sg_log.specs.sg_turn.Passes.{own_entries, standing_of}
+use Rattle.sg_log.specs.sg_turn.Told.{HasNoCall}
 
 -- ---- passes
 

@@ -1,7 +1,7 @@
 // Calls on locks.
 ghost use Rattle.std.specs.Prelude.{◌≡◌, ◌<◌, length};
-ghost use Rattle.sg_log.specs.sg_passes.Passes.{own_entries, standing_of};
-ghost use Rattle.sg_log.specs.sg_passes.Told.{HasNoCall};
+ghost use Rattle.sg_log.specs.sg_turn.Passes.{own_entries, standing_of};
+ghost use Rattle.sg_log.specs.sg_turn.Told.{HasNoCall};
 ghost use Rattle.test_passes.specs.Ready.{HasMade, IsLockCall, TakesLockCalls};
 
 use sg_log::{Args, Host, InvokeFault, Pass, Shared};

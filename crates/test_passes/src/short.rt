@@ -1,6 +1,6 @@
 // Want of memory at one event.
 ghost use Rattle.std.specs.Prelude.{◌≡◌};
-ghost use Rattle.sg_log.specs.sg_passes.sg_turn.Logs.{OneMore};
+ghost use Rattle.sg_log.specs.sg_turn.Logs.{OneMore};
 
 use sg_log::{Args, Host, Kept, NoMemory, Stepped};
 use std::alloc::Global;

@@ -3,9 +3,9 @@ use Rattle.std.proofs.Common.{◌≡◌, ℕ, ◌-◌, length, refl, replicate, 
 use Rattle.std.proofs.lemmas.List.{length-set, length-replicate}
 use Rattle.std.specs.Prelude.{if◌then◌else◌}
 use Rattle.sg_facts.specs.sg_base.declared.call.Call.{Call}
-use Rattle.sg_discard.specs.sg_seat.WorldView.{WorldView, happened, in_phase, is_left_phase, new_world, no_seat, offered, seat_of, with_leave, with_mark, withdrawn_by}
-use Rattle.sg_discard.specs.sg_seat.declared.phase.Phase.TheVariants.{Left}
-use Rattle.sg_discard.specs.sg_seat.declared.mark.MarkKind.TheVariants.{Leave}
+use Rattle.sg_discard.specs.sg_clients.WorldView.{WorldView, happened, in_phase, is_left_phase, new_world, no_seat, offered, seat_of, with_leave, with_mark, withdrawn_by}
+use Rattle.sg_discard.specs.sg_clients.declared.phase.Phase.TheVariants.{Left}
+use Rattle.sg_discard.specs.sg_clients.declared.mark.MarkKind.TheVariants.{Leave}
 
 -- a new world has as many as are asked for
 pub seats_new : (clients : ℕ) → length (new_world (replicate clients no_seat)).seats ≡ clients

@@ -1,7 +1,7 @@
 // A world with its interface beside it, so that each event is checked before it is made.
 ghost use Rattle.std.specs.Prelude.{◌≡◌, ◌≤◌, ◌<◌, ◌+◌, ◌^◌, [], IfOk, length, true};
 ghost use Rattle.sg_edge.specs.Stops.{AscendsAbove, struck_of};
-ghost use Rattle.sg_discard.specs.sg_seat.WorldView.{IsFree, MayWithdraw, seat_of};
+ghost use Rattle.sg_discard.specs.sg_clients.WorldView.{IsFree, MayWithdraw, seat_of};
 
 use crate::answers::tells;
 use crate::events::{Asked, Event, args_of};

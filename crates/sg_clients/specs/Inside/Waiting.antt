@@ -1,6 +1,6 @@
 -- How many clients wait.
 use Rattle.std.specs.Prelude.{ℕ, List, cond, count_by}
-use Rattle.sg_seat.specs.WorldView.{Seat, is_blocked_phase}
+use Rattle.sg_clients.specs.WorldView.{Seat, is_blocked_phase}
 
 -- one, if the client of a seat waits
 abbrev pub count_if_waits : Seat → ℕ

@@ -4,7 +4,7 @@ use Rattle.std.specs.declared.option.Option.{Option}
 use Rattle.std.specs.List.{slice_split}
 use Rattle.sg_entries.specs.Lines.{placed}
 use Rattle.sg_entries.specs.declared.rest.Rest.{Rest}
-use Rattle.sg_entry_parse.specs.sg_lex.Lexeme.{Spelling}
+use Rattle.sg_entries.specs.sg_lex.Lexeme.{Spelling}
 
 -- the byte at which a line ends
 abbrev pub line_feed : ℕ

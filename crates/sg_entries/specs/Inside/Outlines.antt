@@ -4,7 +4,7 @@ use Rattle.std.specs.declared.option.Option.{Option}
 use Rattle.sg_entries.specs.Flaws.{Flaw, flaw_if, number_flaws}
 use Rattle.sg_entries.specs.Inside.Flaws.{client_flaws}
 use Rattle.sg_entries.specs.declared.error.EntriesKind.TheVariants.{UnknownFunction, BadArgs}
-use Rattle.sg_entry_parse.specs.declared.tree.EntryOutline.{EntryOutline}
+use Rattle.sg_entries.specs.declared.tree.EntryOutline.{EntryOutline}
 use Rattle.sg_facts.specs.Allowed.{count_args}
 use Rattle.sg_facts.specs.Facts.{fun_at}
 use Rattle.sg_facts.specs.Interface.{Declared}

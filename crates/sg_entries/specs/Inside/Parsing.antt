@@ -9,11 +9,11 @@ use Rattle.sg_entries.specs.declared.error.EntriesKind.{EntriesKind}
 use Rattle.sg_entries.specs.declared.error.EntriesKind.TheVariants.{Syntax}
 use Rattle.sg_facts.specs.Interface.{Declared}
 use Rattle.sg_facts.specs.declared.entry.Entry.{Entry}
-use Rattle.sg_entry_parse.specs.Parses.{EntryParses, OutlineParses}
-use Rattle.sg_entry_parse.specs.sg_lex.Lexeme.{Spelling}
-use Rattle.sg_entry_parse.specs.declared.error.EntrySyntax.TheVariants.{Syntax as syntax}
-use Rattle.sg_entry_parse.specs.declared.tree.EntryOutline.{EntryOutline}
-use Rattle.sg_entry_parse.specs.declared.tree.WrittenEntry.{WrittenEntry}
+use Rattle.sg_entries.specs.Parses.{EntryParses, OutlineParses}
+use Rattle.sg_entries.specs.sg_lex.Lexeme.{Spelling}
+use Rattle.sg_entries.specs.declared.syntax.EntrySyntax.TheVariants.{Syntax as syntax}
+use Rattle.sg_entries.specs.declared.tree.EntryOutline.{EntryOutline}
+use Rattle.sg_entries.specs.declared.tree.WrittenEntry.{WrittenEntry}
 
 -- a line is no entry's, and fails at this place of the text
 pub record FailsIn (line : Spelling) (kind : EntriesKind) (at : ℕ) : Type 0 where

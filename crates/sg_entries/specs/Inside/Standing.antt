@@ -3,10 +3,10 @@ use Rattle.std.specs.Prelude.{ℕ, List, [], map, unwrap_or}
 use Rattle.std.specs.Option.{option_map_or}
 use Rattle.std.specs.declared.option.Option.{Option}
 use Rattle.sg_entries.specs.Standing.{number_of}
-use Rattle.sg_entry_parse.specs.sg_lex.Lexeme.{Spelling}
-use Rattle.sg_entry_parse.specs.declared.tree.WrittenAnswer.{WrittenAnswer}
-use Rattle.sg_entry_parse.specs.declared.tree.WrittenAnswer.TheVariants.{Refused as refused, Ok as ok}
-use Rattle.sg_entry_parse.specs.declared.tree.WrittenEntry.{WrittenEntry}
+use Rattle.sg_entries.specs.sg_lex.Lexeme.{Spelling}
+use Rattle.sg_entries.specs.declared.tree.WrittenAnswer.{WrittenAnswer}
+use Rattle.sg_entries.specs.declared.tree.WrittenAnswer.TheVariants.{Refused as refused, Ok as ok}
+use Rattle.sg_entries.specs.declared.tree.WrittenEntry.{WrittenEntry}
 use Rattle.sg_facts.specs.Interface.{Declared}
 use Rattle.sg_facts.specs.sg_base.declared.reply.Reply.{Reply}
 use Rattle.sg_facts.specs.sg_base.declared.reply.Reply.TheVariants.{Refused, Ok}

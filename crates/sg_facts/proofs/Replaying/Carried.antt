@@ -4,9 +4,9 @@ use Rattle.std.specs.Prelude.{◌==◌, ◌&&◌, count_by, slice_get, unwrap_or
 use Rattle.std.specs.List.{list_all}
 use Rattle.std.proofs.lemmas.Bool.Decides.{eqb_tells, nat_tests}
 use Rattle.std.proofs.lemmas.List.Sums.{sum_by-cons}
-use Rattle.sg_records.specs.sg_base.Lists.{Each}
-use Rattle.sg_records.specs.sg_base.declared.value.Value.TheVariants.{Word}
-use Rattle.sg_records.specs.sg_base.declared.call.Call.{Call}
+use Rattle.sg_base.specs.Lists.{Each}
+use Rattle.sg_base.specs.declared.value.Value.TheVariants.{Word}
+use Rattle.sg_base.specs.declared.call.Call.{Call}
 use Rattle.sg_facts.specs.declared.row.Row.{Row}
 use Rattle.sg_facts.specs.declared.shape.Kind.{Kind}
 use Rattle.sg_facts.specs.declared.shape.Kind.TheVariants.{Desc, Parent, Word as IsWord, Text as IsText}

@@ -8,12 +8,12 @@ use Rattle.sg_facts.specs.declared.outcome.Outcome.TheVariants.{Replied, Blocks,
 use Rattle.sg_facts.specs.declared.trace.Item.{Item}
 use Rattle.sg_facts.specs.declared.trace.Tag.{Tag}
 use Rattle.sg_facts.specs.declared.trace.Tag.TheVariants.{Walk, Client}
-use Rattle.sg_records.specs.declared.brief.Brief.{Brief}
-use Rattle.sg_records.specs.declared.brief.Gave.{Gave}
-use Rattle.sg_records.specs.declared.brief.Gave.TheVariants.{Good as GaveGood, Refused as GaveRefused, Blocks as GaveBlocks, Stopped as GaveStopped, NoMemory as GaveNoMemory}
-use Rattle.sg_records.specs.declared.brief.Why.{Why}
-use Rattle.sg_records.specs.declared.brief.Why.TheVariants.{Own as WhyOwn, Walk as WhyWalk}
-use Rattle.sg_records.specs.Records.{IsBriefCall, Record, InBrief, Whole, call_of, most_reply_words, reply_of, word_of, words_of}
+use Rattle.sg_base.specs.declared.brief.Brief.{Brief}
+use Rattle.sg_base.specs.declared.brief.Gave.{Gave}
+use Rattle.sg_base.specs.declared.brief.Gave.TheVariants.{Good as GaveGood, Refused as GaveRefused, Blocks as GaveBlocks, Stopped as GaveStopped, NoMemory as GaveNoMemory}
+use Rattle.sg_base.specs.declared.brief.Why.{Why}
+use Rattle.sg_base.specs.declared.brief.Why.TheVariants.{Own as WhyOwn, Walk as WhyWalk}
+use Rattle.sg_base.specs.Records.{IsBriefCall, Record, InBrief, Whole, call_of, most_reply_words, reply_of, word_of, words_of}
 
 -- the tag, of a call of this client and this number
 abbrev pub tag_of : Why → ℕ → ℕ → Tag

@@ -1,9 +1,9 @@
 -- What a service has to show so that walks go on: that it answers Ok where a replayed call comes to it.
 use Rattle.std.specs.Prelude.{ℕ, true, ◌≡◌, ◌<◌, ◌≤◌, ◌++◌, List, [], ◌∷◌, Some, map}
-use Rattle.sg_records.specs.sg_base.declared.value.Value.{Value}
-use Rattle.sg_records.specs.sg_base.declared.call.Call.{Call}
-use Rattle.sg_records.specs.sg_base.declared.reply.Good.{Good}
-use Rattle.sg_records.specs.sg_base.declared.reply.Reply.TheVariants.{Ok}
+use Rattle.sg_base.specs.declared.value.Value.{Value}
+use Rattle.sg_base.specs.declared.call.Call.{Call}
+use Rattle.sg_base.specs.declared.reply.Good.{Good}
+use Rattle.sg_base.specs.declared.reply.Reply.TheVariants.{Ok}
 use Rattle.sg_facts.specs.declared.row.Row.{Row}
 use Rattle.sg_facts.specs.Alike.{named}
 use Rattle.sg_facts.specs.Counted.{CountedBelow}

@@ -1,8 +1,8 @@
 -- How an entry is kept in few bytes.
 use Rattle.std.specs.Prelude.{◌≡◌, ◌≤◌, length, map}
 use Rattle.sg_facts.specs.declared.entry.Entry.{Entry}
-use Rattle.sg_facts.specs.sg_records.declared.brief.Brief.{Brief}
-use Rattle.sg_facts.specs.sg_records.Records.{IsBriefCall, Record, InBrief, Whole, call_of, most_reply_words, reply_of, word_of, words_of}
+use Rattle.sg_facts.specs.sg_base.declared.brief.Brief.{Brief}
+use Rattle.sg_facts.specs.sg_base.Records.{IsBriefCall, Record, InBrief, Whole, call_of, most_reply_words, reply_of, word_of, words_of}
 
 -- the entry of a record
 abbrev pub entry_of : Record Entry → Entry

@@ -1,10 +1,10 @@
 -- What the seats of a client in the worlds of members say of its calls.
 use Rattle.std.specs.Prelude.{ℕ, ◌≡◌, ◌+◌, true, List, Some, length, slice_get}
 use Rattle.sg_facts.specs.Interface.{Declared}
-use Rattle.sg_members.specs.sg_sim.sg_plain.Playing.Callers.{is_receipted}
-use Rattle.sg_members.specs.sg_sim.sg_script.declared.multi.MultiCall.{MultiCall}
-use Rattle.sg_members.specs.sg_sim.sg_script.declared.multi.MultiScript.{MultiScript}
-use Rattle.sg_members.specs.sg_sim.sg_seat.WorldView.{Seat, is_offered}
+use Rattle.sg_multi.specs.sg_sim.sg_plain.Playing.Callers.{is_receipted}
+use Rattle.sg_multi.specs.sg_sim.sg_script.declared.multi.MultiCall.{MultiCall}
+use Rattle.sg_multi.specs.sg_sim.sg_script.declared.multi.MultiScript.{MultiScript}
+use Rattle.sg_multi.specs.sg_sim.sg_clients.WorldView.{Seat, is_offered}
 use Rattle.sg_multi.specs.Calls.{IsCallOf, multi_calls}
 use Rattle.sg_multi.specs.Merged.{MultiEntry, own_in}
 

@@ -1,13 +1,13 @@
 -- What the runs of members came to.
 use Rattle.std.specs.Prelude.{ℕ, ◌≡◌, ◌+◌, List, Some, length, slice_get}
-use Rattle.sg_members.specs.sg_edge.Stops.{up_to}
-use Rattle.sg_members.specs.Members.{setting_in, view_in, world_in}
-use Rattle.sg_members.specs.declared.member.Member.{Member}
-use Rattle.sg_members.specs.sg_sim.Played.{IsOfWorld}
-use Rattle.sg_members.specs.sg_sim.sg_play.Recovering.{RecoversSoFar}
-use Rattle.sg_members.specs.sg_sim.sg_play.sg_hist.Recovered.{IsRecovered, struck_in}
-use Rattle.sg_members.specs.sg_sim.sg_play.sg_hist.declared.ended.Ended.{Ended}
-use Rattle.sg_members.specs.sg_sim.sg_seat.WorldView.{unanswered}
+use Rattle.sg_multi.specs.sg_edge.Stops.{up_to}
+use Rattle.sg_multi.specs.Members.{setting_in, view_in, world_in}
+use Rattle.sg_multi.specs.declared.member.Member.{Member}
+use Rattle.sg_multi.specs.sg_sim.Played.{IsOfWorld}
+use Rattle.sg_multi.specs.sg_sim.sg_play.Recovering.{RecoversSoFar}
+use Rattle.sg_multi.specs.sg_sim.sg_play.sg_hist.Recovered.{IsRecovered, struck_in}
+use Rattle.sg_multi.specs.sg_sim.sg_play.sg_hist.declared.ended.Ended.{Ended}
+use Rattle.sg_multi.specs.sg_sim.sg_clients.WorldView.{unanswered}
 use Rattle.sg_multi.specs.Ends.{ends_at}
 use Rattle.sg_multi.specs.Played.{stubs_in}
 use Rattle.sg_multi.specs.declared.ended.MultiEnd.{MultiEnd}

@@ -2,18 +2,18 @@
 use Rattle.std.specs.Prelude.{ℕ, ◌≡◌, ◌-◌, ◌≤◌, List, [], ◌∷◌, None, Some, IsSome, drop, length, map, slice_get}
 use Rattle.std.specs.Option.{option_map_or}
 use Rattle.sg_facts.specs.declared.trace.Item.{Item}
-use Rattle.sg_members.specs.Members.{setting_in, view_in}
-use Rattle.sg_members.specs.declared.member.Member.{Member}
-use Rattle.sg_members.specs.sg_sim.sg_plain.Calls.{ascending_from, most_client}
-use Rattle.sg_members.specs.sg_sim.sg_plain.Plain.{PlainPhase, Player, Stage, first_stage, left_schedule, next_turn, ready, stage_from, through}
-use Rattle.sg_members.specs.sg_sim.sg_plain.Playing.Given.{given_in}
-use Rattle.sg_members.specs.sg_sim.sg_play.Following.Follows.{HoldAll, IsAllThere}
-use Rattle.sg_members.specs.sg_sim.sg_play.Following.Stages.{phase_by}
-use Rattle.sg_members.specs.sg_sim.sg_play.sg_hist.Recovered.{struck_in}
-use Rattle.sg_members.specs.sg_sim.sg_script.declared.multi.MultiScript.{MultiScript}
-use Rattle.sg_members.specs.sg_sim.sg_seat.WorldView.{Seat, WorldView, seat_of}
-use Rattle.sg_members.specs.sg_sim.sg_seat.declared.phase.Phase.TheVariants.{Held}
-use Rattle.sg_members.specs.sg_sim.sg_world_laws.Setting.{Setting}
+use Rattle.sg_multi.specs.Members.{setting_in, view_in}
+use Rattle.sg_multi.specs.declared.member.Member.{Member}
+use Rattle.sg_multi.specs.sg_sim.sg_plain.Calls.{ascending_from, most_client}
+use Rattle.sg_multi.specs.sg_sim.sg_plain.Plain.{PlainPhase, Player, Stage, first_stage, left_schedule, next_turn, ready, stage_from, through}
+use Rattle.sg_multi.specs.sg_sim.sg_plain.Playing.Given.{given_in}
+use Rattle.sg_multi.specs.sg_sim.sg_play.Following.Follows.{HoldAll, IsAllThere}
+use Rattle.sg_multi.specs.sg_sim.sg_play.Following.Stages.{phase_by}
+use Rattle.sg_multi.specs.sg_sim.sg_play.sg_hist.Recovered.{struck_in}
+use Rattle.sg_multi.specs.sg_sim.sg_script.declared.multi.MultiScript.{MultiScript}
+use Rattle.sg_multi.specs.sg_sim.sg_clients.WorldView.{Seat, WorldView, seat_of}
+use Rattle.sg_multi.specs.sg_sim.sg_clients.declared.phase.Phase.TheVariants.{Held}
+use Rattle.sg_multi.specs.sg_sim.sg_world_laws.Setting.{Setting}
 use Rattle.sg_multi.specs.Inside.Whose.{next_of, seat_at}
 use Rattle.sg_multi.specs.Merged.{MultiEntry}
 use Rattle.sg_multi.specs.Played.{stubs_in}

@@ -2,13 +2,13 @@
 use Rattle.std.specs.Prelude.{ℕ, ◌≡◌, ◌≢◌, ◌≤◌, ◌==◌, Bool, nat_lt, true, false, List, [], Some, length, map, slice_get, take}
 use Rattle.std.specs.List.{list_all}
 use Rattle.sg_facts.specs.Interface.{Declared}
-use Rattle.sg_members.specs.Members.{setting_in, view_in, world_in}
-use Rattle.sg_members.specs.declared.member.Member.{Member}
-use Rattle.sg_members.specs.sg_sim.sg_plain.Calls.{most_client}
-use Rattle.sg_members.specs.sg_sim.sg_plain.Playing.Callers.{is_receipted}
-use Rattle.sg_members.specs.sg_sim.sg_plain.Playing.Given.{GaveIds, given_in}
-use Rattle.sg_members.specs.sg_sim.sg_script.declared.multi.MultiScript.{MultiScript}
-use Rattle.sg_members.specs.sg_sim.sg_seat.WorldView.{seat_of}
+use Rattle.sg_multi.specs.Members.{setting_in, view_in, world_in}
+use Rattle.sg_multi.specs.declared.member.Member.{Member}
+use Rattle.sg_multi.specs.sg_sim.sg_plain.Calls.{most_client}
+use Rattle.sg_multi.specs.sg_sim.sg_plain.Playing.Callers.{is_receipted}
+use Rattle.sg_multi.specs.sg_sim.sg_plain.Playing.Given.{GaveIds, given_in}
+use Rattle.sg_multi.specs.sg_sim.sg_script.declared.multi.MultiScript.{MultiScript}
+use Rattle.sg_multi.specs.sg_sim.sg_clients.WorldView.{seat_of}
 use Rattle.sg_multi.specs.Calls.{AreFirstMultiCalls, multi_calls}
 use Rattle.sg_multi.specs.Inside.Callers.{IsSeatOf}
 use Rattle.sg_multi.specs.Inside.Member.{KeepsMember}

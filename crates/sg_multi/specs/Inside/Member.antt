@@ -1,12 +1,12 @@
 -- What a play over several services keeps of the world of one of them.
 use Rattle.std.specs.Prelude.{ℕ, ◌≡◌, true, List, [], length, map}
-use Rattle.sg_members.specs.sg_sim.sg_plain.Calls.{ascending_from}
-use Rattle.sg_members.specs.sg_sim.sg_plain.Playing.Plays.{IsPlaying}
-use Rattle.sg_members.specs.sg_sim.sg_play.Waking.Waking.{IsWaking, no_query_waits}
-use Rattle.sg_members.specs.sg_sim.sg_play.sg_hist.Clients.{AreNumbered}
-use Rattle.sg_members.specs.sg_sim.sg_script.declared.script.Script.{Script}
-use Rattle.sg_members.specs.sg_sim.sg_seat.WorldView.{WorldView}
-use Rattle.sg_members.specs.sg_sim.sg_world_laws.Setting.{Setting}
+use Rattle.sg_multi.specs.sg_sim.sg_plain.Calls.{ascending_from}
+use Rattle.sg_multi.specs.sg_sim.sg_plain.Playing.Plays.{IsPlaying}
+use Rattle.sg_multi.specs.sg_sim.sg_play.Waking.Waking.{IsWaking, no_query_waits}
+use Rattle.sg_multi.specs.sg_sim.sg_play.sg_hist.Clients.{AreNumbered}
+use Rattle.sg_multi.specs.sg_sim.sg_script.declared.script.Script.{Script}
+use Rattle.sg_multi.specs.sg_sim.sg_clients.WorldView.{WorldView}
+use Rattle.sg_multi.specs.sg_sim.sg_world_laws.Setting.{Setting}
 
 -- a member's world is that of a play of its own: of a script of what each client called there, with numbers in place of `$k`. Each client's
 -- calls are numbered one after the other, no call was withdrawn, and who waits is woken before it waits again

@@ -2,13 +2,13 @@
 use Rattle.std.specs.Prelude.{ℕ, ◌≡◌, ◌-◌, ◌≤◌, Bool, not, false, List, length, slice_get}
 use Rattle.std.specs.Option.{option_map_or}
 use Rattle.std.specs.declared.option.Option.{Option}
-use Rattle.sg_members.specs.Members.{view_in}
-use Rattle.sg_members.specs.declared.member.Member.{Member}
-use Rattle.sg_members.specs.sg_sim.sg_plain.Calls.{most_client}
-use Rattle.sg_members.specs.sg_sim.sg_plain.Playing.Given.{given_in}
-use Rattle.sg_members.specs.sg_sim.sg_script.declared.multi.MultiCall.{MultiCall}
-use Rattle.sg_members.specs.sg_sim.sg_script.declared.multi.MultiScript.{MultiScript}
-use Rattle.sg_members.specs.sg_sim.sg_seat.WorldView.{Seat, is_blocked_phase, no_seat, seat_of}
+use Rattle.sg_multi.specs.Members.{view_in}
+use Rattle.sg_multi.specs.declared.member.Member.{Member}
+use Rattle.sg_multi.specs.sg_sim.sg_plain.Calls.{most_client}
+use Rattle.sg_multi.specs.sg_sim.sg_plain.Playing.Given.{given_in}
+use Rattle.sg_multi.specs.sg_sim.sg_script.declared.multi.MultiCall.{MultiCall}
+use Rattle.sg_multi.specs.sg_sim.sg_script.declared.multi.MultiScript.{MultiScript}
+use Rattle.sg_multi.specs.sg_sim.sg_clients.WorldView.{Seat, is_blocked_phase, no_seat, seat_of}
 use Rattle.sg_multi.specs.Calls.{multi_calls}
 
 -- the seat of a client in the world at a place, from 0; that of nobody where there is no such place

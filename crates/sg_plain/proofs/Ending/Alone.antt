@@ -17,15 +17,15 @@ use Rattle.sg_facts.specs.Inside.Rows.{refused_or}
 use Rattle.sg_facts.specs.Object.{Object, object_of}
 use Rattle.sg_facts.specs.declared.entry.Entry.{Entry}
 use Rattle.sg_facts.specs.declared.row.Row.{Row}
-use Rattle.sg_seat.specs.sg_hist.Clients.{calls_of}
-use Rattle.sg_seat.specs.sg_hist.declared.ended.End.{End}
-use Rattle.sg_seat.specs.sg_hist.declared.ended.End.TheVariants.{Done, Blocked}
+use Rattle.sg_clients.specs.sg_hist.Clients.{calls_of}
+use Rattle.sg_clients.specs.sg_hist.declared.ended.End.{End}
+use Rattle.sg_clients.specs.sg_hist.declared.ended.End.TheVariants.{Done, Blocked}
 use Rattle.sg_plain.specs.Calls.{AreEnds, IsEnd, ascending_from, call_after, callers, most_client, resolved_by, script_calls}
 use Rattle.sg_plain.specs.Inside.Turns.{IsPlainPlay, after_call, after_guard, after_turn, handed_over, is_under_way, is_woken_by, resolved, served, stage_after, waits_on}
 use Rattle.sg_plain.specs.Inside.Kept.{EachEnd, GetsPlainAlone}
 use Rattle.sg_plain.specs.OneService.{one_service, workload_of}
 use Rattle.sg_plain.specs.Plain.{PlainPhase, Player, Stage, after_wakes, appended, at_phase, blocked, first_stage, holding, left_schedule, may_turn, next_stage, next_turn, player_at, player_of, ready, replied, stage_from, through, turned, woken_phase}
-use Rattle.sg_seat.specs.sg_hist.Wakes.{wakes}
+use Rattle.sg_clients.specs.sg_hist.Wakes.{wakes}
 use Rattle.sg_plain.specs.Promises.{AreFirstCalls, AreScriptsCalls}
 use Rattle.sg_plain.specs.Script.{call_fits, calls_fit}
 use Rattle.sg_plain.proofs.Ending.Plays.{first_is_stage, goes_on, has_next, next_is, nobody}

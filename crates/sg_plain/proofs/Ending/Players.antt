@@ -9,7 +9,7 @@ use Rattle.sg_facts.specs.declared.row.Row.{Row}
 use Rattle.sg_plain.specs.Calls.{call_after, script_calls}
 use Rattle.sg_plain.specs.Plain.{PlainPhase, Player, after_wakes, blocked, holding, ready, replied, through, woken_phase}
 use Rattle.sg_plain.specs.Inside.Turns.{is_woken_by, waits_on}
-use Rattle.sg_seat.specs.sg_hist.Wakes.{wakes}
+use Rattle.sg_clients.specs.sg_hist.Wakes.{wakes}
 use Rattle.sg_plain.specs.Ending.Left.{FitScript, FitsCalls, all_before, all_to_come, entries_to_come, turns_before}
 use Rattle.sg_script.specs.declared.script.Script.{Script}
 use Rattle.sg_script.specs.declared.script.ScriptCall.{ScriptCall}

@@ -7,15 +7,15 @@ use Rattle.sg_facts.specs.sg_base.declared.call.Call.{Call}
 use Rattle.sg_facts.specs.declared.entry.Entry.{Entry}
 use Rattle.sg_facts.specs.Facts.{Facts, fun_at}
 use Rattle.sg_facts.specs.Interface.{Declared}
-use Rattle.sg_seat.specs.sg_hist.Clients.{calls_of}
+use Rattle.sg_clients.specs.sg_hist.Clients.{calls_of}
 use Rattle.sg_plain.specs.Calls.{call_after, resolved_by, script_calls}
 use Rattle.sg_plain.specs.Inside.Turns.{resolved}
 use Rattle.sg_plain.specs.Promises.{AreFirstCalls}
 use Rattle.sg_script.specs.declared.script.Script.{Script}
 use Rattle.sg_script.specs.declared.script.ScriptCall.{ScriptCall}
-use Rattle.sg_seat.specs.WorldView.{Seat, seat_in}
+use Rattle.sg_clients.specs.WorldView.{Seat, seat_in}
 use Rattle.sg_plain.specs.Script.{desc_among, values_of}
-use Rattle.sg_seat.proofs.Lines.{same_or_other}
+use Rattle.sg_clients.proofs.Lines.{same_or_other}
 use Rattle.sg_facts.proofs.Replaying.Found.{other_test, same_test}
 use Rattle.sg_plain.specs.Playing.Callers.{AreCallers, EntersCall, EntersNothing, IsCaller, KeepsCall, StepsOn}
 use Rattle.sg_plain.specs.Playing.Playable.{IsPlayable}

@@ -7,18 +7,18 @@ use Rattle.sg_facts.specs.Facts.{Facts}
 use Rattle.sg_facts.specs.Interface.{Declared}
 use Rattle.sg_facts.specs.Legal.{Table, answer}
 use Rattle.sg_facts.specs.Object.{object_of}
-use Rattle.sg_seat.specs.sg_hist.Clients.{calls_of}
-use Rattle.sg_seat.specs.sg_hist.Recovered.{waiting}
-use Rattle.sg_seat.specs.sg_hist.Inside.Parts.{waiting_in}
-use Rattle.sg_seat.specs.sg_hist.declared.ended.End.TheVariants.{Done, Blocked as Waits}
+use Rattle.sg_clients.specs.sg_hist.Clients.{calls_of}
+use Rattle.sg_clients.specs.sg_hist.Recovered.{waiting}
+use Rattle.sg_clients.specs.sg_hist.Inside.Parts.{waiting_in}
+use Rattle.sg_clients.specs.sg_hist.declared.ended.End.TheVariants.{Done, Blocked as Waits}
 use Rattle.sg_plain.specs.Calls.{AreEnds, IsEnd, ascending_from, script_calls}
 use Rattle.sg_plain.specs.Inside.Kept.{EachEnd}
 use Rattle.sg_plain.specs.Promises.{AreFirstCalls}
 use Rattle.sg_script.specs.declared.script.Script.{Script}
 use Rattle.sg_script.specs.declared.script.ScriptCall.{ScriptCall}
-use Rattle.sg_seat.specs.WorldView.{Seat, is_blocked_phase, is_offered, no_seat, offered_by, seat_in}
-use Rattle.sg_seat.specs.declared.phase.Phase.{Phase}
-use Rattle.sg_seat.specs.declared.phase.Phase.TheVariants.{Idle, Asked, Held, Receipted, Blocked, Left}
+use Rattle.sg_clients.specs.WorldView.{Seat, is_blocked_phase, is_offered, no_seat, offered_by, seat_in}
+use Rattle.sg_clients.specs.declared.phase.Phase.{Phase}
+use Rattle.sg_clients.specs.declared.phase.Phase.TheVariants.{Idle, Asked, Held, Receipted, Blocked, Left}
 use Rattle.sg_plain.specs.Playing.Callers.{IsCaller}
 use Rattle.sg_plain.specs.Playing.Ends.{end_of, ends_from, has_calls}
 use Rattle.sg_plain.specs.Playing.Plays.{IsPlaying}

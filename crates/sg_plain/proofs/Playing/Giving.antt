@@ -4,11 +4,11 @@ use Rattle.std.specs.declared.option.Option.{Option}
 use Rattle.std.proofs.lemmas.Option.{unwrap_or-slice_get}
 use Rattle.sg_facts.specs.declared.entry.Entry.{Entry}
 use Rattle.sg_facts.specs.Interface.{Declared}
-use Rattle.sg_seat.specs.sg_hist.Clients.{calls_of}
-use Rattle.sg_seat.specs.sg_hist.Inside.Reads.{desc_of}
-use Rattle.sg_seat.specs.WorldView.{Seat, seat_in}
+use Rattle.sg_clients.specs.sg_hist.Clients.{calls_of}
+use Rattle.sg_clients.specs.sg_hist.Inside.Reads.{desc_of}
+use Rattle.sg_clients.specs.WorldView.{Seat, seat_in}
 use Rattle.sg_script.specs.declared.script.Script.{Script}
-use Rattle.sg_seat.proofs.Lines.{same_or_other}
+use Rattle.sg_clients.proofs.Lines.{same_or_other}
 use Rattle.sg_plain.specs.Playing.Callers.{AreCallers, HandsOn, StepsOn, handed}
 use Rattle.sg_plain.specs.Playing.Given.{GaveIds, HandsToClient, HandsReply, HaveGiven, given_in, with_handed}
 use Rattle.sg_plain.specs.Playing.Playable.{IsPlayable}

@@ -4,10 +4,10 @@ use Rattle.std.specs.Prelude.{◌&&◌}
 use Rattle.sg_facts.specs.sg_base.declared.call.Call.{Call}
 use Rattle.sg_facts.specs.sg_base.declared.reply.Reply.{Reply}
 use Rattle.sg_facts.specs.declared.entry.Entry.{Entry}
-use Rattle.sg_seat.specs.WorldView.{Seat, is_blocked_phase, is_offered, seat_in, woken_seat}
-use Rattle.sg_seat.specs.declared.phase.Phase.{Phase}
-use Rattle.sg_seat.specs.declared.phase.Phase.TheVariants.{Idle, Asked, Held, Receipted, Blocked, Left}
-use Rattle.sg_seat.proofs.Lines.{length_map, length_set, same_or_other, seat_here, seat_there, seat_woken}
+use Rattle.sg_clients.specs.WorldView.{Seat, is_blocked_phase, is_offered, seat_in, woken_seat}
+use Rattle.sg_clients.specs.declared.phase.Phase.{Phase}
+use Rattle.sg_clients.specs.declared.phase.Phase.TheVariants.{Idle, Asked, Held, Receipted, Blocked, Left}
+use Rattle.sg_clients.proofs.Lines.{length_map, length_set, same_or_other, seat_here, seat_there, seat_woken}
 use Rattle.sg_plain.specs.Playing.Callers.{EntersCall, EntersNothing, KeepsCall, handed, is_receipted}
 
 was_offered : (p : Phase) → is_blocked_phase p ≡ true → is_offered p ≡ true

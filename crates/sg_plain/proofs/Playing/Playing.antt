@@ -3,13 +3,13 @@ use Rattle.std.proofs.Common.{◌≡◌, ◌≢◌, ◌⊎◌, ℕ, ◌≤◌, t
 use Rattle.std.specs.declared.option.Option.{Option}
 use Rattle.sg_facts.specs.declared.entry.Entry.{Entry}
 use Rattle.sg_facts.specs.Interface.{Declared}
-use Rattle.sg_seat.specs.sg_hist.Clients.{calls_of}
-use Rattle.sg_seat.specs.sg_hist.Inside.Reads.{desc_of}
+use Rattle.sg_clients.specs.sg_hist.Clients.{calls_of}
+use Rattle.sg_clients.specs.sg_hist.Inside.Reads.{desc_of}
 use Rattle.sg_plain.specs.Calls.{call_after}
 use Rattle.sg_plain.specs.Promises.{AreScriptsCalls}
 use Rattle.sg_script.specs.declared.script.Script.{Script}
-use Rattle.sg_seat.specs.WorldView.{Seat, is_offered, seat_in}
-use Rattle.sg_seat.proofs.Lines.{same_or_other}
+use Rattle.sg_clients.specs.WorldView.{Seat, is_offered, seat_in}
+use Rattle.sg_clients.proofs.Lines.{same_or_other}
 use Rattle.sg_plain.specs.Playing.Callers.{EntersNothing, StepsOn, handed, is_setting_up}
 use Rattle.sg_plain.specs.Playing.Given.{HandsToClient, with_handed}
 use Rattle.sg_plain.specs.Playing.Plays.{IsPlaying}

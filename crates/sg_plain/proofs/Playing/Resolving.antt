@@ -10,8 +10,8 @@ use Rattle.sg_facts.specs.declared.shape.Kind.{Kind}
 use Rattle.sg_facts.specs.declared.shape.Kind.TheVariants.{Desc, Parent, Word as IsWord, Text as IsText}
 use Rattle.sg_facts.specs.Facts.{Facts, fun_at}
 use Rattle.sg_facts.specs.Interface.{Declared, declares}
-use Rattle.sg_seat.specs.sg_hist.Clients.{calls_of}
-use Rattle.sg_seat.specs.sg_hist.Reading.{desc_in}
+use Rattle.sg_clients.specs.sg_hist.Clients.{calls_of}
+use Rattle.sg_clients.specs.sg_hist.Reading.{desc_in}
 use Rattle.sg_plain.specs.Calls.{resolved_by}
 use Rattle.sg_plain.specs.Promises.{AreFirstCalls}
 use Rattle.sg_script.specs.declared.script.Arg.{Arg}

@@ -4,11 +4,11 @@ use Rattle.std.specs.Prelude.{◌==◌, ◌&&◌, nat_lt}
 use Rattle.std.proofs.lemmas.Bool.{and_parts}
 use Rattle.std.proofs.lemmas.Bool.Decides.{nat_tests}
 use Rattle.sg_facts.specs.declared.entry.Entry.{Entry}
-use Rattle.sg_seat.specs.sg_hist.Clients.{calls_of}
+use Rattle.sg_clients.specs.sg_hist.Clients.{calls_of}
 use Rattle.sg_script.specs.declared.script.Script.{Script}
 use Rattle.sg_facts.proofs.Replaying.Found.{same_test}
-use Rattle.sg_seat.proofs.Lines.{same_or_other}
-use Rattle.sg_seat.specs.WorldView.{Seat, is_offered, seat_in}
+use Rattle.sg_clients.proofs.Lines.{same_or_other}
+use Rattle.sg_clients.specs.WorldView.{Seat, is_offered, seat_in}
 use Rattle.sg_plain.specs.Playing.Callers.{EntersCall, EntersNothing, HandsOn, SetsUpFirst, StepsOn, all_of_first, handed, is_receipted, is_setting_up}
 
 -- ---- entries of the first client

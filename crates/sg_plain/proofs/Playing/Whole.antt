@@ -7,12 +7,12 @@ use Rattle.std.proofs.lemmas.List.Elements.{filter-append}
 use Rattle.sg_facts.specs.sg_base.Lists.{Each}
 use Rattle.sg_facts.specs.declared.entry.Entry.{Entry}
 use Rattle.sg_facts.specs.Facts.{Facts}
-use Rattle.sg_seat.specs.sg_hist.Clients.{calls_of}
+use Rattle.sg_clients.specs.sg_hist.Clients.{calls_of}
 use Rattle.sg_plain.specs.Calls.{ascending_from, callers, most_client, script_calls}
 use Rattle.sg_plain.specs.Promises.{AreFirstCalls, AreScriptsCalls}
 use Rattle.sg_script.specs.declared.script.Script.{Script}
 use Rattle.sg_script.specs.declared.script.ScriptCall.{ScriptCall}
-use Rattle.sg_seat.specs.WorldView.{Seat}
+use Rattle.sg_clients.specs.WorldView.{Seat}
 use Rattle.sg_facts.proofs.Replaying.Found.{other_test, same_test}
 use Rattle.sg_plain.specs.Playing.Callers.{AreCallers, SetsUpFirst}
 use Rattle.sg_plain.specs.Playing.Ends.{has_calls}

@@ -9,11 +9,11 @@ use Rattle.sg_facts.specs.declared.trace.Tag.TheVariants.{Walk, Load, Client}
 use Rattle.sg_facts.specs.Facts.{Facts}
 use Rattle.sg_facts.specs.Interface.{Declared}
 use Rattle.sg_facts.specs.Legal.{Table}
-use Rattle.sg_seat.specs.sg_hist.declared.ended.End.{End}
-use Rattle.sg_seat.specs.sg_hist.Ending.{client_of}
-use Rattle.sg_seat.specs.sg_hist.Reading.{Position, places_in}
-use Rattle.sg_seat.specs.sg_hist.Wakes.{has_blocked}
-use Rattle.sg_seat.specs.sg_hist.Recovered.{is_blocked}
+use Rattle.sg_clients.specs.sg_hist.declared.ended.End.{End}
+use Rattle.sg_clients.specs.sg_hist.Ending.{client_of}
+use Rattle.sg_clients.specs.sg_hist.Reading.{Position, places_in}
+use Rattle.sg_clients.specs.sg_hist.Wakes.{has_blocked}
+use Rattle.sg_clients.specs.sg_hist.Recovered.{is_blocked}
 use Rattle.sg_script.specs.declared.script.Script.{Script}
 use Rattle.sg_plain.specs.Calls.{IsEnd, callers}
 use Rattle.sg_plain.specs.Promises.{is_woken_first, up_to_last}

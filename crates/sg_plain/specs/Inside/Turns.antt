@@ -14,7 +14,7 @@ use Rattle.sg_facts.specs.declared.entry.Entry.{Entry}
 use Rattle.sg_facts.specs.declared.row.Row.{Row}
 use Rattle.sg_script.specs.declared.script.Script.{Script}
 use Rattle.sg_script.specs.declared.script.ScriptCall.{ScriptCall}
-use Rattle.sg_seat.specs.sg_hist.Wakes.{wakes}
+use Rattle.sg_clients.specs.sg_hist.Wakes.{wakes}
 use Rattle.sg_plain.specs.Calls.{ascending_from, call_after, resolved_by}
 use Rattle.sg_plain.specs.OneService.{one_service, workload_of}
 use Rattle.sg_plain.specs.Plain.{IsPlay, PlainPhase, Stage, System, Workload, appended, at_phase, blocked, first_stage, gone_on, holding, left_schedule, may_turn, player_of, ready, replied, stage_from, through, turned}

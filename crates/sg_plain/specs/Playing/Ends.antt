@@ -1,10 +1,10 @@
 -- How the clients of a play end, by their seats.
 use Rattle.std.specs.Prelude.{ℕ, ◌+◌, ◌==◌, Bool, not, if◌then◌else◌, List, [], ◌∷◌, length}
-use Rattle.sg_seat.specs.sg_hist.declared.ended.End.{End}
-use Rattle.sg_seat.specs.sg_hist.declared.ended.End.TheVariants.{Done, Blocked}
+use Rattle.sg_clients.specs.sg_hist.declared.ended.End.{End}
+use Rattle.sg_clients.specs.sg_hist.declared.ended.End.TheVariants.{Done, Blocked}
 use Rattle.sg_plain.specs.Calls.{script_calls}
 use Rattle.sg_script.specs.declared.script.Script.{Script}
-use Rattle.sg_seat.specs.WorldView.{Seat, is_blocked_phase}
+use Rattle.sg_clients.specs.WorldView.{Seat, is_blocked_phase}
 
 -- whether a client has a call
 abbrev pub has_calls : Script → ℕ → Bool

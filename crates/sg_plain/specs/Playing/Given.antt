@@ -2,10 +2,10 @@
 use Rattle.std.specs.Prelude.{ℕ, ◌≡◌, ◌+◌, ◌-◌, ◌≤◌, List, [], ◌∷◌, ◌++◌, None, Some, length, map, slice_get, slice_set, take, unwrap_or}
 use Rattle.std.specs.declared.option.Option.{Option}
 use Rattle.sg_facts.specs.declared.entry.Entry.{Entry}
-use Rattle.sg_seat.specs.sg_hist.Clients.{calls_of}
-use Rattle.sg_seat.specs.sg_hist.Inside.Reads.{desc_of}
+use Rattle.sg_clients.specs.sg_hist.Clients.{calls_of}
+use Rattle.sg_clients.specs.sg_hist.Inside.Reads.{desc_of}
 use Rattle.sg_plain.specs.Playing.Callers.{handed}
-use Rattle.sg_seat.specs.WorldView.{Seat, seat_in}
+use Rattle.sg_clients.specs.WorldView.{Seat, seat_in}
 
 -- entries' replies give these descriptors, one each, 0 for none
 abbrev pub GaveIds : List Entry → List ℕ → Type 0

@@ -7,7 +7,7 @@ use Rattle.sg_plain.specs.Playing.Callers.{AreCallers, SetsUpFirst}
 use Rattle.sg_plain.specs.Playing.Given.{HaveGiven}
 use Rattle.sg_plain.specs.Playing.Playable.{IsPlayable}
 use Rattle.sg_script.specs.declared.script.Script.{Script}
-use Rattle.sg_seat.specs.WorldView.{Seat}
+use Rattle.sg_clients.specs.WorldView.{Seat}
 
 -- its script may be played, there is a seat for each client up to the greatest, the calls that were made are the script's, and those of
 -- the setup came first

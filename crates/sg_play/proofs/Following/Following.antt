@@ -22,14 +22,14 @@ use Rattle.sg_play.specs.Recovering.{RecoversSoFar}
 use Rattle.sg_play.specs.Turning.{StepsInTurn, behind_step, with_call, with_leaving, with_offer}
 use Rattle.sg_plain.specs.Playing.Plays.{IsPlaying}
 use Rattle.sg_plain.specs.Playing.Turns.{is_free_phase}
-use Rattle.sg_plain.proofs.sg_seat.Lines.{seat_here}
+use Rattle.sg_plain.proofs.sg_clients.Lines.{seat_here}
 use Rattle.sg_plain.specs.sg_script.declared.script.Script.{Script}
 use Rattle.sg_plain.specs.sg_script.declared.script.ScriptCall.{ScriptCall}
-use Rattle.sg_plain.specs.sg_seat.WorldView.{Seat, WorldView, happened, in_phase, is_left_phase, new_world, no_seat, offered, seat_of, with_leave, with_mark, with_seat}
-use Rattle.sg_plain.specs.sg_seat.declared.mark.MarkKind.{MarkKind}
-use Rattle.sg_plain.specs.sg_seat.declared.mark.MarkKind.TheVariants.{Leave, Offer}
-use Rattle.sg_plain.specs.sg_seat.declared.phase.Phase.{Phase as SeatPhase}
-use Rattle.sg_plain.specs.sg_seat.declared.phase.Phase.TheVariants.{Idle, Asked, Held, Receipted, Blocked, Left}
+use Rattle.sg_plain.specs.sg_clients.WorldView.{Seat, WorldView, happened, in_phase, is_left_phase, new_world, no_seat, offered, seat_of, with_leave, with_mark, with_seat}
+use Rattle.sg_plain.specs.sg_clients.declared.mark.MarkKind.{MarkKind}
+use Rattle.sg_plain.specs.sg_clients.declared.mark.MarkKind.TheVariants.{Leave, Offer}
+use Rattle.sg_plain.specs.sg_clients.declared.phase.Phase.{Phase as SeatPhase}
+use Rattle.sg_plain.specs.sg_clients.declared.phase.Phase.TheVariants.{Idle, Asked, Held, Receipted, Blocked, Left}
 use Rattle.sg_world.specs.declared.did.Did.{Did}
 use Rattle.sg_world.specs.declared.did.Did.TheVariants.{Answered, Blocked as Waits, Booted, Loaded, Lost, Replayed, Served, Skipped, Struck}
 use Rattle.sg_world.specs.Steps.{Steps, WantsMemory}

@@ -17,9 +17,9 @@ use Rattle.sg_plain.specs.Playing.Callers.{IsCaller, handed}
 use Rattle.sg_plain.proofs.Playing.Calling.{IsNext, next_of}
 use Rattle.sg_plain.specs.sg_script.declared.script.Script.{Script}
 use Rattle.sg_plain.specs.sg_script.declared.script.ScriptCall.{ScriptCall}
-use Rattle.sg_plain.specs.sg_seat.WorldView.{Seat, no_seat, seat_in, wakes_seat, woken_seat}
-use Rattle.sg_plain.specs.sg_seat.declared.phase.Phase.{Phase as SeatPhase}
-use Rattle.sg_plain.specs.sg_seat.declared.phase.Phase.TheVariants.{Idle, Asked, Held, Receipted, Blocked, Left}
+use Rattle.sg_plain.specs.sg_clients.WorldView.{Seat, no_seat, seat_in, wakes_seat, woken_seat}
+use Rattle.sg_plain.specs.sg_clients.declared.phase.Phase.{Phase as SeatPhase}
+use Rattle.sg_plain.specs.sg_clients.declared.phase.Phase.TheVariants.{Idle, Asked, Held, Receipted, Blocked, Left}
 use Rattle.sg_play.specs.Following.Stages.{player_by, players_by}
 
 -- ---- look-ups

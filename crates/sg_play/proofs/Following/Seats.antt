@@ -3,9 +3,9 @@ use Rattle.std.proofs.Common.{◌≡◌, ◌≢◌, ◌⊎◌, ℕ, ◌-◌, ◌
 use Rattle.std.specs.Prelude.{◌&&◌}
 use Rattle.sg_facts.specs.sg_base.declared.call.Call.{Call}
 use Rattle.sg_facts.specs.Facts.{Facts}
-use Rattle.sg_plain.proofs.sg_seat.Lines.{same_or_other, seat_here, seat_there, seat_woken}
-use Rattle.sg_plain.specs.sg_seat.WorldView.{Seat, is_blocked_phase, seat_in, woken_seat}
-use Rattle.sg_plain.specs.sg_seat.declared.phase.Phase.TheVariants.{Asked, Held, Receipted}
+use Rattle.sg_plain.proofs.sg_clients.Lines.{same_or_other, seat_here, seat_there, seat_woken}
+use Rattle.sg_plain.specs.sg_clients.WorldView.{Seat, is_blocked_phase, seat_in, woken_seat}
+use Rattle.sg_plain.specs.sg_clients.declared.phase.Phase.TheVariants.{Asked, Held, Receipted}
 use Rattle.sg_play.specs.Following.Follows.{HoldsSo}
 
 -- a reply that is held is of the first boot

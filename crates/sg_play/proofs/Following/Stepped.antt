@@ -31,12 +31,12 @@ use Rattle.sg_plain.specs.Playing.Plays.{IsPlaying}
 use Rattle.sg_plain.specs.Playing.Turns.{is_free_phase}
 use Rattle.sg_plain.proofs.Playing.Calling.{its_client, next_of}
 use Rattle.sg_plain.proofs.Playing.Lines.{handed_woken}
-use Rattle.sg_plain.proofs.sg_seat.Lines.{length_map, length_set, seat_here, seat_woken}
+use Rattle.sg_plain.proofs.sg_clients.Lines.{length_map, length_set, seat_here, seat_woken}
 use Rattle.sg_plain.specs.sg_hist.Growing.{IsNextItem, noted, place_after, struck}
 use Rattle.sg_plain.specs.sg_script.declared.script.Script.{Script}
-use Rattle.sg_plain.specs.sg_seat.WorldView.{Seat, WorldView, answered_to, boot_number, committed, given_to, is_offered, item_noted, no_reply, rebooted, seat_in, seat_of, struck_at, unanswered, wakes_seat, woken_seat}
-use Rattle.sg_plain.specs.sg_seat.declared.phase.Phase.{Phase as SeatPhase}
-use Rattle.sg_plain.specs.sg_seat.declared.phase.Phase.TheVariants.{Idle, Asked, Held, Receipted, Blocked, Left}
+use Rattle.sg_plain.specs.sg_clients.WorldView.{Seat, WorldView, answered_to, boot_number, committed, given_to, is_offered, item_noted, no_reply, rebooted, seat_in, seat_of, struck_at, unanswered, wakes_seat, woken_seat}
+use Rattle.sg_plain.specs.sg_clients.declared.phase.Phase.{Phase as SeatPhase}
+use Rattle.sg_plain.specs.sg_clients.declared.phase.Phase.TheVariants.{Idle, Asked, Held, Receipted, Blocked, Left}
 use Rattle.sg_world.specs.sg_recovery_laws.LastItem.LastPlace.{HaveItems, last_place}
 use Rattle.sg_facts.proofs.Replaying.Found.{same_test}
 use Rattle.sg_world.specs.declared.did.Did.{Did}

@@ -17,11 +17,11 @@ use Rattle.sg_plain.specs.Plain.{PlainPhase, Player, Stage, appended, at_phase, 
 use Rattle.sg_plain.specs.Inside.Turns.{after_call, after_guard, handed_over, served}
 use Rattle.sg_plain.specs.Playing.Callers.{AreCallers, IsCaller, handed, is_receipted}
 use Rattle.sg_plain.specs.Playing.Turns.{is_free_phase}
-use Rattle.sg_plain.proofs.sg_seat.Lines.{length_map}
+use Rattle.sg_plain.proofs.sg_clients.Lines.{length_map}
 use Rattle.sg_plain.specs.sg_script.declared.script.Script.{Script}
-use Rattle.sg_plain.specs.sg_seat.WorldView.{Seat, is_offered, no_seat, seat_in, wakes_seat, woken_seat}
-use Rattle.sg_plain.specs.sg_seat.declared.phase.Phase.{Phase as SeatPhase}
-use Rattle.sg_plain.specs.sg_seat.declared.phase.Phase.TheVariants.{Idle, Asked, Held, Receipted, Blocked, Left}
+use Rattle.sg_plain.specs.sg_clients.WorldView.{Seat, is_offered, no_seat, seat_in, wakes_seat, woken_seat}
+use Rattle.sg_plain.specs.sg_clients.declared.phase.Phase.{Phase as SeatPhase}
+use Rattle.sg_plain.specs.sg_clients.declared.phase.Phase.TheVariants.{Idle, Asked, Held, Receipted, Blocked, Left}
 use Rattle.sg_play.specs.Following.Stages.{phase_by, player_by, players_by}
 use Rattle.sg_play.proofs.Following.Players.{get_player, has_more, set_player, woken_players}
 

@@ -12,9 +12,9 @@ use Rattle.sg_plain.specs.Playing.Callers.{IsCaller, is_setting_up}
 use Rattle.sg_plain.specs.Playing.Plays.{IsPlaying}
 use Rattle.sg_plain.specs.Playing.Turns.{may_go, may_take_turn}
 use Rattle.sg_plain.specs.sg_script.declared.script.Script.{Script}
-use Rattle.sg_plain.specs.sg_seat.WorldView.{Seat, WorldView, seat_of}
-use Rattle.sg_plain.specs.sg_seat.declared.phase.Phase.{Phase as SeatPhase}
-use Rattle.sg_plain.specs.sg_seat.declared.phase.Phase.TheVariants.{Idle, Asked, Held, Receipted, Blocked, Left}
+use Rattle.sg_plain.specs.sg_clients.WorldView.{Seat, WorldView, seat_of}
+use Rattle.sg_plain.specs.sg_clients.declared.phase.Phase.{Phase as SeatPhase}
+use Rattle.sg_plain.specs.sg_clients.declared.phase.Phase.TheVariants.{Idle, Asked, Held, Receipted, Blocked, Left}
 use Rattle.sg_play.specs.Following.Stages.{player_by, stage_of}
 use Rattle.sg_play.proofs.Following.Players.{get_player, has_more, length_players, no_player}
 

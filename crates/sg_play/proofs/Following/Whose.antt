@@ -14,7 +14,7 @@ use Rattle.sg_plain.specs.Playing.Callers.{is_setting_up}
 use Rattle.sg_plain.specs.Playing.Plays.{IsPlaying}
 use Rattle.sg_plain.specs.Playing.Turns.{NobodyGoes}
 use Rattle.sg_plain.specs.sg_script.declared.script.Script.{Script}
-use Rattle.sg_plain.specs.sg_seat.WorldView.{WorldView}
+use Rattle.sg_plain.specs.sg_clients.WorldView.{WorldView}
 use Rattle.sg_play.specs.Following.Stages.{IsNextTurn, stage_of}
 use Rattle.sg_play.proofs.Following.Turns.{clients_alike, setup_alike, turns_alike, turns_beyond}
 

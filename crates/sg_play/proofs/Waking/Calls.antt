@@ -20,7 +20,7 @@ use Rattle.sg_play.proofs.Offering.{no_desc}
 use Rattle.sg_world.proofs.sg_recovery_laws.Lists.{each_map}
 use Rattle.sg_plain.specs.sg_script.declared.script.Script.{Script}
 use Rattle.sg_plain.specs.sg_script.declared.script.ScriptCall.{ScriptCall}
-use Rattle.sg_plain.specs.sg_seat.WorldView.{Seat, is_offered}
+use Rattle.sg_plain.specs.sg_clients.WorldView.{Seat, is_offered}
 use Rattle.sg_play.proofs.Waking.Private.{IsFitCall}
 
 -- ---- numbers

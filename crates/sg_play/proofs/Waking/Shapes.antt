@@ -6,7 +6,7 @@ use Rattle.sg_plain.specs.sg_hist.Clients.{calls_of}
 use Rattle.sg_plain.proofs.Playing.Calling.{its_client, next_of}
 use Rattle.sg_plain.specs.Playing.Callers.{IsCaller}
 use Rattle.sg_plain.specs.sg_script.declared.script.Script.{Script}
-use Rattle.sg_plain.specs.sg_seat.WorldView.{Seat, is_offered}
+use Rattle.sg_plain.specs.sg_clients.WorldView.{Seat, is_offered}
 
 -- a call that isn't answered is its client's, under the next number
 pub call_is_own : (facts : Facts) (script : Script) (history : List Entry) (client : ℕ) (s : Seat) → IsCaller facts script history client s → is_offered s.phase ≡ true → s.call.client ≡ client

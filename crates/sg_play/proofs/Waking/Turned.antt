@@ -9,14 +9,14 @@ use Rattle.sg_facts.specs.Object.{empty_object, object_of}
 use Rattle.sg_facts.specs.Trace.{Boot}
 use Rattle.sg_plain.specs.sg_hist.Recovered.{is_clients}
 use Rattle.sg_play.specs.Recovering.{RecoversSoFar}
-use Rattle.sg_plain.proofs.sg_seat.Lines.{length_set, seat_here}
+use Rattle.sg_plain.proofs.sg_clients.Lines.{length_set, seat_here}
 use Rattle.sg_plain.specs.Playing.Plays.{IsPlaying}
 use Rattle.sg_plain.specs.sg_hist.Growing.{noted}
 use Rattle.sg_plain.specs.sg_script.declared.script.Script.{Script}
-use Rattle.sg_plain.specs.sg_seat.WorldView.{Seat, WorldView, happened, in_phase, is_left_phase, is_offered, no_reply, seat_in, seat_of, wakes_seat, with_leave, with_mark}
-use Rattle.sg_plain.specs.sg_seat.declared.mark.MarkKind.TheVariants.{Leave}
-use Rattle.sg_plain.specs.sg_seat.declared.phase.Phase.{Phase}
-use Rattle.sg_plain.specs.sg_seat.declared.phase.Phase.TheVariants.{Idle, Asked, Held, Receipted, Blocked, Left}
+use Rattle.sg_plain.specs.sg_clients.WorldView.{Seat, WorldView, happened, in_phase, is_left_phase, is_offered, no_reply, seat_in, seat_of, wakes_seat, with_leave, with_mark}
+use Rattle.sg_plain.specs.sg_clients.declared.mark.MarkKind.TheVariants.{Leave}
+use Rattle.sg_plain.specs.sg_clients.declared.phase.Phase.{Phase}
+use Rattle.sg_plain.specs.sg_clients.declared.phase.Phase.TheVariants.{Idle, Asked, Held, Receipted, Blocked, Left}
 use Rattle.sg_world.proofs.sg_world_laws.Ending.Seats.{here_entered, length_entered}
 use Rattle.sg_play.proofs.Waking.Shapes.{call_is_own}
 use Rattle.sg_world.proofs.sg_world_laws.Ending.Shapes.{answered_seats, entry_with, given_seats, seat_behind, woken}

@@ -22,15 +22,15 @@ use Rattle.sg_plain.specs.sg_hist.Recovered.{is_clients}
 use Rattle.sg_plain.specs.sg_hist.Wakes.{has_blocked, wakes, wakes_at}
 use Rattle.sg_plain.specs.Inside.Kept.{IsWokenBetween}
 use Rattle.sg_play.specs.Recovering.{RecoversSoFar}
-use Rattle.sg_plain.proofs.sg_seat.Lines.{same_or_other}
+use Rattle.sg_plain.proofs.sg_clients.Lines.{same_or_other}
 use Rattle.sg_plain.specs.Playing.Callers.{IsCaller}
 use Rattle.sg_plain.specs.Playing.Plays.{IsPlaying}
 use Rattle.sg_plain.proofs.sg_hist.Growing.{places-booted, places-struck}
 use Rattle.sg_plain.specs.sg_hist.Growing.{IsGrown, IsOfNoEntry, booted, noted, struck}
 use Rattle.sg_plain.specs.sg_script.declared.script.Script.{Script}
-use Rattle.sg_plain.specs.sg_seat.WorldView.{Seat, WorldView, is_blocked_phase, is_held_phase, is_offered, seat_in, seat_of, wakes_seat, woken_seat}
-use Rattle.sg_plain.specs.sg_seat.declared.phase.Phase.{Phase}
-use Rattle.sg_plain.specs.sg_seat.declared.phase.Phase.TheVariants.{Idle, Asked, Held, Receipted, Blocked, Left}
+use Rattle.sg_plain.specs.sg_clients.WorldView.{Seat, WorldView, is_blocked_phase, is_held_phase, is_offered, seat_in, seat_of, wakes_seat, woken_seat}
+use Rattle.sg_plain.specs.sg_clients.declared.phase.Phase.{Phase}
+use Rattle.sg_plain.specs.sg_clients.declared.phase.Phase.TheVariants.{Idle, Asked, Held, Receipted, Blocked, Left}
 use Rattle.sg_world.specs.sg_recovery_laws.LastItem.LastPlace.{last_place}
 use Rattle.sg_play.proofs.Waking.Between.{between_same, own_tag}
 use Rattle.sg_play.proofs.Waking.Calls.{entries_below, fit_call}

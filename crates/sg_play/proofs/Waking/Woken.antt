@@ -17,8 +17,8 @@ use Rattle.sg_plain.specs.Inside.Kept.{IsWokenBetween}
 use Rattle.sg_plain.specs.sg_hist.Wakes.{has_blocked, wakes_at}
 use Rattle.sg_world.proofs.sg_recovery_laws.Lists.{each_map, each_push}
 use Rattle.sg_plain.specs.sg_hist.Growing.{IsGrown, booted, noted, struck}
-use Rattle.sg_plain.specs.sg_seat.WorldView.{Seat, is_held_phase, is_offered}
-use Rattle.sg_plain.specs.sg_seat.declared.phase.Phase.TheVariants.{Asked, Blocked}
+use Rattle.sg_plain.specs.sg_clients.WorldView.{Seat, is_held_phase, is_offered}
+use Rattle.sg_plain.specs.sg_clients.declared.phase.Phase.TheVariants.{Asked, Blocked}
 use Rattle.sg_world.specs.sg_recovery_laws.LastItem.LastPlace.{last_place}
 use Rattle.sg_play.proofs.Waking.Between.{since_more, since_same, since_woken}
 use Rattle.sg_play.proofs.Waking.Boots.{at_places, between_noted}

@@ -15,8 +15,8 @@ use Rattle.sg_plain.specs.Plain.{Stage}
 use Rattle.sg_plain.specs.Inside.Turns.{stage_after}
 use Rattle.sg_plain.specs.Promises.{is_in_first_boot}
 use Rattle.sg_plain.specs.sg_script.declared.script.Script.{Script}
-use Rattle.sg_plain.specs.sg_seat.WorldView.{Seat, WorldView, seat_in}
-use Rattle.sg_plain.specs.sg_seat.declared.phase.Phase.TheVariants.{Held, Receipted}
+use Rattle.sg_plain.specs.sg_clients.WorldView.{Seat, WorldView, seat_in}
+use Rattle.sg_plain.specs.sg_clients.declared.phase.Phase.TheVariants.{Held, Receipted}
 use Rattle.sg_world.specs.sg_world_laws.Setting.{Setting}
 use Rattle.sg_play.specs.Following.Stages.{stage_of}
 

@@ -6,9 +6,9 @@ use Rattle.sg_plain.specs.OneService.{workload_of}
 use Rattle.sg_plain.specs.Plain.{PlainPhase, Player, Stage, blocked, holding, left_schedule, next_turn, player_at, replied}
 use Rattle.sg_plain.specs.Playing.Callers.{handed}
 use Rattle.sg_plain.specs.sg_script.declared.script.Script.{Script}
-use Rattle.sg_plain.specs.sg_seat.WorldView.{Seat, WorldView}
-use Rattle.sg_plain.specs.sg_seat.declared.phase.Phase.{Phase as SeatPhase}
-use Rattle.sg_plain.specs.sg_seat.declared.phase.Phase.TheVariants.{Idle, Asked, Held, Receipted, Blocked, Left}
+use Rattle.sg_plain.specs.sg_clients.WorldView.{Seat, WorldView}
+use Rattle.sg_plain.specs.sg_clients.declared.phase.Phase.{Phase as SeatPhase}
+use Rattle.sg_plain.specs.sg_clients.declared.phase.Phase.TheVariants.{Idle, Asked, Held, Receipted, Blocked, Left}
 
 -- what a client is at, by the phase of its seat and the reply there; and what it is at where it has no reply to come and doesn't wait
 abbrev pub phase_by : SeatPhase → Reply → PlainPhase → PlainPhase

@@ -12,9 +12,9 @@ use Rattle.sg_plain.specs.sg_hist.Reading.{last_places, Position, is_tagged, las
 use Rattle.sg_plain.specs.sg_hist.Inside.Parts.{waking_entries}
 use Rattle.sg_plain.specs.Inside.Kept.{IsWokenBetween}
 use Rattle.sg_plain.specs.sg_hist.Wakes.{has_blocked, wakes_at}
-use Rattle.sg_plain.specs.sg_seat.WorldView.{Seat, WorldView, is_held_phase, is_offered}
-use Rattle.sg_plain.specs.sg_seat.declared.phase.Phase.{Phase}
-use Rattle.sg_plain.specs.sg_seat.declared.phase.Phase.TheVariants.{Idle, Asked, Held, Receipted, Blocked, Left}
+use Rattle.sg_plain.specs.sg_clients.WorldView.{Seat, WorldView, is_held_phase, is_offered}
+use Rattle.sg_plain.specs.sg_clients.declared.phase.Phase.{Phase}
+use Rattle.sg_plain.specs.sg_clients.declared.phase.Phase.TheVariants.{Idle, Asked, Held, Receipted, Blocked, Left}
 use Rattle.sg_world.specs.sg_world_laws.Ending.{EachSeat}
 use Rattle.sg_world.specs.sg_world_laws.Setting.{Setting}
 

@@ -2,8 +2,8 @@
 use Rattle.std.specs.Prelude.{ℕ, true, false, if◌then◌else◌, None, Some}
 use Rattle.std.specs.declared.option.Option.{Option}
 use Rattle.sg_facts.specs.sg_base.declared.reply.Code.TheVariants.{NotFound}
-use Rattle.sg_queues.specs.sg_slots.declared.decision.Decision.{Decision}
-use Rattle.sg_queues.specs.sg_slots.declared.decision.Decision.TheVariants.{Refuse, Block, Make, Set, Keep}
+use Rattle.sg_slots.specs.declared.decision.Decision.{Decision}
+use Rattle.sg_slots.specs.declared.decision.Decision.TheVariants.{Refuse, Block, Make, Set, Keep}
 use Rattle.sg_sched.specs.declared.thread.Thread.{Thread}
 
 -- a client makes a thread of a priority, with a rank

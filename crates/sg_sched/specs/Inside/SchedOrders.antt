@@ -1,7 +1,7 @@
 -- Where a thread stands in the orders of its queue.
 use Rattle.std.specs.Prelude.{if◌then◌else◌, None, Some}
 use Rattle.std.specs.declared.option.Option.{Option}
-use Rattle.sg_queues.specs.declared.standing.Standing.{Standing}
+use Rattle.sg_slots.specs.declared.standing.Standing.{Standing}
 use Rattle.sg_sched.specs.declared.thread.Thread.{Thread}
 
 -- a ready thread by its priority and its rank; one that is asleep isn't in the queue

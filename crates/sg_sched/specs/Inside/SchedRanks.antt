@@ -7,8 +7,8 @@ use Rattle.std.proofs.lemmas.Bool.Decides.{nat_tests}
 use Rattle.sg_facts.specs.declared.row.Row.{Row}
 use Rattle.sg_facts.specs.Sound.{AreRows}
 use Rattle.sg_facts.specs.Track.{row_at}
-use Rattle.sg_queues.specs.Apart.{AreApart}
-use Rattle.sg_queues.proofs.Apart.{apart_more}
+use Rattle.sg_slots.specs.Apart.{AreApart}
+use Rattle.sg_slots.proofs.Apart.{apart_more}
 use Rattle.sg_sched.specs.SchedTable.{rank_of}
 
 -- the greatest rank of rows, or a number that is greater

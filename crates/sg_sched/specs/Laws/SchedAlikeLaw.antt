@@ -22,7 +22,7 @@ use Rattle.sg_sched.specs.SchedTable.{sched_table, first_ready, next_rank, rank_
 use Rattle.sg_sched.specs.Inside.SchedAnswer.{sched_wait_answer, next_answer, prio_of, is_ready}
 use Rattle.sg_sched.specs.SchedSound.{IsSchedSound}
 use Rattle.sg_slots.proofs.FoundRows.{all_rows, same_test}
-use Rattle.sg_queues.proofs.Alike.{StandForOne, same_first}
+use Rattle.sg_slots.proofs.Alike.{StandForOne, same_first}
 use Rattle.sg_sched.specs.Inside.SchedRanks.{most_within, found_most}
 
 -- a call that passes finds its row

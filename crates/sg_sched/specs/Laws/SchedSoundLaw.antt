@@ -22,7 +22,7 @@ use Rattle.sg_facts.specs.Laws.{AnswersAndKeeps, Passes, whole}
 use Rattle.sg_facts.proofs.RowLists.{more, changed, left, other}
 use Rattle.sg_slots.proofs.SoundRows.{none_applies, change, change_id, sound_more, sound_changed, sound_left}
 use Rattle.sg_slots.proofs.RowLaws.{next_of_first}
-use Rattle.sg_queues.proofs.Apart.{apart_left, apart_changed}
+use Rattle.sg_slots.proofs.Apart.{apart_left, apart_changed}
 use Rattle.sg_sched.specs.SchedFacts.{sched_facts}
 use Rattle.sg_sched.specs.SchedTable.{sched_table, next_rank, rank_of, sched_answer}
 use Rattle.sg_sched.specs.Inside.SchedAnswer.{sched_wait_answer}

@@ -5,7 +5,7 @@ use Rattle.sg_sim.specs.Playing.{new_of}
 use Rattle.sg_sim.specs.sg_play.GoingOn.{MayGoOn}
 use Rattle.sg_sim.specs.sg_play.Waking.Waking.{no_query_waits}
 use Rattle.sg_sim.specs.sg_plain.sg_script.declared.script.Script.{Script}
-use Rattle.sg_sim.specs.sg_seat.WorldView.{WorldView}
+use Rattle.sg_sim.specs.sg_clients.WorldView.{WorldView}
 use Rattle.sg_sim.specs.sg_world_laws.Setting.{Setting}
 
 -- unless a call was withdrawn a play can go on over it, and it comes of a new world by events

@@ -1,12 +1,12 @@
 -- What is known of passes that go to threads and come back.
 use Rattle.std.specs.Prelude.{ℕ, ◌≡◌, ◌≤◌, true, List, [], ◌∷◌, length}
 use Rattle.sg_facts.specs.declared.entry.Entry.{Entry}
-use Rattle.sg_log.specs.sg_passes.Passes.{own_entries, standing_of}
-use Rattle.sg_log.specs.sg_passes.Told.{HasNoCall}
-use Rattle.sg_log.specs.sg_passes.sg_turn.Seats.{SeatView, TurnView}
+use Rattle.sg_log.specs.sg_turn.Passes.{own_entries, standing_of}
+use Rattle.sg_log.specs.sg_turn.Told.{HasNoCall}
+use Rattle.sg_log.specs.sg_turn.Seats.{SeatView, TurnView}
 use Rattle.sg_sim.specs.sg_plain.sg_hist.Clients.{calls_of}
 use Rattle.sg_sim.specs.sg_plain.Playing.Turns.{is_free_phase}
-use Rattle.sg_sim.specs.sg_seat.WorldView.{WorldView, seat_of}
+use Rattle.sg_sim.specs.sg_clients.WorldView.{WorldView, seat_of}
 
 -- no client of a world has a call under way
 abbrev pub AllFree : WorldView → Type 0

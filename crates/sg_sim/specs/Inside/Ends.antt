@@ -5,7 +5,7 @@ use Rattle.sg_play.specs.sg_plain.Playing.Callers.{is_setting_up}
 use Rattle.sg_play.specs.sg_plain.Playing.Ends.{end_of, ends_from, has_calls}
 use Rattle.sg_play.specs.sg_plain.Playing.Turns.{NobodyGoes}
 use Rattle.sg_play.specs.sg_script.declared.script.Script.{Script}
-use Rattle.sg_play.specs.sg_seat.WorldView.{Seat}
+use Rattle.sg_play.specs.sg_clients.WorldView.{Seat}
 use Rattle.sg_sim.specs.Playing.{Playing}
 
 -- the end of a client, where it has a call

@@ -4,7 +4,7 @@ use Rattle.sg_play.specs.Following.Follows.{IsFollowing}
 use Rattle.sg_play.specs.SettingUp.{IsSettingUpFirst}
 use Rattle.sg_play.specs.sg_plain.Playing.Plays.{IsPlaying}
 use Rattle.sg_play.specs.sg_script.declared.script.Script.{Script}
-use Rattle.sg_play.specs.sg_seat.WorldView.{WorldView}
+use Rattle.sg_play.specs.sg_clients.WorldView.{WorldView}
 use Rattle.sg_play.specs.Waking.Waking.{IsWaking, no_query_waits}
 use Rattle.sg_play.specs.sg_world_laws.Setting.{Setting}
 

@@ -2,8 +2,8 @@
 use Rattle.std.specs.Prelude.{ℕ, ◌+◌, ◌==◌, Bool, nat_lt, if◌then◌else◌, None, Some}
 use Rattle.std.specs.declared.option.Option.{Option}
 use Rattle.sg_facts.specs.sg_base.declared.reply.Code.TheVariants.{NotFound, NotOwner, Occupied, Overflow, TooBig}
-use Rattle.sg_queues.specs.sg_slots.declared.decision.Decision.{Decision}
-use Rattle.sg_queues.specs.sg_slots.declared.decision.Decision.TheVariants.{Refuse, Block, Enlist, Set, Keep, Remove}
+use Rattle.sg_slots.specs.declared.decision.Decision.{Decision}
+use Rattle.sg_slots.specs.declared.decision.Decision.TheVariants.{Refuse, Block, Enlist, Set, Keep, Remove}
 use Rattle.sg_timer.specs.declared.timer.Timer.{Timer}
 use Rattle.sg_timer.specs.TimerTable.{most_ticks, skipped}
 

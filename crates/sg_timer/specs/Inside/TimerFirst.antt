@@ -2,7 +2,7 @@
 use Rattle.std.proofs.Common.{◌≡◌, Bool, true, List, [], ◌∷◌, filter, refl, ap}
 use Rattle.std.specs.List.{reduce}
 use Rattle.sg_facts.specs.declared.row.Row.{Row}
-use Rattle.sg_queues.proofs.Firsts.{first_of, sooner}
+use Rattle.sg_slots.proofs.Firsts.{first_of, sooner}
 use Rattle.sg_timer.specs.TimerTable.{first_timer, left_of, tag_of}
 
 -- a test that each row passes

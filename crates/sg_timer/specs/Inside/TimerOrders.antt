@@ -1,7 +1,7 @@
 -- Where a timer stands in the orders of its queue.
 use Rattle.std.specs.Prelude.{◌-◌, Some}
 use Rattle.std.specs.declared.option.Option.{Option}
-use Rattle.sg_queues.specs.declared.standing.Standing.{Standing}
+use Rattle.sg_slots.specs.declared.standing.Standing.{Standing}
 use Rattle.sg_timer.specs.declared.timer.Timer.{Timer}
 
 -- a timer by what is left of it and its tag

@@ -14,8 +14,8 @@ use Rattle.sg_facts.specs.Object.{Object}
 use Rattle.sg_facts.specs.Alike.{named, IsAlike, Serves, SameReply}
 use Rattle.sg_facts.specs.Laws.{AnswersAlike, Passes}
 use Rattle.sg_slots.proofs.RowLaws.{row_of_call, alike_row, same_either, same_done}
-use Rattle.sg_queues.proofs.Alike.{StandForOne, same_any, same_first}
-use Rattle.sg_queues.proofs.Firsts.{first_of}
+use Rattle.sg_slots.proofs.Alike.{StandForOne, same_any, same_first}
+use Rattle.sg_slots.proofs.Firsts.{first_of}
 use Rattle.sg_timer.specs.TimerFacts.{timer_facts}
 use Rattle.sg_timer.specs.TimerTable.{timer_table, timer_answer, field_in, first_timer, left_of, most_ticks, skipped, tag_of, worded}
 use Rattle.sg_timer.specs.Inside.TimerAnswer.{create_answer, first_answer, free_answer, free_of, skip_of, tick_answer, tick_of, timer_wait_answer, wait_of}

@@ -24,7 +24,7 @@ use Rattle.sg_facts.specs.Sound.{IsRow, AreFields}
 use Rattle.sg_facts.specs.Laws.{AnswersAndKeeps, Passes, whole}
 use Rattle.sg_slots.proofs.SoundRows.{none_applies, change}
 use Rattle.sg_slots.proofs.RowLaws.{childless, first_makes, sound_more, sound_changed, sound_left}
-use Rattle.sg_queues.proofs.Apart.{apart_more, apart_left, apart_changed}
+use Rattle.sg_slots.proofs.Apart.{apart_more, apart_left, apart_changed}
 use Rattle.sg_timer.specs.TimerFacts.{timer_facts}
 use Rattle.sg_timer.specs.TimerTable.{timer_table, timer_answer, most_ticks, skipped, tag_of, worded}
 use Rattle.sg_timer.specs.Inside.TimerAnswer.{create_answer, tick_answer, timer_wait_answer, tick_of, wait_of, skip_of}

@@ -31,7 +31,7 @@ use Rattle.sg_facts.proofs.Replaying.Goes.{walk_goes_on}
 use Rattle.sg_facts.proofs.Replaying.Service.{begun_by, ends, of_facts, step_of}
 use Rattle.sg_facts.proofs.Replaying.Steps.{begins, both_true, rest_meets, spots_meet}
 use Rattle.sg_slots.proofs.RowLaws.{first_makes}
-use Rattle.sg_queues.proofs.Apart.{one_row}
+use Rattle.sg_slots.proofs.Apart.{one_row}
 use Rattle.sg_timer.specs.TimerFacts.{timer_facts}
 use Rattle.sg_timer.specs.TimerTable.{timer_table, most_ticks, tag_of, worded}
 use Rattle.sg_timer.specs.Inside.TimerAnswer.{create_answer, tick_answer, tick_of}

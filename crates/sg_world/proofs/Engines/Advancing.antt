@@ -42,7 +42,7 @@ use Rattle.sg_replay.specs.Replaying.{IsReplayable, IsStruck, IsUnchanged, Keeps
 use Rattle.sg_replay.specs.Serving.{pairs_of, real_call}
 use Rattle.sg_replay.specs.declared.todo.Todo.{Todo}
 use Rattle.sg_replay.specs.declared.todo.Todo.TheVariants.{Load as ToLoad, Walk as ToWalk}
-use Rattle.sg_clients.specs.sg_seat.WorldView.{WorldView, unanswered}
+use Rattle.sg_clients.specs.WorldView.{WorldView, unanswered}
 use Rattle.sg_replay.specs.sg_store.Stored.{bytes_of}
 use Rattle.sg_facts.proofs.Replaying.Files.{told as which}
 use Rattle.sg_facts.proofs.Replaying.Found.{other_test, same_test}

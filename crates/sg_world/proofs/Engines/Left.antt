@@ -18,7 +18,7 @@ use Rattle.sg_replay.specs.Engined.{Engined}
 use Rattle.sg_replay.specs.Missing.{is_empty, is_whole, missing, missing_file, missing_row, next_number, or_else, todo_of}
 use Rattle.sg_replay.specs.Present.{is_present}
 use Rattle.sg_replay.specs.declared.todo.Todo.{Todo}
-use Rattle.sg_clients.specs.sg_seat.WorldView.{WorldView}
+use Rattle.sg_clients.specs.WorldView.{WorldView}
 use Rattle.sg_replay.specs.sg_store.Stored.{bytes_of}
 use Rattle.sg_world_laws.proofs.LetIn.{desc_there}
 use Rattle.sg_world_laws.specs.Setting.{IsSetting, Setting}

@@ -18,7 +18,7 @@ use Rattle.sg_facts.specs.Trace.{Boot}
 use Rattle.sg_world_laws.specs.sg_recovery_laws.Midway.Progress.{Told}
 use Rattle.sg_replay.specs.Engined.{AreGiven, Engined}
 use Rattle.sg_replay.specs.Serving.{MayServe, TellsReply, pairs_of, real_call}
-use Rattle.sg_clients.specs.sg_seat.WorldView.{WorldView}
+use Rattle.sg_clients.specs.WorldView.{WorldView}
 use Rattle.sg_world_laws.specs.Keeping.{KeepsPromise, Stub, standing}
 use Rattle.sg_world_laws.specs.Setting.{IsSetting, Setting}
 use Rattle.sg_world_laws.specs.Turns.{HasAll, IsLetIn}

@@ -2,7 +2,7 @@
 use Rattle.std.specs.Prelude.{ℕ, ◌≡◌, List}
 use Rattle.sg_facts.specs.Object.{file_at, object_of}
 use Rattle.sg_replay.specs.Engined.{Engined}
-use Rattle.sg_clients.specs.sg_seat.WorldView.{WorldView}
+use Rattle.sg_clients.specs.WorldView.{WorldView}
 use Rattle.sg_replay.specs.sg_store.Stored.{bytes_of}
 use Rattle.sg_world_laws.specs.Setting.{Setting}
 

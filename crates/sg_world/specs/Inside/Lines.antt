@@ -1,7 +1,7 @@
 -- Where a step gets no memory.
 use Rattle.std.specs.Prelude.{ℕ, ◌≡◌, ◌⊎◌}
 use Rattle.sg_facts.specs.sg_base.Stops.{asked_after}
-use Rattle.sg_clients.specs.sg_seat.WorldView.{WorldView, with_points}
+use Rattle.sg_clients.specs.WorldView.{WorldView, with_points}
 use Rattle.sg_world.specs.Steps.{PassesGuard}
 use Rattle.sg_world_laws.specs.Setting.{Setting}
 

@@ -10,7 +10,7 @@ use Rattle.sg_replay.specs.Engined.{Engined, IsEngine}
 use Rattle.sg_replay.specs.Missing.{missing}
 use Rattle.sg_replay.specs.Present.{HasMark}
 use Rattle.sg_replay.specs.Serving.{TellsReply}
-use Rattle.sg_clients.specs.sg_seat.WorldView.{WorldView, seat_in}
+use Rattle.sg_clients.specs.WorldView.{WorldView, seat_in}
 use Rattle.sg_replay.specs.sg_store.Stored.{HasRoom}
 use Rattle.sg_world.specs.declared.inner.Inner.{Inner}
 use Rattle.sg_world.specs.Due.{needs_in}

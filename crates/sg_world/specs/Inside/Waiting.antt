@@ -9,7 +9,7 @@ use Rattle.sg_facts.specs.Allowed.{is_allowed}
 use Rattle.sg_facts.specs.Facts.{Facts}
 use Rattle.sg_facts.specs.Kinds.{IsCall}
 use Rattle.sg_world_laws.specs.sg_recovery_laws.Midway.Progress.{IsNone}
-use Rattle.sg_clients.specs.sg_seat.WorldView.{Seat, is_blocked_phase}
+use Rattle.sg_clients.specs.WorldView.{Seat, is_blocked_phase}
 
 -- an answered call is one that may be made, of an interface that is allowed, and whoever waits, waits in a call on no descriptor or on a
 -- live one

@@ -19,7 +19,7 @@ use Rattle.sg_recovery_laws.proofs.Objects.Steady.{ascends}
 use Rattle.sg_recovery_laws.specs.LastItem.LastPlace.{last_place}
 use Rattle.sg_recovery_laws.specs.LastItem.Told.{IsKnown}
 use Rattle.sg_recovery_laws.proofs.LastItem.Noting.{admitted_last}
-use Rattle.sg_seat.specs.WorldView.{WorldView, held_in, unanswered}
+use Rattle.sg_clients.specs.WorldView.{WorldView, held_in, unanswered}
 use Rattle.sg_world_laws.specs.Keeping.{AreDrawn, KeepsPromise, Stub, standing}
 use Rattle.sg_world_laws.specs.Setting.{IsSetting, Setting}
 use Rattle.sg_world_laws.specs.Turns.{IsLetIn}

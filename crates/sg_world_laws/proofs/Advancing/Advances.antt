@@ -29,7 +29,7 @@ use Rattle.sg_recovery_laws.specs.sg_hist.Growing.{IsNextItem, noted, place_afte
 use Rattle.sg_recovery_laws.proofs.Objects.Guarded.{both_true, first_four, well_allowed, writes_none}
 use Rattle.sg_recovery_laws.proofs.Midway.Tabled.{reach_length}
 use Rattle.sg_recovery_laws.proofs.Midway.Walking.{MayReplay, may_replay, replayed_is, writes_no}
-use Rattle.sg_seat.specs.WorldView.{Seat, WorldView, held_in, unanswered}
+use Rattle.sg_clients.specs.WorldView.{Seat, WorldView, held_in, unanswered}
 use Rattle.sg_world_laws.specs.Keeping.{KeepsPromise, Stub, standing}
 use Rattle.sg_world_laws.specs.Seats.{HaveSeats}
 use Rattle.sg_world_laws.specs.Setting.{IsSetting, Setting, stubs_of}

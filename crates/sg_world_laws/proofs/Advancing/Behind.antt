@@ -11,7 +11,7 @@ use Rattle.sg_recovery_laws.proofs.Lists.{each_append, each_map}
 use Rattle.sg_recovery_laws.specs.LastItem.Asked.{IsComeTo}
 use Rattle.sg_recovery_laws.specs.sg_hist.Clients.{IsClientsCall, MayBeMade}
 use Rattle.sg_recovery_laws.proofs.LastItem.Sound.{come_to}
-use Rattle.sg_seat.specs.WorldView.{WorldView, held_replies}
+use Rattle.sg_clients.specs.WorldView.{WorldView, held_replies}
 use Rattle.sg_world_laws.specs.Keeping.{KeepsPromise, MayEnter, Stub, standing}
 use Rattle.sg_world_laws.specs.Setting.{IsSetting, Setting}
 use Rattle.sg_world_laws.proofs.Drawn.{object_behind}

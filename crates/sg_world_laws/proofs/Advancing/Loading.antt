@@ -25,7 +25,7 @@ use Rattle.sg_recovery_laws.proofs.Objects.Waiting.{behind_same}
 use Rattle.sg_recovery_laws.specs.Midway.Progress.{IsInRecovery, Told, complete, is_complete}
 use Rattle.sg_recovery_laws.specs.LastItem.LastPlace.{last_place}
 use Rattle.sg_recovery_laws.proofs.LastItem.Noting.{load_settled}
-use Rattle.sg_seat.specs.WorldView.{WorldView, held_in, unanswered}
+use Rattle.sg_clients.specs.WorldView.{WorldView, held_in, unanswered}
 use Rattle.sg_world_laws.specs.Keeping.{AreDrawn, KeepsPromise, Stands, Stub, standing}
 use Rattle.sg_world_laws.specs.Setting.{IsSetting, Setting, stubs_of}
 use Rattle.sg_world_laws.specs.Turns.{IsLetIn}

@@ -23,7 +23,7 @@ use Rattle.sg_recovery_laws.specs.Midway.Numbers.{AreNumbers}
 use Rattle.sg_recovery_laws.specs.Midway.Progress.{IsInRecovery}
 use Rattle.sg_recovery_laws.specs.LastItem.LastPlace.{HaveItems}
 use Rattle.sg_recovery_laws.specs.LastItem.Told.{IsRead}
-use Rattle.sg_seat.specs.WorldView.{Seat, WorldView, held_in, unanswered}
+use Rattle.sg_clients.specs.WorldView.{Seat, WorldView, held_in, unanswered}
 use Rattle.sg_world_laws.specs.Keeping.{AreDrawn, KeepsPromise, MayEnter, Stands, Stub, standing}
 use Rattle.sg_world_laws.specs.Seats.{HaveSeats}
 use Rattle.sg_world_laws.specs.Setting.{IsSetting, Setting, stubs_of}

@@ -18,7 +18,7 @@ use Rattle.sg_recovery_laws.specs.Midway.Progress.{IsInRecovery}
 use Rattle.sg_recovery_laws.specs.LastItem.LastPlace.{last_place}
 use Rattle.sg_recovery_laws.specs.LastItem.Told.{IsRead}
 use Rattle.sg_recovery_laws.proofs.LastItem.Reading.{read_plain}
-use Rattle.sg_seat.specs.WorldView.{WorldView, held_in}
+use Rattle.sg_clients.specs.WorldView.{WorldView, held_in}
 use Rattle.sg_world_laws.specs.Keeping.{AreDrawn, KeepsPromise, Stands, Stub, standing}
 use Rattle.sg_world_laws.specs.Setting.{Setting}
 use Rattle.sg_world_laws.specs.Advancing.Advancing.{GivesNothing, IsEverDue, StandsBehind}

@@ -25,7 +25,7 @@ use Rattle.sg_recovery_laws.proofs.Midway.Least.{IsLeast, least_row}
 use Rattle.sg_recovery_laws.proofs.Midway.Numbers.{counted_below}
 use Rattle.sg_recovery_laws.proofs.Midway.Stepping.{stepped}
 use Rattle.sg_recovery_laws.proofs.Midway.Tabled.{walk_is}
-use Rattle.sg_seat.specs.WorldView.{WorldView, held_in}
+use Rattle.sg_clients.specs.WorldView.{WorldView, held_in}
 use Rattle.sg_world_laws.specs.Keeping.{AreDrawn, KeepsPromise, Stands, Stub, standing}
 use Rattle.sg_world_laws.specs.Setting.{IsSetting, Setting}
 use Rattle.sg_world_laws.specs.Turns.{IsLetIn}

@@ -37,7 +37,7 @@ use Rattle.sg_recovery_laws.specs.LastItem.Told.{IsKnown, IsRead}
 use Rattle.sg_recovery_laws.proofs.LastItem.Behind.{object_before_last}
 use Rattle.sg_recovery_laws.proofs.LastItem.Noting.{least_told, walk_settled}
 use Rattle.sg_recovery_laws.proofs.LastItem.Reading.{read_walk}
-use Rattle.sg_seat.specs.WorldView.{WorldView, held_in, unanswered}
+use Rattle.sg_clients.specs.WorldView.{WorldView, held_in, unanswered}
 use Rattle.sg_world_laws.specs.Keeping.{AreDrawn, KeepsPromise, Stands, Stub, standing}
 use Rattle.sg_world_laws.specs.Setting.{IsSetting, Setting, stubs_of}
 use Rattle.sg_world_laws.specs.Turns.{IsLetIn}

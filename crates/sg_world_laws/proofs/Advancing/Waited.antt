@@ -13,7 +13,7 @@ use Rattle.sg_recovery_laws.specs.sg_hist.Inside.Reads.{after_item}
 use Rattle.sg_recovery_laws.specs.sg_hist.Recovered.{IsByTable, is_clients, is_replied, is_visible_reply}
 use Rattle.sg_recovery_laws.specs.sg_hist.Inside.Parts.{is_patch_at}
 use Rattle.sg_recovery_laws.proofs.Midway.Served.{blocks_alike}
-use Rattle.sg_seat.specs.WorldView.{WorldView, held_in, unanswered}
+use Rattle.sg_clients.specs.WorldView.{WorldView, held_in, unanswered}
 use Rattle.sg_world_laws.specs.Keeping.{KeepsPromise, Stands, Stub, standing}
 use Rattle.sg_world_laws.specs.Setting.{IsSetting, Setting}
 use Rattle.sg_world_laws.specs.Turns.{HasAll, IsAskedItem, IsLetIn}

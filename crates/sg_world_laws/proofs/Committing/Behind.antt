@@ -30,7 +30,7 @@ use Rattle.sg_recovery_laws.proofs.Objects.Serve.{names_served}
 use Rattle.sg_recovery_laws.proofs.Objects.Serves.{fewer_behind}
 use Rattle.sg_recovery_laws.proofs.Objects.Steady.{after_good}
 use Rattle.sg_recovery_laws.proofs.Objects.Waiting.{good_behind, less_time, time_after, waiting_after}
-use Rattle.sg_seat.specs.WorldView.{WorldView, held_in}
+use Rattle.sg_clients.specs.WorldView.{WorldView, held_in}
 use Rattle.sg_world_laws.specs.Keeping.{KeepsPromise, Stands, Stub, standing}
 use Rattle.sg_world_laws.specs.Setting.{IsSetting, Setting}
 use Rattle.sg_world_laws.proofs.Orders.{few_now, good_now, needs_told, time_now}

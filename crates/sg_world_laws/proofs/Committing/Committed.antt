@@ -38,7 +38,7 @@ use Rattle.sg_recovery_laws.proofs.Objects.Waiting.{hidden_is}
 use Rattle.sg_recovery_laws.specs.sg_hist.Growing.{IsInLast, IsLastCall, IsNextItem, noted, place_after}
 use Rattle.sg_recovery_laws.proofs.InBoots.{boots_appended, older_noted}
 use Rattle.sg_recovery_laws.proofs.Lists.{each_append, each_map}
-use Rattle.sg_seat.specs.WorldView.{WorldView, held_in, unanswered}
+use Rattle.sg_clients.specs.WorldView.{WorldView, held_in, unanswered}
 use Rattle.sg_recovery_laws.specs.LastItem.Told.{IsRead}
 use Rattle.sg_world_laws.specs.Keeping.{AreDrawn, KeepsPromise, MayEnter, Stands, Stub, standing}
 use Rattle.sg_world_laws.specs.Seats.{HaveSeats}

@@ -47,7 +47,7 @@ use Rattle.sg_recovery_laws.proofs.InBoots.{older_noted}
 use Rattle.sg_recovery_laws.proofs.Lists.{each_append, each_contains, each_map, each_split}
 use Rattle.sg_recovery_laws.proofs.Onward.{its_kept, made_stays}
 use Rattle.sg_recovery_laws.proofs.Served.{item_of-own}
-use Rattle.sg_seat.specs.WorldView.{WorldView, held_in, unanswered}
+use Rattle.sg_clients.specs.WorldView.{WorldView, held_in, unanswered}
 use Rattle.sg_recovery_laws.specs.LastItem.Told.{IsRead}
 use Rattle.sg_recovery_laws.proofs.LastItem.Making.{entries_put}
 use Rattle.sg_world_laws.specs.Keeping.{ClientsDiffer, AreDrawn, KeepsPromise, MayEnter, Stands, Stub, standing}

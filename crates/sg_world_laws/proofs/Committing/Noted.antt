@@ -26,7 +26,7 @@ use Rattle.sg_recovery_laws.specs.sg_hist.Recovered.{AreInBoots}
 use Rattle.sg_recovery_laws.specs.sg_hist.Inside.Parts.{is_stopped}
 use Rattle.sg_recovery_laws.specs.sg_hist.Growing.{IsInLast, IsOfNoEntry, noted}
 use Rattle.sg_recovery_laws.proofs.InBoots.{boots_noted, older_noted, own_last, still_last}
-use Rattle.sg_seat.specs.WorldView.{WorldView, held_in}
+use Rattle.sg_clients.specs.WorldView.{WorldView, held_in}
 use Rattle.sg_recovery_laws.specs.LastItem.LastPlace.{HaveItems}
 use Rattle.sg_recovery_laws.proofs.Lists.{each_map}
 use Rattle.sg_world_laws.specs.Keeping.{KeepsPromise, Stub, standing}

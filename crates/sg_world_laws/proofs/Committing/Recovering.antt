@@ -33,7 +33,7 @@ use Rattle.sg_recovery_laws.proofs.Lists.{each_contains, each_map}
 use Rattle.sg_recovery_laws.proofs.Onward.{its_kept}
 use Rattle.sg_recovery_laws.proofs.Same.{IsSame, demanded_same, tracked_same, walked_same}
 use Rattle.sg_recovery_laws.proofs.Stays.{same_held}
-use Rattle.sg_seat.specs.WorldView.{WorldView, held_in, unanswered}
+use Rattle.sg_clients.specs.WorldView.{WorldView, held_in, unanswered}
 use Rattle.sg_recovery_laws.specs.LastItem.LastPlace.{last_place}
 use Rattle.sg_recovery_laws.proofs.LastItem.Replying.{reply_at}
 use Rattle.sg_facts.proofs.Replaying.Found.{other_test, same_test}

@@ -41,7 +41,7 @@ use Rattle.sg_recovery_laws.proofs.Objects.Guarded.{ActsOnOne, acts, keeps, let_
 use Rattle.sg_recovery_laws.proofs.Objects.Serves.{desc_row}
 use Rattle.sg_recovery_laws.proofs.Objects.Steady.{ascends}
 use Rattle.sg_recovery_laws.proofs.Objects.Waiting.{behind_same, hidden_is}
-use Rattle.sg_seat.specs.WorldView.{WorldView, held_in}
+use Rattle.sg_clients.specs.WorldView.{WorldView, held_in}
 use Rattle.sg_facts.proofs.Replaying.Found.{above, same_test}
 use Rattle.sg_world_laws.specs.Keeping.{KeepsPromise, Stands, Stub, standing}
 use Rattle.sg_world_laws.specs.Setting.{IsSetting, Setting}

@@ -24,7 +24,7 @@ use Rattle.sg_recovery_laws.specs.Midway.Progress.{IsNone}
 use Rattle.sg_recovery_laws.specs.Objects.Serving.{IsAnsweredAt, IsLegalObject, IsService}
 use Rattle.sg_recovery_laws.proofs.Objects.Steady.{after_good}
 use Rattle.sg_recovery_laws.proofs.Objects.Waiting.{hidden_is}
-use Rattle.sg_seat.specs.WorldView.{WorldView}
+use Rattle.sg_clients.specs.WorldView.{WorldView}
 use Rattle.sg_recovery_laws.specs.sg_track.Tracked.{MayTrack, Tracked}
 use Rattle.sg_recovery_laws.proofs.sg_track.Premises.{may_track}
 use Rattle.sg_facts.proofs.Replaying.Found.{same_test}

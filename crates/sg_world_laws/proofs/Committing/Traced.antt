@@ -39,7 +39,7 @@ use Rattle.sg_recovery_laws.specs.sg_hist.Growing.{IsGrown}
 use Rattle.sg_recovery_laws.proofs.Given.{IsGiven, names_same}
 use Rattle.sg_recovery_laws.proofs.sg_hist.Growing.{names_at-more}
 use Rattle.sg_recovery_laws.proofs.Lists.{each_split}
-use Rattle.sg_seat.specs.WorldView.{WorldView, held_in}
+use Rattle.sg_clients.specs.WorldView.{WorldView, held_in}
 use Rattle.sg_recovery_laws.specs.LastItem.LastPlace.{last_place}
 use Rattle.sg_recovery_laws.specs.LastItem.Told.{IsRead}
 use Rattle.sg_recovery_laws.proofs.LastItem.Making.{entries_put, read_made, read_put}

@@ -14,9 +14,9 @@ use Rattle.sg_facts.specs.Inside.Rows.{refused_or}
 use Rattle.sg_facts.specs.Object.{Object, after, object_of}
 use Rattle.sg_facts.specs.Trace.{Boot}
 use Rattle.sg_recovery_laws.specs.sg_hist.Growing.{noted}
-use Rattle.sg_seat.specs.WorldView.{Seat, WorldView, held_in, is_held_in, is_held_phase, is_offered, offered_by, unanswered, wakes_seat, woken_seat}
-use Rattle.sg_seat.specs.declared.phase.Phase.{Phase}
-use Rattle.sg_seat.specs.declared.phase.Phase.TheVariants.{Asked, Blocked, Held, Idle, Left, Receipted}
+use Rattle.sg_clients.specs.WorldView.{Seat, WorldView, held_in, is_held_in, is_held_phase, is_offered, offered_by, unanswered, wakes_seat, woken_seat}
+use Rattle.sg_clients.specs.declared.phase.Phase.{Phase}
+use Rattle.sg_clients.specs.declared.phase.Phase.TheVariants.{Asked, Blocked, Held, Idle, Left, Receipted}
 use Rattle.sg_world_laws.specs.Keeping.{KeepsPromise, Stub, standing}
 use Rattle.sg_world_laws.specs.Seats.{HaveSeats, IsSeated}
 use Rattle.sg_world_laws.specs.Setting.{IsSetting, Setting}

@@ -14,8 +14,8 @@ use Rattle.sg_recovery_laws.specs.sg_hist.Reading.{Position, is_by_guard, is_ite
 use Rattle.sg_recovery_laws.specs.sg_hist.Wakes.{has_blocked, wakes, wakes_at}
 use Rattle.sg_recovery_laws.proofs.sg_hist.Growing.{entries_before-not_yet}
 use Rattle.sg_recovery_laws.specs.sg_hist.Growing.{IsGrown, IsOfNoEntry, noted}
-use Rattle.sg_seat.specs.WorldView.{Seat, is_blocked_phase, wakes_seat, woken_seat}
-use Rattle.sg_seat.specs.declared.phase.Phase.TheVariants.{Asked, Blocked}
+use Rattle.sg_clients.specs.WorldView.{Seat, is_blocked_phase, wakes_seat, woken_seat}
+use Rattle.sg_clients.specs.declared.phase.Phase.TheVariants.{Asked, Blocked}
 use Rattle.sg_recovery_laws.proofs.LastItem.Behind.{object_before_last}
 use Rattle.sg_recovery_laws.specs.LastItem.LastPlace.{HaveItems, last_place}
 use Rattle.sg_world_laws.proofs.Ending.Boots.{places_noted}

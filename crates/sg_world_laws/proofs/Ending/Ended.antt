@@ -11,10 +11,10 @@ use Rattle.sg_facts.specs.Interface.{Declared}
 use Rattle.sg_facts.specs.Object.{Object, object_of}
 use Rattle.sg_facts.specs.Trace.{Boot}
 use Rattle.sg_recovery_laws.specs.sg_hist.Recovered.{ends_committed, is_visible_reply}
-use Rattle.sg_seat.proofs.Lines.{length_map, same_or_other, seat_woken}
+use Rattle.sg_clients.proofs.Lines.{length_map, same_or_other, seat_woken}
 use Rattle.sg_recovery_laws.specs.sg_hist.Growing.{booted, last_stop, noted, struck}
-use Rattle.sg_seat.specs.WorldView.{Seat, seat_in, woken_seat}
-use Rattle.sg_seat.specs.declared.phase.Phase.TheVariants.{Asked, Held}
+use Rattle.sg_clients.specs.WorldView.{Seat, seat_in, woken_seat}
+use Rattle.sg_clients.specs.declared.phase.Phase.TheVariants.{Asked, Held}
 use Rattle.sg_world_laws.proofs.Ending.Seats.{OthersStay, each_woken, others_same, stays_woken}
 use Rattle.sg_world_laws.proofs.Ending.Boots.{some_item}
 use Rattle.sg_world_laws.specs.Ending.{EndsWell, IsEndingSoFar, IsHeldUsed, EachSeat, SomebodyAsks}

@@ -19,7 +19,7 @@ use Rattle.sg_recovery_laws.specs.sg_hist.Recovered.{is_clients, is_entered, is_
 use Rattle.sg_recovery_laws.proofs.Lists.{each_map}
 use Rattle.sg_recovery_laws.proofs.sg_hist.Growing.{items_booted, items_more, items_struck}
 use Rattle.sg_recovery_laws.proofs.Served.{entered_later, entered_more}
-use Rattle.sg_seat.specs.WorldView.{Seat, seat_in}
+use Rattle.sg_clients.specs.WorldView.{Seat, seat_in}
 use Rattle.sg_world_laws.specs.Ending.{AreLostSoFar, HoldsReply, IsHeldOrLost}
 
 -- ---- places

@@ -1,9 +1,9 @@
 -- What holds of each client's seat, where one is set and where some are woken.
 use Rattle.std.proofs.Common.{◌≡◌, ◌≢◌, ◌⊎◌, ℕ, ◌-◌, ◌≤◌, List, length, map, refl, sym, ◌∙◌, subst, inl, inr, slice_set}
 use Rattle.sg_facts.specs.sg_base.declared.call.Call.{Call}
-use Rattle.sg_seat.specs.WorldView.{Seat, seat_in, woken_seat}
-use Rattle.sg_seat.specs.declared.phase.Phase.TheVariants.{Asked, Held, Blocked}
-use Rattle.sg_seat.proofs.Lines.{length_map, length_set, same_or_other, seat_here, seat_there, seat_woken}
+use Rattle.sg_clients.specs.WorldView.{Seat, seat_in, woken_seat}
+use Rattle.sg_clients.specs.declared.phase.Phase.TheVariants.{Asked, Held, Blocked}
+use Rattle.sg_clients.proofs.Lines.{length_map, length_set, same_or_other, seat_here, seat_there, seat_woken}
 use Rattle.sg_world_laws.proofs.Woken.{woken_is}
 use Rattle.std.specs.Prelude.{Bool}
 use Rattle.sg_world_laws.specs.Ending.{EachSeat}

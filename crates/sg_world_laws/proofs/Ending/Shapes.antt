@@ -4,9 +4,9 @@ use Rattle.sg_facts.specs.sg_base.declared.reply.Reply.{Reply}
 use Rattle.sg_facts.specs.declared.entry.Entry.{Entry}
 use Rattle.sg_facts.specs.Facts.{Facts}
 use Rattle.sg_facts.specs.Object.{object_of}
-use Rattle.sg_seat.specs.WorldView.{Seat, WorldView, answered_to, committed, given_to, no_reply, seat_in, seat_of, wakes_seat, woken_seat}
-use Rattle.sg_seat.specs.declared.phase.Phase.{Phase}
-use Rattle.sg_seat.specs.declared.phase.Phase.TheVariants.{Idle, Receipted}
+use Rattle.sg_clients.specs.WorldView.{Seat, WorldView, answered_to, committed, given_to, no_reply, seat_in, seat_of, wakes_seat, woken_seat}
+use Rattle.sg_clients.specs.declared.phase.Phase.{Phase}
+use Rattle.sg_clients.specs.declared.phase.Phase.TheVariants.{Idle, Receipted}
 
 module _ (facts : Facts) (w : WorldView) (c : ℕ) where
   abbrev pub s : Seat

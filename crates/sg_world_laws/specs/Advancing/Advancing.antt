@@ -29,7 +29,7 @@ use Rattle.sg_recovery_laws.specs.Midway.Progress.{IsInRecovery, TellsCalls, com
 use Rattle.sg_recovery_laws.specs.Midway.Stepping.{told_after}
 use Rattle.sg_recovery_laws.specs.LastItem.LastPlace.{last_place}
 use Rattle.sg_recovery_laws.specs.LastItem.Told.{IsRead}
-use Rattle.sg_seat.specs.WorldView.{Seat, WorldView, held_replies, unanswered}
+use Rattle.sg_clients.specs.WorldView.{Seat, WorldView, held_replies, unanswered}
 use Rattle.sg_world_laws.specs.Keeping.{AreDrawn, IsRebuiltFirst, Stub}
 use Rattle.sg_world_laws.specs.Setting.{Setting, stubs_of}
 

@@ -10,7 +10,7 @@ use Rattle.sg_facts.specs.declared.trace.Item.{Item}
 use Rattle.sg_facts.specs.Alike.{under_names}
 use Rattle.sg_facts.specs.Object.{Object, after}
 use Rattle.sg_recovery_laws.specs.sg_hist.Growing.{noted}
-use Rattle.sg_seat.specs.WorldView.{WorldView, held_in, unanswered}
+use Rattle.sg_clients.specs.WorldView.{WorldView, held_in, unanswered}
 use Rattle.sg_world_laws.specs.Keeping.{Stub}
 use Rattle.sg_world_laws.specs.Seats.{HaveSeats}
 use Rattle.sg_world_laws.specs.Setting.{Setting}

@@ -1,6 +1,6 @@
 -- As many clients so far as were counted.
 use Rattle.std.specs.Prelude.{◌≡◌, replicate}
-use Rattle.sg_seat.specs.WorldView.{no_seat}
+use Rattle.sg_clients.specs.WorldView.{no_seat}
 use Rattle.sg_clients.proofs.clients.new_seats.Given as goal
 
 abbrev pub invariant-loop : goal.invariant-loop

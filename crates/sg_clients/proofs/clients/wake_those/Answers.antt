@@ -1,7 +1,7 @@
 -- Each seat that waits is asked again, if its descriptor passes, and else counts.
 use Rattle.std.proofs.Common.{◌≡◌, ◌<◌, ◌≤◌, ◌+◌, ◌∙◌, ℕ, Bool, ap, arith, below_more, false, get_or, length, map, not, subst, sym, take, true}
 use Rattle.std.proofs.lemmas.List.{get_or_default, set-get_or}
-use Rattle.sg_seat.specs.WorldView.{Seat, is_blocked_phase, no_seat, woken_seat}
+use Rattle.sg_clients.specs.WorldView.{Seat, is_blocked_phase, no_seat, woken_seat}
 use Rattle.sg_clients.specs.Inside.Waiting.{count_if_waits, waiting_in}
 use Rattle.sg_clients.proofs.Seats.{all_kept, set_unseen}
 use Rattle.sg_clients.proofs.Waking.{at_most_one, count_next, count_rests, done_next, not_woken, still_counts, woken_once, woken_stays}

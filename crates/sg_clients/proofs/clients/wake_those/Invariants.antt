@@ -1,7 +1,7 @@
 -- The seats so far are asked again where they are to be, and those of them that still wait are counted.
 use Rattle.std.proofs.Common.{◌≡◌, ◌<◌, ◌≤◌, ℕ, Bool, get_or, map, take}
 use Rattle.sg_clients.specs.Clients.{AnswersBy}
-use Rattle.sg_seat.specs.WorldView.{no_seat, woken_seat}
+use Rattle.sg_clients.specs.WorldView.{no_seat, woken_seat}
 use Rattle.sg_clients.specs.Inside.Waiting.{waiting_in}
 use Rattle.sg_clients.proofs.clients.wake_those.Given as goal
 

@@ -1,6 +1,6 @@
 -- A client with a call has its end.
 use Rattle.std.proofs.Common.{◌≡◌, ◌∙◌, ◌∷◌, ◌++◌, [], true, false, cond, ap, sym, append-nil}
-use Rattle.sg_members.specs.sg_sim.Inside.Givens.{lists_of}
+use Rattle.sg_multi.specs.sg_sim.Inside.Givens.{lists_of}
 use Rattle.sg_multi.specs.Calls.{has_multi_calls}
 use Rattle.sg_multi.specs.Inside.Turns.{end_of_client}
 use Rattle.sg_multi.proofs.ends.add_end.Goals as goal

@@ -1,7 +1,7 @@
 -- A client with a call more waits in it, and any other is done.
 use Rattle.std.proofs.Common.{◌∙◌, ◌-◌, ap, sym}
 use Rattle.std.specs.Option.{option_map_or}
-use Rattle.sg_members.specs.sg_sim.sg_script.declared.multi.MultiCall.{MultiCall}
+use Rattle.sg_multi.specs.sg_sim.sg_script.declared.multi.MultiCall.{MultiCall}
 use Rattle.sg_multi.specs.Inside.Whose.{seat_at}
 use Rattle.sg_multi.specs.declared.ended.MultiEnd.TheVariants.{Done, Blocked}
 use Rattle.sg_multi.proofs.Turning.{member_within, seats_there, some_member}

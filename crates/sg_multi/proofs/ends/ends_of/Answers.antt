@@ -1,6 +1,6 @@
 -- One client's end more, and all of them.
 use Rattle.std.proofs.Common.{◌∙◌, ◌++◌, ◌+◌, ap, sym}
-use Rattle.sg_members.specs.sg_sim.Inside.Givens.{lists_of}
+use Rattle.sg_multi.specs.sg_sim.Inside.Givens.{lists_of}
 use Rattle.sg_multi.specs.Inside.Turns.{end_by}
 use Rattle.sg_multi.proofs.EndLists.{ends_more}
 use Rattle.sg_multi.proofs.ends.ends_of.Goals as goal

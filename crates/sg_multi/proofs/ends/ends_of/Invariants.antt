@@ -1,6 +1,6 @@
 -- The ends of the clients so far.
 use Rattle.std.proofs.Common.{◌≡◌}
-use Rattle.sg_members.specs.sg_sim.Inside.Givens.{lists_of}
+use Rattle.sg_multi.specs.sg_sim.Inside.Givens.{lists_of}
 use Rattle.sg_multi.specs.Inside.Turns.{ends_up_to}
 use Rattle.sg_multi.proofs.ends.ends_of.Given as goal
 

@@ -1,8 +1,8 @@
 -- A client with a call has a first one.
 use Rattle.std.proofs.Common.{◌≡◌, ◌∙◌, ap, option_copied, subst, sym}
 use Rattle.std.specs.Prelude.{slice_get}
-use Rattle.sg_members.specs.sg_sim.sg_plain.Calls.{calls_with_setup}
-use Rattle.sg_members.specs.sg_sim.sg_plain.Playing.Playable.{AreClients}
+use Rattle.sg_multi.specs.sg_sim.sg_plain.Calls.{calls_with_setup}
+use Rattle.sg_multi.specs.sg_sim.sg_plain.Playing.Playable.{AreClients}
 use Rattle.sg_multi.specs.Calls.{multi_calls}
 use Rattle.sg_multi.proofs.EndLists.{some_first}
 use Rattle.sg_multi.proofs.ends.has_calls.Goals as goal

@@ -1,9 +1,9 @@
 -- One member more.
 use Rattle.std.proofs.Common.{◌≡◌, ◌∙◌, ℕ, ◌+◌, ◌<◌, ◌≤◌, ◌∷◌, [], List, Some, length, ap, arith, slice_get, subst, sym, length-append}
 use Rattle.sg_facts.specs.Limits.{last_client}
-use Rattle.sg_members.specs.sg_edge.Stops.{AscendsAbove}
-use Rattle.sg_members.specs.declared.member.Member.{Member}
-use Rattle.sg_members.specs.sg_load.Services.{facts_by}
+use Rattle.sg_multi.specs.sg_edge.Stops.{AscendsAbove}
+use Rattle.sg_multi.specs.declared.member.Member.{Member}
+use Rattle.sg_multi.specs.sg_load.Services.{facts_by}
 use Rattle.sg_multi.specs.Beginning.{AreNew}
 use Rattle.sg_multi.specs.declared.play.MemberTables.{MemberTables}
 use Rattle.sg_multi.proofs.Beginning.{last_within}

@@ -1,8 +1,8 @@
 -- What each member's run came to, and how the clients end.
 use Rattle.std.proofs.Common.{◌∙◌, List, map, length, ap, arith, subst, sym}
-use Rattle.sg_members.specs.declared.member.Member.{Member}
-use Rattle.sg_members.specs.sg_sim.Inside.Givens.{lists_of}
-use Rattle.sg_members.specs.sg_sim.sg_plain.Calls.{most_client}
+use Rattle.sg_multi.specs.declared.member.Member.{Member}
+use Rattle.sg_multi.specs.sg_sim.Inside.Givens.{lists_of}
+use Rattle.sg_multi.specs.sg_sim.sg_plain.Calls.{most_client}
 use Rattle.sg_multi.specs.Inside.Ended.{AreEndedMembers}
 use Rattle.sg_multi.specs.Inside.Turns.{ends_up_to}
 use Rattle.sg_multi.specs.Played.{AreOfMembers, IsMultiPlayed, MultiCame, stubs_in}

@@ -1,7 +1,7 @@
 -- What one member more came to.
 use Rattle.std.proofs.Common.{◌≡◌, ◌∙◌, ◌+◌, ◌∷◌, [], List, Some, length, ap, arith, refl, slice_get, subst, sym, length-append}
-use Rattle.sg_members.specs.declared.member.Member.{Member}
-use Rattle.sg_members.specs.sg_sim.sg_play.sg_hist.declared.ended.Ended.{Ended}
+use Rattle.sg_multi.specs.declared.member.Member.{Member}
+use Rattle.sg_multi.specs.sg_sim.sg_play.sg_hist.declared.ended.Ended.{Ended}
 use Rattle.sg_multi.specs.Inside.Ended.{AreEnded, IsEndedMember}
 use Rattle.sg_multi.proofs.Growing.{ended_more}
 use Rattle.sg_multi.proofs.Turning.{read_there}

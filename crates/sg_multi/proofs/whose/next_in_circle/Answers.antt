@@ -1,6 +1,6 @@
 -- The next after the client of the last turn, and then from 1 on.
 use Rattle.std.proofs.Common.{◌∙◌, ap, arith, subst, sym}
-use Rattle.sg_members.specs.sg_sim.sg_plain.Calls.{most_client}
+use Rattle.sg_multi.specs.sg_sim.sg_plain.Calls.{most_client}
 use Rattle.sg_multi.specs.Inside.Turns.{IsFirstBehind, NoneBehind, TakesNextTurn}
 use Rattle.sg_multi.proofs.EndLists.{nobody}
 use Rattle.sg_multi.proofs.NextTurn.{from_around, from_behind}

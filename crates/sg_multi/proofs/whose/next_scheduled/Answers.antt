@@ -1,6 +1,6 @@
 -- The first of the schedule that can take its turn.
 use Rattle.std.proofs.Common.{◌≡◌, ◌∙◌, Some, ap, arith, sym, slice_get, slice_index_or}
-use Rattle.sg_members.specs.sg_sim.sg_plain.Calls.{most_client}
+use Rattle.sg_multi.specs.sg_sim.sg_plain.Calls.{most_client}
 use Rattle.sg_multi.proofs.NextTurn.{from_schedule, more_scheduled}
 use Rattle.sg_multi.proofs.Turning.{read_there}
 use Rattle.sg_multi.proofs.whose.next_scheduled.Goals as goal

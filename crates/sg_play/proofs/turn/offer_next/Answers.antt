@@ -6,7 +6,7 @@ use Rattle.sg_play.specs.Turning.{with_call, with_offer}
 use Rattle.sg_plain.specs.Playing.Callers.{is_setting_up}
 use Rattle.sg_plain.specs.Playing.Plays.{IsPlaying}
 use Rattle.sg_plain.specs.Playing.Turns.{is_free_phase}
-use Rattle.sg_plain.specs.sg_seat.WorldView.{seat_in}
+use Rattle.sg_plain.specs.sg_clients.WorldView.{seat_in}
 use Rattle.sg_world.specs.Worlded.{Worlded}
 use Rattle.sg_play.proofs.Offering.{all_given, either_way, next_here, none_left, none_so, offered_playing, offered_setup, ok_so, some_so}
 use Rattle.sg_play.proofs.turn.offer_next.Goals as goal

@@ -2,12 +2,12 @@
 use Rattle.std.proofs.Common.{◌≡◌, ℕ, ◌≤◌, true, Some, List, refl, sym, ◌∙◌, ap, arith}
 use Rattle.std.specs.Option.{is_some}
 use Rattle.sg_facts.specs.sg_base.declared.value.Value.{Value}
-use Rattle.sg_queues.specs.sg_slots.declared.decision.Decision.{Decision}
-use Rattle.sg_queues.specs.sg_slots.declared.decision.Decision.TheVariants.{Remove}
-use Rattle.sg_queues.specs.sg_slots.Decide.{Decides}
-use Rattle.sg_queues.specs.sg_slots.Slots.{AreIds, Held, entry_at, rows_of}
-use Rattle.sg_queues.proofs.sg_slots.Deciding.{by_fun}
-use Rattle.sg_queues.proofs.sg_slots.Rows.{is_live-rows_of}
+use Rattle.sg_slots.specs.declared.decision.Decision.{Decision}
+use Rattle.sg_slots.specs.declared.decision.Decision.TheVariants.{Remove}
+use Rattle.sg_slots.specs.Decide.{Decides}
+use Rattle.sg_slots.specs.Slots.{AreIds, Held, entry_at, rows_of}
+use Rattle.sg_slots.proofs.Deciding.{by_fun}
+use Rattle.sg_slots.proofs.Rows.{is_live-rows_of}
 use Rattle.sg_sched.specs.declared.thread.Thread.{Thread}
 use Rattle.sg_sched.specs.SchedFacts.{sched_facts}
 use Rattle.sg_sched.specs.SchedTable.{sched_table, sched_parts, next_rank}

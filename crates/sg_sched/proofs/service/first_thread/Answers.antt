@@ -1,5 +1,5 @@
 -- The first thread of the queue has the first row.
-use Rattle.sg_queues.proofs.FirstRows.{first_row}
+use Rattle.sg_slots.proofs.FirstRows.{first_row}
 use Rattle.sg_sched.specs.SchedRow.{thread_body}
 use Rattle.sg_sched.specs.SchedTable.{rank_of}
 use Rattle.sg_sched.specs.Inside.SchedAnswer.{prio_of, is_ready}

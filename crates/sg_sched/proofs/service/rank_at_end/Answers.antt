@@ -1,6 +1,6 @@
 -- The greatest number by rank is the greatest rank.
 use Rattle.std.proofs.Common.{◌≡◌, ◌+◌, ◌^◌, ◌<◌, arith}
-use Rattle.sg_queues.specs.sg_slots.Slots.{rows_of}
+use Rattle.sg_slots.specs.Slots.{rows_of}
 use Rattle.sg_sched.specs.SchedRow.{thread_body}
 use Rattle.sg_sched.specs.SchedTable.{next_rank}
 use Rattle.sg_sched.proofs.Ordered.{greatest_rank, no_rank}

@@ -14,7 +14,7 @@ use Rattle.sg_sim.specs.sg_plain.Calls.{most_client}
 use Rattle.sg_sim.specs.sg_plain.Playing.Callers.{is_setting_up}
 use Rattle.sg_sim.specs.sg_plain.sg_script.declared.script.Script.{Script}
 use Rattle.sg_sim.specs.sg_play.GoingOn.{MayGoOn}
-use Rattle.sg_sim.specs.sg_seat.WorldView.{WorldView}
+use Rattle.sg_sim.specs.sg_clients.WorldView.{WorldView}
 use Rattle.sg_sim.specs.sg_world.Worlded.{setting_of}
 use Rattle.sg_sim.specs.sg_world_laws.Setting.{Setting, stubs_of}
 use Rattle.sg_shared.proofs.runs.run_named.Goals as goal

@@ -1,6 +1,6 @@
 -- It is the same pass, with no call under way, and its entries gave these descriptors.
-use Rattle.sg_log.specs.sg_passes.Passes.{own_entries, standing_of}
-use Rattle.sg_log.specs.sg_passes.Told.{HasNoCall}
+use Rattle.sg_log.specs.sg_turn.Passes.{own_entries, standing_of}
+use Rattle.sg_log.specs.sg_turn.Told.{HasNoCall}
 use Rattle.sg_shared.specs.Inside.Seats.{IsSamePass}
 use Rattle.sg_sim.specs.sg_plain.Playing.Given.{GaveIds}
 use Rattle.sg_shared.proofs.threads.make_calls.Given as goal

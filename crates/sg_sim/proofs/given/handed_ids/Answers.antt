@@ -5,7 +5,7 @@ use Rattle.sg_facts.specs.sg_base.Room.{Roomy}
 use Rattle.sg_play.specs.sg_hist.Clients.{calls_of}
 use Rattle.sg_play.specs.sg_plain.Playing.Callers.{handed, is_receipted}
 use Rattle.sg_play.specs.sg_plain.Playing.Given.{GaveIds}
-use Rattle.sg_play.specs.sg_seat.WorldView.{seat_of}
+use Rattle.sg_play.specs.sg_clients.WorldView.{seat_of}
 use Rattle.sg_sim.proofs.Rebuilding.{gave_all, gave_popped, not_receipt}
 use Rattle.sg_sim.proofs.given.handed_ids.Goals as goal
 use Rattle.sg_sim.proofs.given.handed_ids.Goals.{in-Receipted, in_default, then-matches, else-matches}

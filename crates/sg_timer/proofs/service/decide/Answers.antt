@@ -6,9 +6,9 @@ use Rattle.std.specs.Option.{is_some}
 use Rattle.sg_facts.specs.Facts.{fun_at}
 use Rattle.sg_facts.specs.Kinds.{kinds_fit}
 use Rattle.sg_facts.specs.Track.{arg_at, word_of}
-use Rattle.sg_queues.specs.sg_slots.Slots.{entry_at, rows_of}
-use Rattle.sg_queues.proofs.sg_slots.Deciding.{by_fun}
-use Rattle.sg_queues.proofs.sg_slots.Rows.{is_live-rows_of}
+use Rattle.sg_slots.specs.Slots.{entry_at, rows_of}
+use Rattle.sg_slots.proofs.Deciding.{by_fun}
+use Rattle.sg_slots.proofs.Rows.{is_live-rows_of}
 use Rattle.sg_timer.specs.TimerFacts.{timer_facts}
 use Rattle.sg_timer.specs.TimerTable.{timer_table, timer_parts, tag_of}
 use Rattle.sg_timer.specs.TimerRow.{timer_body}

@@ -1,8 +1,8 @@
 -- The first timer of the queue has the first row.
 use Rattle.std.proofs.Common.{◌∙◌, ap}
 use Rattle.std.specs.Option.{option_map}
-use Rattle.sg_queues.specs.sg_slots.Slots.{rows_of}
-use Rattle.sg_queues.proofs.FirstRows.{first_row}
+use Rattle.sg_slots.specs.Slots.{rows_of}
+use Rattle.sg_slots.proofs.FirstRows.{first_row}
 use Rattle.sg_timer.specs.TimerRow.{timer_body}
 use Rattle.sg_timer.specs.TimerTable.{left_of, tag_of}
 use Rattle.sg_timer.specs.Inside.TimerFirst.{any_row, first_of_all}

@@ -1,7 +1,7 @@
 -- Whoever waits is woken as the world says.
 use Rattle.std.proofs.Common.{◌≡◌, List, map, true, false, cond, ap, refl, sym, ◌∙◌, ◌||◌, ◌&&◌, ◌==◌}
 use Rattle.sg_facts.specs.Facts.{Fun, fun_at}
-use Rattle.sg_clients.specs.sg_seat.WorldView.{Seat, woken_seat}
+use Rattle.sg_clients.specs.WorldView.{Seat, woken_seat}
 use Rattle.sg_world.proofs.Wakes.{and_both, and_not_first, and_not_second, is_gone, on_false, on_true, or_first, or_none, or_second, answered_ok, refused_wakes, woken_by}
 use Rattle.sg_world.proofs.waking.wake_by.Goals.{then-wakes, then-wakes-via-then-wakes, then-wakes-via-else-wakes+then-is_terminal, else-wakes+else-is_terminal, else-is_terminal-2-via-then-is_terminal-2+else-interface, else-is_terminal-2-via-else-is_terminal-2}
 use Rattle.sg_world.proofs.waking.wake_by.Goals as goal

@@ -1,7 +1,7 @@
 -- The client waits.
 use Rattle.std.proofs.Common.{ap}
-use Rattle.sg_seat.specs.WorldView.{is_blocked_phase}
-use Rattle.sg_seat.specs.declared.phase.Phase.TheVariants.{Blocked}
+use Rattle.sg_clients.specs.WorldView.{is_blocked_phase}
+use Rattle.sg_clients.specs.declared.phase.Phase.TheVariants.{Blocked}
 use Rattle.sg_clients.proofs.Seats.{Reads, is_changed}
 use Rattle.sg_clients.proofs.Waking.{waits}
 use Rattle.sg_clients.proofs.clients.Clients.block.Goals as goal

@@ -1,7 +1,7 @@
 -- The client didn't wait before, and doesn't now.
 use Rattle.std.proofs.Common.{ap, ◌∙◌}
-use Rattle.sg_seat.specs.WorldView.{is_blocked_phase, no_reply}
-use Rattle.sg_seat.specs.declared.phase.Phase.TheVariants.{Idle}
+use Rattle.sg_clients.specs.WorldView.{is_blocked_phase, no_reply}
+use Rattle.sg_clients.specs.declared.phase.Phase.TheVariants.{Idle}
 use Rattle.sg_clients.proofs.Seats.{Reads, is_changed, is_read}
 use Rattle.sg_clients.proofs.Waking.{stays}
 use Rattle.sg_clients.proofs.clients.Clients.hand_over.Goals as goal

@@ -1,7 +1,7 @@
 -- The client no longer waits.
 use Rattle.std.proofs.Common.{ap}
-use Rattle.sg_seat.specs.WorldView.{is_blocked_phase}
-use Rattle.sg_seat.specs.declared.phase.Phase.TheVariants.{Left}
+use Rattle.sg_clients.specs.WorldView.{is_blocked_phase}
+use Rattle.sg_clients.specs.declared.phase.Phase.TheVariants.{Left}
 use Rattle.sg_clients.proofs.Seats.{Reads, is_changed}
 use Rattle.sg_clients.proofs.Waking.{rests}
 use Rattle.sg_clients.proofs.clients.Clients.leave.Goals as goal

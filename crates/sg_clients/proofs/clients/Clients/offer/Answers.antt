@@ -1,8 +1,8 @@
 -- The client didn't wait before, and doesn't now.
 use Rattle.std.proofs.Common.{ap, ◌∙◌, OnErr, Ok, Err}
 use Rattle.std.specs.declared.result.Result.{Result}
-use Rattle.sg_seat.specs.WorldView.{is_blocked_phase, seat_in}
-use Rattle.sg_seat.specs.declared.phase.Phase.TheVariants.{Asked}
+use Rattle.sg_clients.specs.WorldView.{is_blocked_phase, seat_in}
+use Rattle.sg_clients.specs.declared.phase.Phase.TheVariants.{Asked}
 use Rattle.sg_clients.proofs.Seats.{Reads, is_changed, is_read, set_again}
 use Rattle.sg_clients.proofs.Waking.{free_rests, stays}
 use Rattle.sg_clients.proofs.clients.Clients.offer.Goals as goal

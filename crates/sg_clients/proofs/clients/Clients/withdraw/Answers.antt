@@ -1,8 +1,8 @@
 -- The phases are those before the withdrawal.
 use Rattle.std.proofs.Common.{◌≡◌, ◌∙◌, ap, map, ◌-◌, arith}
 use Rattle.std.specs.Prelude.{slice_set}
-use Rattle.sg_seat.specs.declared.phase.Phase.TheVariants.{Idle}
-use Rattle.sg_seat.specs.WorldView.{Seat, seat_in}
+use Rattle.sg_clients.specs.declared.phase.Phase.TheVariants.{Idle}
+use Rattle.sg_clients.specs.WorldView.{Seat, seat_in}
 use Rattle.sg_clients.proofs.Phases.{set_back}
 use Rattle.sg_clients.proofs.clients.Clients.withdraw.Goals as goal
 

@@ -2,7 +2,7 @@
 use Rattle.std.proofs.Common.{[], ◌∷◌, ◌++◌, map, ◌∙◌, ap}
 use Rattle.sg_facts.specs.Inside.Items.{item_of}
 use Rattle.sg_facts.specs.Lent.{item_asked}
-use Rattle.sg_records.specs.Records.{InBrief, word_of}
+use Rattle.sg_base.specs.Records.{InBrief, word_of}
 use Rattle.sg_facts.proofs.BriefItems.{item_added, item_back}
 use Rattle.sg_facts.proofs.items.ItemList.add_brief.Goals as goal
 

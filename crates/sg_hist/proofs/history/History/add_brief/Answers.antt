@@ -1,7 +1,7 @@
 -- The entry that is kept in brief is read as it was.
 use Rattle.std.proofs.Common.{[], ◌∷◌, ◌++◌, map, ◌∙◌, ap}
 use Rattle.sg_facts.specs.declared.entry.Entry.{Entry}
-use Rattle.sg_facts.specs.sg_records.Records.{InBrief, word_of}
+use Rattle.sg_facts.specs.sg_base.Records.{InBrief, word_of}
 use Rattle.sg_hist.specs.Inside.Entries.{entry_of}
 use Rattle.sg_hist.proofs.BriefEntries.{entry_added, entry_back}
 use Rattle.sg_hist.proofs.history.History.add_brief.Goals as goal

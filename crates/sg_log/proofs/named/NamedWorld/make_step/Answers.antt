@@ -1,11 +1,11 @@
 -- A step adds what its line says, and the history stays legal.
 use Rattle.std.proofs.Common.{◌≤◌, sym, ◌∙◌, subst}
 use Rattle.std.specs.Result.{IfOk, OnErr}
-use Rattle.sg_passes.specs.sg_facts.Legal.{LegalFrom}
-use Rattle.sg_passes.specs.sg_facts.Object.{empty_object}
-use Rattle.sg_passes.specs.sg_facts.Tables.{Compiled}
-use Rattle.sg_passes.specs.Told.{entries_in}
-use Rattle.sg_passes.proofs.CallLaws.{on_err}
+use Rattle.sg_turn.specs.sg_facts.Legal.{LegalFrom}
+use Rattle.sg_turn.specs.sg_facts.Object.{empty_object}
+use Rattle.sg_turn.specs.sg_facts.Tables.{Compiled}
+use Rattle.sg_turn.specs.Told.{entries_in}
+use Rattle.sg_turn.proofs.CallLaws.{on_err}
 use Rattle.sg_world.specs.Steps.{HasStepped, WantsMemory}
 use Rattle.sg_world.specs.Worlded.{setting_of}
 use Rattle.sg_log.specs.Log.{log_of}

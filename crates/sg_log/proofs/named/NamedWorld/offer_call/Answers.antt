@@ -1,9 +1,9 @@
 -- An offer is of the client's next call, and adds its mark.
 use Rattle.std.proofs.Common.{◌+◌, ◌<◌, ◌≤◌, ◌++◌, ◌∷◌, [], sym, ap, ◌∙◌, subst}
-use Rattle.sg_passes.proofs.CallLaws.{on_ok, on_err}
-use Rattle.sg_passes.specs.Told.{mark_by}
-use Rattle.sg_passes.specs.sg_turn.declared.log.LogMarkKind.TheVariants.{Offer}
-use Rattle.sg_world.specs.sg_seat.WorldView.{happened, offered}
+use Rattle.sg_turn.proofs.CallLaws.{on_ok, on_err}
+use Rattle.sg_turn.specs.Told.{mark_by}
+use Rattle.sg_turn.specs.declared.log.LogMarkKind.TheVariants.{Offer}
+use Rattle.sg_world.specs.sg_clients.WorldView.{happened, offered}
 use Rattle.sg_log.specs.Log.{log_of}
 use Rattle.sg_log.proofs.Offering.{free_stand, offer_log}
 use Rattle.sg_log.proofs.Worlds.{own_count}

@@ -1,6 +1,6 @@
 -- Who has no call under way by the log has none in the world, and leaves.
 use Rattle.std.proofs.Common.{◌≤◌, sym, ap, ◌∙◌, subst}
-use Rattle.sg_passes.specs.Hosts.{AddsLeave}
+use Rattle.sg_turn.specs.Hosts.{AddsLeave}
 use Rattle.sg_log.specs.Log.{log_of}
 use Rattle.sg_log.proofs.Offering.{free_stand, leave_log}
 use Rattle.sg_log.proofs.named.NamedWorld.take_leave.Goals as goal

@@ -1,9 +1,9 @@
 -- Who waits asks, in a call that has no answer.
 use Rattle.std.proofs.Common.{◌≡◌, ◌≤◌, true, true≢false, sym, ap, ◌∙◌, subst}
-use Rattle.sg_passes.specs.sg_facts.Tables.{Compiled}
-use Rattle.sg_passes.specs.Told.{entries_in}
-use Rattle.sg_world.specs.sg_seat.WorldView.{is_offered, seat_of}
-use Rattle.sg_world.specs.sg_seat.declared.phase.Phase.TheVariants.{Blocked}
+use Rattle.sg_turn.specs.sg_facts.Tables.{Compiled}
+use Rattle.sg_turn.specs.Told.{entries_in}
+use Rattle.sg_world.specs.sg_clients.WorldView.{is_offered, seat_of}
+use Rattle.sg_world.specs.sg_clients.declared.phase.Phase.TheVariants.{Blocked}
 use Rattle.sg_log.specs.Log.{log_of}
 use Rattle.sg_log.specs.Names.{HasNoAnswer}
 use Rattle.sg_log.proofs.Stepping.{stands_under}

@@ -1,6 +1,6 @@
 -- Who may withdraw its call asks.
 use Rattle.std.proofs.Common.{◌≤◌, sym, ap, ◌∙◌, subst, ⊎_elim}
-use Rattle.sg_world.specs.sg_seat.WorldView.{is_offered, seat_of}
+use Rattle.sg_world.specs.sg_clients.WorldView.{is_offered, seat_of}
 use Rattle.sg_log.proofs.Stepping.{stands_under}
 use Rattle.sg_log.proofs.named.NamedWorldHost.may_withdraw.Goals as goal
 

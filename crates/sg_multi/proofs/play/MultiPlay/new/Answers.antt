@@ -1,7 +1,7 @@
 -- Nothing was done in the worlds of a new play.
 use Rattle.std.proofs.Common.{◌∙◌, [], replicate, ap, arith, refl, subst}
-use Rattle.sg_members.specs.sg_sim.Inside.Givens.{lists_of}
-use Rattle.sg_members.specs.sg_sim.sg_plain.Calls.{most_client}
+use Rattle.sg_multi.specs.sg_sim.Inside.Givens.{lists_of}
+use Rattle.sg_multi.specs.sg_sim.sg_plain.Calls.{most_client}
 use Rattle.sg_multi.specs.Beginning.{AreNewMembers}
 use Rattle.sg_multi.proofs.Beginning.{kept_new, stubs_are, view_new}
 use Rattle.sg_multi.proofs.Following.{new_follows}

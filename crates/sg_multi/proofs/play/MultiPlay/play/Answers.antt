@@ -1,8 +1,8 @@
 -- What the play came to is told of the members that it was made of.
 use Rattle.std.proofs.Common.{◌≡◌, ◌∙◌, List, map, ap, subst}
 use Rattle.std.specs.Prelude.{IfOk}
-use Rattle.sg_members.specs.sg_sim.sg_play.sg_hist.Recovered.{Stubs}
-use Rattle.sg_members.specs.sg_sim.sg_script.declared.multi.MultiScript.{MultiScript}
+use Rattle.sg_multi.specs.sg_sim.sg_play.sg_hist.Recovered.{Stubs}
+use Rattle.sg_multi.specs.sg_sim.sg_script.declared.multi.MultiScript.{MultiScript}
 use Rattle.sg_multi.specs.Played.{IsMultiPlayed, stubs_in}
 use Rattle.sg_multi.specs.Playing.{MultiPlaying}
 use Rattle.sg_multi.proofs.play.MultiPlay.play.Goals as goal

@@ -1,6 +1,6 @@
 -- It is that of the client's seat there.
 use Rattle.std.proofs.Common.{◌∙◌, ◌-◌, ap, sym}
-use Rattle.sg_members.specs.sg_sim.sg_seat.WorldView.{Seat}
+use Rattle.sg_multi.specs.sg_sim.sg_clients.WorldView.{Seat}
 use Rattle.sg_multi.proofs.Turning.{seat_is}
 use Rattle.sg_multi.proofs.running.Running.call.Goals as goal
 

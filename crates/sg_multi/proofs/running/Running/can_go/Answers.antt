@@ -1,8 +1,8 @@
 -- A client with a call more can go where it doesn't wait in it.
 use Rattle.std.proofs.Common.{◌∙◌, ◌-◌, false, not, ap, sym}
 use Rattle.std.specs.Option.{option_map_or}
-use Rattle.sg_members.specs.sg_sim.sg_script.declared.multi.MultiCall.{MultiCall}
-use Rattle.sg_members.specs.sg_sim.sg_seat.WorldView.{is_blocked_phase}
+use Rattle.sg_multi.specs.sg_sim.sg_script.declared.multi.MultiCall.{MultiCall}
+use Rattle.sg_multi.specs.sg_sim.sg_clients.WorldView.{is_blocked_phase}
 use Rattle.sg_multi.specs.Inside.Whose.{seat_at}
 use Rattle.sg_multi.proofs.Turning.{member_within, seats_there, some_member}
 use Rattle.sg_multi.proofs.running.Running.can_go.Goals as goal

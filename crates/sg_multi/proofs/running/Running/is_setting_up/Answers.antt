@@ -1,7 +1,7 @@
 -- As many calls are done as replies were handed over.
 use Rattle.std.proofs.Common.{◌∙◌, length, ap, arith, nat_lt}
-use Rattle.sg_members.specs.sg_sim.Inside.Givens.{lists_of}
-use Rattle.sg_members.specs.sg_sim.sg_plain.Playing.Given.{given_in}
+use Rattle.sg_multi.specs.sg_sim.Inside.Givens.{lists_of}
+use Rattle.sg_multi.specs.sg_sim.sg_plain.Playing.Given.{given_in}
 use Rattle.sg_multi.proofs.Turning.{client_there, first_there}
 use Rattle.sg_multi.proofs.running.Running.is_setting_up.Goals as goal
 

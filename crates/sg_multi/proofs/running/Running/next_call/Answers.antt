@@ -1,7 +1,7 @@
 -- As many calls are done as replies were handed over.
 use Rattle.std.proofs.Common.{◌∙◌, length, sym, ap, subst, slice_get}
-use Rattle.sg_members.specs.sg_sim.sg_plain.Calls.{calls_with_setup}
-use Rattle.sg_members.specs.sg_sim.sg_plain.Playing.Playable.{AreClients}
+use Rattle.sg_multi.specs.sg_sim.sg_plain.Calls.{calls_with_setup}
+use Rattle.sg_multi.specs.sg_sim.sg_plain.Playing.Playable.{AreClients}
 use Rattle.sg_multi.specs.Calls.{multi_calls}
 use Rattle.sg_multi.proofs.Turning.{client_there}
 use Rattle.sg_multi.proofs.running.Running.next_call.Goals as goal

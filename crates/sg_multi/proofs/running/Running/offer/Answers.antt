@@ -2,11 +2,11 @@
 use Rattle.std.proofs.Common.{◌≡◌, ◌∙◌, ◌+◌, ◌-◌, ◌<◌, ◌^◌, true, ap, arith, sym, subst}
 use Rattle.sg_facts.specs.Interface.{Declared, declares}
 use Rattle.sg_facts.specs.Kinds.{FitsKinds}
-use Rattle.sg_members.specs.Members.{view_in, world_in}
-use Rattle.sg_members.specs.sg_sim.sg_plain.Playing.Given.{GaveIds}
-use Rattle.sg_members.specs.sg_sim.sg_plain.Playing.Turns.{is_free_phase}
-use Rattle.sg_members.specs.sg_sim.sg_play.NextCall.{IsResolved}
-use Rattle.sg_members.specs.sg_sim.sg_seat.WorldView.{IsFree, Seat, seat_of}
+use Rattle.sg_multi.specs.Members.{view_in, world_in}
+use Rattle.sg_multi.specs.sg_sim.sg_plain.Playing.Given.{GaveIds}
+use Rattle.sg_multi.specs.sg_sim.sg_plain.Playing.Turns.{is_free_phase}
+use Rattle.sg_multi.specs.sg_sim.sg_play.NextCall.{IsResolved}
+use Rattle.sg_multi.specs.sg_sim.sg_clients.WorldView.{IsFree, Seat, seat_of}
 use Rattle.sg_multi.specs.Merged.{entries_in, own_in}
 use Rattle.sg_multi.proofs.Turning.{at_place, client_there, declared_here, fits_here, free_is, gave_own, member_within, numbered_here, offered_asks, offered_at, seat_is, seats_there, some_member}
 use Rattle.sg_multi.proofs.running.Running.offer.Goals as goal

@@ -1,9 +1,9 @@
 -- What is kept by the offer is kept by the step behind it.
 use Rattle.std.proofs.Common.{◌≡◌, ◌∙◌, ℕ, true, ap, arith, sym, subst}
 use Rattle.std.specs.Prelude.{option_map}
-use Rattle.sg_members.proofs.Places.{ok_so}
-use Rattle.sg_members.specs.sg_sim.Inside.Givens.{lists_of}
-use Rattle.sg_members.specs.sg_sim.sg_script.declared.multi.MultiCall.{MultiCall}
+use Rattle.sg_multi.proofs.Places.{ok_so}
+use Rattle.sg_multi.specs.sg_sim.Inside.Givens.{lists_of}
+use Rattle.sg_multi.specs.sg_sim.sg_script.declared.multi.MultiCall.{MultiCall}
 use Rattle.sg_multi.specs.Inside.Keeps.{is_multi_setting_up}
 use Rattle.sg_multi.specs.Inside.Turns.{KeepsRunning, TakesNextTurn}
 use Rattle.sg_multi.specs.Inside.Whose.{next_of}

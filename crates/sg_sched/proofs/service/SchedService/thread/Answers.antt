@@ -4,9 +4,9 @@ use Rattle.std.specs.declared.option.Option.{Option}
 use Rattle.std.specs.Option.{option_map, option_copied, is_some}
 use Rattle.std.proofs.lemmas.Bool.Decides.{nat_tests}
 use Rattle.sg_facts.specs.Inside.Rows.{has_child}
-use Rattle.sg_queues.specs.sg_slots.Slots.{row_with, rows_of}
-use Rattle.sg_queues.proofs.sg_slots.Ids.{above_low}
-use Rattle.sg_queues.proofs.sg_slots.Rows.{row_at-rows_of}
+use Rattle.sg_slots.specs.Slots.{row_with, rows_of}
+use Rattle.sg_slots.proofs.Ids.{above_low}
+use Rattle.sg_slots.proofs.Rows.{row_at-rows_of}
 use Rattle.sg_sched.specs.SchedRow.{thread_body}
 use Rattle.sg_sched.specs.declared.thread.Thread.{Thread}
 use Rattle.sg_sched.proofs.service.SchedService.thread.Goals as goal

@@ -3,7 +3,7 @@ use Rattle.std.proofs.Common.{◌≡◌, subst}
 use Rattle.sg_facts.specs.sg_base.declared.call.Call.{Call}
 use Rattle.sg_log.specs.Log.{log_of}
 use Rattle.sg_log.specs.Names.{HasNoAnswer}
-use Rattle.sg_log.specs.sg_passes.Told.{asking, entries_in, standing_in}
+use Rattle.sg_log.specs.sg_turn.Told.{asking, entries_in, standing_in}
 use Rattle.sg_sim.specs.sg_world.Worlded.{Worlded}
 use Rattle.sg_shared.proofs.world.PlayedWorldHost.is_all_blocked.Goals as goal
 

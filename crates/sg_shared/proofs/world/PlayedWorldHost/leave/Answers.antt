@@ -1,11 +1,11 @@
 -- A client that has no call under way leaves, and the world keeps what it keeps.
 use Rattle.std.proofs.Common.{◌≤◌, length, sym, ◌∙◌, subst}
 use Rattle.sg_log.specs.Log.{log_of}
-use Rattle.sg_log.specs.sg_passes.Hosts.{AddsLeave}
-use Rattle.sg_log.specs.sg_passes.Told.{HasNoCall, standing_in}
+use Rattle.sg_log.specs.sg_turn.Hosts.{AddsLeave}
+use Rattle.sg_log.specs.sg_turn.Told.{HasNoCall, standing_in}
 use Rattle.sg_shared.proofs.Keeping.{free_seat, kept_left}
 use Rattle.sg_shared.specs.Inside.Keeping.{KeepsPlayed}
-use Rattle.sg_sim.specs.sg_seat.WorldView.{seat_of}
+use Rattle.sg_sim.specs.sg_clients.WorldView.{seat_of}
 use Rattle.sg_sim.specs.sg_world.Worlded.{Worlded, setting_of}
 use Rattle.sg_sim.specs.sg_world_laws.Setting.{Setting}
 use Rattle.sg_shared.proofs.world.PlayedWorldHost.leave.Goals as goal

@@ -2,7 +2,7 @@
 use Rattle.std.proofs.Common.{◌≡◌, subst}
 use Rattle.sg_facts.specs.sg_base.declared.call.Call.{Call}
 use Rattle.sg_log.specs.Log.{log_of}
-use Rattle.sg_log.specs.sg_passes.Told.{asking, standing_in}
+use Rattle.sg_log.specs.sg_turn.Told.{asking, standing_in}
 use Rattle.sg_sim.specs.sg_world.Worlded.{Worlded}
 use Rattle.sg_shared.proofs.world.PlayedWorldHost.may_withdraw.Goals as goal
 

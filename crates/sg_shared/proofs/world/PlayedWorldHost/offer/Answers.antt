@@ -3,14 +3,14 @@ use Rattle.std.proofs.Common.{◌≡◌, ◌+◌, ◌<◌, ◌≤◌, ◌++◌, 
 use Rattle.std.specs.Result.{OnOk}
 use Rattle.sg_facts.specs.sg_base.declared.call.Call.{Call}
 use Rattle.sg_log.specs.Log.{log_of}
-use Rattle.sg_log.specs.sg_passes.Told.{HasNoCall, entries_by, mark_by, next_call, standing_in}
-use Rattle.sg_log.specs.sg_passes.sg_turn.declared.log.LogMarkKind.TheVariants.{Offer}
+use Rattle.sg_log.specs.sg_turn.Told.{HasNoCall, entries_by, mark_by, next_call, standing_in}
+use Rattle.sg_log.specs.sg_turn.declared.log.LogMarkKind.TheVariants.{Offer}
 use Rattle.sg_shared.proofs.Keeping.{free_seat, kept_happened, kept_offered}
 use Rattle.sg_shared.specs.Inside.Keeping.{KeepsPlayed}
 use Rattle.sg_sim.proofs.sg_play.Offering.{either_way}
 use Rattle.sg_sim.specs.sg_play.NextCall.{IsNextCall}
 use Rattle.sg_sim.specs.sg_plain.Calls.{call_after}
-use Rattle.sg_sim.specs.sg_seat.WorldView.{seat_of}
+use Rattle.sg_sim.specs.sg_clients.WorldView.{seat_of}
 use Rattle.sg_sim.specs.sg_world.Worlded.{Worlded, setting_of}
 use Rattle.sg_sim.specs.sg_world_laws.Setting.{Setting}
 use Rattle.sg_shared.proofs.world.PlayedWorldHost.offer.Goals as goal

@@ -4,8 +4,8 @@ use Rattle.std.specs.declared.result.Result.{Result}
 use Rattle.sg_facts.specs.Tables.{Compiled}
 use Rattle.sg_log.specs.Dids.{stepped_of}
 use Rattle.sg_log.specs.Log.{log_of}
-use Rattle.sg_log.specs.sg_passes.Hosts.{AddsStep}
-use Rattle.sg_log.specs.sg_passes.declared.host.Stepped.{Stepped}
+use Rattle.sg_log.specs.sg_turn.Hosts.{AddsStep}
+use Rattle.sg_log.specs.sg_turn.declared.host.Stepped.{Stepped}
 use Rattle.sg_shared.proofs.Keeping.{kept_stepped}
 use Rattle.sg_sim.specs.sg_play.Recovering.{RecoversSoFar}
 use Rattle.sg_sim.specs.sg_world.Worlded.{Worlded, setting_of}

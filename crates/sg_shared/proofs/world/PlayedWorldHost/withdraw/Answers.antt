@@ -3,8 +3,8 @@ use Rattle.std.proofs.Common.{◌≡◌, ◌≤◌, ◌++◌, ◌∷◌, [], len
 use Rattle.sg_facts.specs.sg_base.declared.call.Call.{Call}
 use Rattle.sg_log.specs.Log.{log_of}
 use Rattle.sg_log.specs.Names.{phases_of}
-use Rattle.sg_log.specs.sg_passes.Told.{asking, entries_in, mark_by, standing_in}
-use Rattle.sg_log.specs.sg_passes.sg_turn.declared.log.LogMarkKind.TheVariants.{Withdraw}
+use Rattle.sg_log.specs.sg_turn.Told.{asking, entries_in, mark_by, standing_in}
+use Rattle.sg_log.specs.sg_turn.declared.log.LogMarkKind.TheVariants.{Withdraw}
 use Rattle.sg_shared.proofs.Keeping.{kept_withdrawn}
 use Rattle.sg_shared.specs.Inside.Keeping.{KeepsPlayed}
 use Rattle.sg_sim.specs.sg_world.Worlded.{Worlded, setting_of}

@@ -4,7 +4,7 @@ use Rattle.sg_facts.specs.sg_base.Room.{Roomy}
 use Rattle.sg_play.specs.sg_hist.Clients.{calls_of}
 use Rattle.sg_play.specs.sg_plain.Playing.Callers.{handed}
 use Rattle.sg_play.specs.sg_plain.Playing.Given.{GaveIds, given_in}
-use Rattle.sg_play.specs.sg_seat.WorldView.{seat_of}
+use Rattle.sg_play.specs.sg_clients.WorldView.{seat_of}
 use Rattle.sg_sim.proofs.Lists.{length_lists}
 use Rattle.sg_sim.proofs.Rebuilding.{lists_push}
 use Rattle.sg_sim.specs.Inside.Givens.{lists_of}

@@ -3,7 +3,7 @@ use Rattle.std.proofs.Common.{◌≡◌, ◌≤◌, ℕ, length, take}
 use Rattle.sg_play.specs.sg_hist.Clients.{calls_of}
 use Rattle.sg_play.specs.sg_plain.Playing.Callers.{handed}
 use Rattle.sg_play.specs.sg_plain.Playing.Given.{GaveIds, given_in}
-use Rattle.sg_play.specs.sg_seat.WorldView.{seat_of}
+use Rattle.sg_play.specs.sg_clients.WorldView.{seat_of}
 use Rattle.sg_sim.specs.Inside.Givens.{lists_of}
 use Rattle.sg_sim.proofs.given.Given.told_by.Given as goal
 

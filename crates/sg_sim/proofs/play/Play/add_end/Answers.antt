@@ -1,7 +1,7 @@
 -- A client with a call has its end.
 use Rattle.std.proofs.Common.{◌≡◌, ◌∙◌, ◌∷◌, ◌++◌, [], true, false, cond, not, ap, sym, subst, append-nil}
 use Rattle.sg_play.specs.sg_plain.Playing.Ends.{end_of, has_calls}
-use Rattle.sg_play.specs.sg_seat.WorldView.{seat_of}
+use Rattle.sg_play.specs.sg_clients.WorldView.{seat_of}
 use Rattle.sg_play.specs.sg_plain.Calls.{script_calls}
 use Rattle.sg_sim.proofs.Calls.{some_first}
 use Rattle.sg_sim.specs.Inside.Ends.{end_by}

@@ -1,6 +1,6 @@
 -- One client's end more, and all of them.
 use Rattle.std.proofs.Common.{◌∙◌, ◌++◌, ◌+◌, ◌<◌, ap, sym, subst}
-use Rattle.sg_play.specs.sg_seat.WorldView.{seat_of}
+use Rattle.sg_play.specs.sg_clients.WorldView.{seat_of}
 use Rattle.sg_sim.proofs.Ending.{next_end}
 use Rattle.sg_sim.specs.Inside.Ends.{end_by}
 use Rattle.sg_sim.proofs.play.Play.ends.Goals as goal

@@ -1,7 +1,7 @@
 -- A call is there where its number is below the number of calls.
 use Rattle.std.proofs.Common.{length, ◌≡◌, ◌∙◌, ap, nat_lt, subst}
 use Rattle.sg_play.specs.sg_plain.Calls.{script_calls}
-use Rattle.sg_play.specs.sg_seat.WorldView.{seat_of}
+use Rattle.sg_play.specs.sg_clients.WorldView.{seat_of}
 use Rattle.sg_sim.proofs.Calls.{is_there}
 use Rattle.sg_sim.specs.Playing.{Playing}
 use Rattle.sg_sim.proofs.play.Play.has_more.Goals as goal

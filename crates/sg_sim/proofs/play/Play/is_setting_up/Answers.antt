@@ -1,7 +1,7 @@
 -- Client 1 was given as many ids as replies were handed over to it.
 use Rattle.std.proofs.Common.{length, ◌∙◌, ap, subst, arith, ◌≡◌, ◌≤◌, nat_lt}
 use Rattle.sg_play.specs.sg_plain.Playing.Callers.{handed, is_setting_up}
-use Rattle.sg_play.specs.sg_seat.WorldView.{seat_in}
+use Rattle.sg_play.specs.sg_clients.WorldView.{seat_in}
 use Rattle.sg_sim.proofs.Beginning.{clients_from_one, given_count}
 use Rattle.sg_sim.proofs.Lists.{length_lists}
 use Rattle.sg_sim.specs.Inside.Givens.{lists_of}

@@ -3,7 +3,7 @@ use Rattle.std.proofs.Common.{◌∙◌, ◌≤◌, true, [], replicate, ap, sym
 use Rattle.sg_facts.specs.Limits.{last_client}
 use Rattle.sg_facts.specs.Tables.{Compiled}
 use Rattle.sg_play.specs.sg_plain.Calls.{most_client}
-use Rattle.sg_play.specs.sg_seat.WorldView.{new_world, no_seat}
+use Rattle.sg_play.specs.sg_clients.WorldView.{new_world, no_seat}
 use Rattle.sg_sim.proofs.Beginning.{few_clients}
 use Rattle.sg_sim.proofs.Keeping.{kept_new}
 use Rattle.sg_sim.specs.Inside.Givens.{lists_of}

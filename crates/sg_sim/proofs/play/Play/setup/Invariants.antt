@@ -2,7 +2,7 @@
 use Rattle.std.proofs.Common.{◌≡◌, ◌≤◌, ℕ, true, false, length}
 use Rattle.sg_play.specs.sg_plain.Playing.Callers.{handed, is_setting_up}
 use Rattle.sg_play.specs.sg_plain.Playing.Turns.{is_free_phase}
-use Rattle.sg_play.specs.sg_seat.WorldView.{seat_of}
+use Rattle.sg_play.specs.sg_clients.WorldView.{seat_of}
 use Rattle.sg_play.specs.sg_world.Worlded.{setting_of}
 use Rattle.sg_sim.specs.Playing.{ComesTo}
 use Rattle.sg_sim.proofs.play.Play.setup.Given as goal

@@ -4,7 +4,7 @@ use Rattle.sg_facts.specs.Tables.{Compiled}
 use Rattle.sg_play.specs.Following.Stages.{IsNextTurn, stage_of}
 use Rattle.sg_play.specs.sg_plain.Playing.Callers.{handed, is_setting_up}
 use Rattle.sg_play.specs.sg_plain.Playing.Turns.{is_free_phase}
-use Rattle.sg_play.specs.sg_seat.WorldView.{seat_of}
+use Rattle.sg_play.specs.sg_clients.WorldView.{seat_of}
 use Rattle.sg_sim.proofs.Keeping.{kept_miss, kept_turn}
 use Rattle.sg_sim.proofs.Others.{OthersKeep, done_free, missed_on, one_missed, one_taken, others_missed, others_taken, setup_keeps}
 use Rattle.sg_sim.specs.Inside.Givens.{lists_of}

@@ -1,10 +1,10 @@
 -- The row of an id is that of its timer, and no timer has a parent.
 use Rattle.std.proofs.Common.{refl, sym, ◌∙◌, ap}
 use Rattle.std.specs.Option.{option_map, is_some}
-use Rattle.sg_queues.specs.sg_slots.Slots.{row_with}
-use Rattle.sg_queues.proofs.sg_slots.Ids.{above_low}
-use Rattle.sg_queues.proofs.sg_slots.RowLaws.{copied_some, no_child}
-use Rattle.sg_queues.proofs.sg_slots.Rows.{row_at-rows_of}
+use Rattle.sg_slots.specs.Slots.{row_with}
+use Rattle.sg_slots.proofs.Ids.{above_low}
+use Rattle.sg_slots.proofs.RowLaws.{copied_some, no_child}
+use Rattle.sg_slots.proofs.Rows.{row_at-rows_of}
 use Rattle.sg_timer.specs.TimerRow.{timer_body}
 use Rattle.sg_timer.proofs.service.TimerService.timer.Goals as goal
 

@@ -8,7 +8,7 @@ use Rattle.sg_facts.specs.Invoke.{Points}
 use Rattle.sg_facts.specs.Object.{Object}
 use Rattle.sg_replay.specs.declared.advance.Advanced.{Advanced}
 use Rattle.sg_replay.specs.declared.advance.Advanced.TheVariants.{Loaded, Replayed, Struck}
-use Rattle.sg_clients.specs.sg_seat.WorldView.{WorldView, seat_of, with_points}
+use Rattle.sg_clients.specs.WorldView.{WorldView, seat_of, with_points}
 use Rattle.sg_world.specs.Due.{needs_in}
 use Rattle.sg_world.specs.Inners.{IsInOrder, rooms_in, view_in}
 use Rattle.sg_world.specs.Steps.{Steps}

@@ -1,7 +1,7 @@
 -- After a reply the step is one of its lines.
 use Rattle.std.proofs.Common.{ap, if◌then◌else◌, inl, inr, ◌∙◌}
 use Rattle.sg_facts.specs.sg_base.Stops.{asked_after}
-use Rattle.sg_clients.specs.sg_seat.WorldView.{struck_at, with_points}
+use Rattle.sg_clients.specs.WorldView.{struck_at, with_points}
 use Rattle.sg_world.specs.Inners.{view_in}
 use Rattle.sg_world.proofs.inner.Inner.answer.Goals as goal
 

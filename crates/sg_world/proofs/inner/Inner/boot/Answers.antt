@@ -4,7 +4,7 @@ use Rattle.std.proofs.Common.{length, true, ◌≤◌, ap, sym, subst, ◌∙◌
 use Rattle.sg_facts.specs.Trace.{Run}
 use Rattle.sg_replay.specs.sg_hist.Recovered.{struck_in}
 use Rattle.sg_replay.specs.sg_hist.Growing.{booted}
-use Rattle.sg_clients.specs.sg_seat.WorldView.{WorldView, woken_seat}
+use Rattle.sg_clients.specs.WorldView.{WorldView, woken_seat}
 use Rattle.sg_world.specs.Inners.{rooms_in, view_in}
 use Rattle.sg_world.specs.Worlded.{IsWorld, Rooms, setting_of, view_of}
 use Rattle.sg_world.proofs.Points.{stops_booted}

@@ -7,8 +7,8 @@ use Rattle.sg_facts.specs.Object.{object_of}
 use Rattle.sg_facts.specs.Inside.Rows.{given_after, track}
 use Rattle.sg_replay.specs.sg_hist.Recovered.{struck_in}
 use Rattle.sg_replay.specs.Committing.{MayCommitAt}
-use Rattle.sg_clients.specs.sg_seat.WorldView.{Seat, is_offered, seat_in, wakes_seat, woken_seat}
-use Rattle.sg_clients.specs.sg_seat.declared.phase.Phase.TheVariants.{Receipted}
+use Rattle.sg_clients.specs.WorldView.{Seat, is_offered, seat_in, wakes_seat, woken_seat}
+use Rattle.sg_clients.specs.declared.phase.Phase.TheVariants.{Receipted}
 use Rattle.sg_world.specs.Inners.{rooms_in}
 use Rattle.sg_world.specs.Inside.Served.{view_with}
 use Rattle.sg_world.specs.Inside.Waiting.{WaitOnLive, refuses}

@@ -1,7 +1,7 @@
 -- A world keeps what it keeps where a reply is handed over.
 use Rattle.std.proofs.Common.{arith, ap, length, ◌∙◌, ◌-◌}
-use Rattle.sg_clients.specs.sg_seat.WorldView.{no_reply, seat_in}
-use Rattle.sg_clients.specs.sg_seat.declared.phase.Phase.TheVariants.{Idle}
+use Rattle.sg_clients.specs.WorldView.{no_reply, seat_in}
+use Rattle.sg_clients.specs.declared.phase.Phase.TheVariants.{Idle}
 use Rattle.sg_world.proofs.Rooming.{length_set}
 use Rattle.sg_world.specs.Inners.{rooms_in, view_in}
 use Rattle.sg_world.specs.Worlded.{Rooms, setting_of}

@@ -1,8 +1,8 @@
 -- A world keeps what it keeps where a client holds the reply to its call.
 use Rattle.std.proofs.Common.{ap, arith, length, refl, sym, ◌-◌, ◌∙◌, ◌≡◌}
 use Rattle.sg_facts.specs.Invoke.{Points}
-use Rattle.sg_clients.specs.sg_seat.WorldView.{Seat, seat_in}
-use Rattle.sg_clients.specs.sg_seat.declared.phase.Phase.TheVariants.{Held}
+use Rattle.sg_clients.specs.WorldView.{Seat, seat_in}
+use Rattle.sg_clients.specs.declared.phase.Phase.TheVariants.{Held}
 use Rattle.sg_world.specs.Inners.{rooms_in}
 use Rattle.sg_world.specs.Inside.Served.{view_with}
 use Rattle.sg_world.specs.Worlded.{setting_of}

@@ -3,7 +3,7 @@ use Rattle.std.proofs.Common.{◌∙◌, ap, inr, sym}
 use Rattle.sg_facts.specs.sg_base.declared.reply.Reply.{Reply}
 use Rattle.sg_facts.specs.Guard.{guard}
 use Rattle.sg_facts.specs.Object.{Object, object_of}
-use Rattle.sg_clients.specs.sg_seat.WorldView.{WorldView, answered_to, committed}
+use Rattle.sg_clients.specs.WorldView.{WorldView, answered_to, committed}
 use Rattle.sg_world.specs.Inners.{view_in}
 use Rattle.sg_world.specs.Steps.{Refuses, entry_with}
 use Rattle.sg_world.specs.Worlded.{setting_of}

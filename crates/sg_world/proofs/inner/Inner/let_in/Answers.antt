@@ -2,7 +2,7 @@
 use Rattle.std.proofs.Common.{◌≡◌, ◌∙◌, ap, if◌then◌else◌, inl, inr, subst, sym}
 use Rattle.std.specs.Prelude.{IfOk, IsSome}
 use Rattle.sg_facts.specs.sg_base.Stops.{asked_after}
-use Rattle.sg_clients.specs.sg_seat.WorldView.{WorldView, struck_at, with_points}
+use Rattle.sg_clients.specs.WorldView.{WorldView, struck_at, with_points}
 use Rattle.sg_world.specs.Inners.{view_in}
 use Rattle.sg_world.specs.Inside.Lines.{NoMemoryLeft}
 use Rattle.sg_world.specs.Steps.{StopsIdle, Steps}

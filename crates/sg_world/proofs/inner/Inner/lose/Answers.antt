@@ -1,7 +1,7 @@
 -- A world keeps what it keeps where a reply is lost.
 use Rattle.std.proofs.Common.{ap, length, arith, ◌∙◌, ◌-◌}
-use Rattle.sg_clients.specs.sg_seat.WorldView.{seat_in}
-use Rattle.sg_clients.specs.sg_seat.declared.phase.Phase.TheVariants.{Asked}
+use Rattle.sg_clients.specs.WorldView.{seat_in}
+use Rattle.sg_clients.specs.declared.phase.Phase.TheVariants.{Asked}
 use Rattle.sg_world.proofs.Rooming.{length_set}
 use Rattle.sg_world.specs.Inners.{rooms_in, view_in}
 use Rattle.sg_world.specs.Worlded.{setting_of}

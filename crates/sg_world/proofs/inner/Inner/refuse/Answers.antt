@@ -1,10 +1,10 @@
 -- A world keeps what it keeps where the guard refuses a call.
 use Rattle.std.proofs.Common.{length, ◌-◌, ap, arith, subst, ◌++◌, ◌∙◌, ◌∷◌, [], ◌≡◌, ◌<◌, ◌≤◌, ◌^◌}
 use Rattle.sg_facts.specs.sg_base.declared.reply.Reply.TheVariants.{Refused}
-use Rattle.sg_clients.specs.sg_seat.WorldView.{Seat, no_reply, seat_in}
-use Rattle.sg_clients.specs.sg_seat.declared.phase.Phase.TheVariants.{Idle}
+use Rattle.sg_clients.specs.WorldView.{Seat, no_reply, seat_in}
+use Rattle.sg_clients.specs.declared.phase.Phase.TheVariants.{Idle}
 use Rattle.sg_world.proofs.Rooming.{length_set}
-use Rattle.sg_clients.specs.sg_seat.declared.mark.MarkKind.TheVariants.{Answer, Entry as IsEntered}
+use Rattle.sg_clients.specs.declared.mark.MarkKind.TheVariants.{Answer, Entry as IsEntered}
 use Rattle.sg_world.specs.Inners.{rooms_in, view_in}
 use Rattle.sg_world.specs.Worlded.{Rooms, setting_of}
 use Rattle.sg_world.proofs.Denying.{denial_rooms, denied_on, denied_view}

@@ -3,15 +3,15 @@ use Rattle.std.proofs.Common.{length, ◌-◌, ◌≤◌, None, ap, arith, map, 
 use Rattle.sg_facts.specs.Inside.Rows.{given_after, track}
 use Rattle.sg_replay.specs.sg_hist.Recovered.{struck_in}
 use Rattle.sg_replay.specs.Committing.{MayCommitAt}
-use Rattle.sg_clients.specs.sg_seat.WorldView.{wakes_seat, woken_seat, seat_in, Seat, no_reply}
-use Rattle.sg_clients.specs.sg_seat.declared.mark.MarkKind.TheVariants.{Answer, Entry as IsEntered}
+use Rattle.sg_clients.specs.WorldView.{wakes_seat, woken_seat, seat_in, Seat, no_reply}
+use Rattle.sg_clients.specs.declared.mark.MarkKind.TheVariants.{Answer, Entry as IsEntered}
 use Rattle.sg_world.specs.Inners.{rooms_in, view_in}
 use Rattle.sg_world.specs.Worlded.{IsWorld, Rooms, setting_of}
 use Rattle.sg_world.proofs.Returning.{has_rooms, may_return, returned_on, returned_view, waits_live}
 use Rattle.sg_world.specs.Inside.Waiting.{WaitOnLive}
 use Rattle.std.proofs.lemmas.List.{length-map}
 use Rattle.sg_world.proofs.Rooming.{length_set}
-use Rattle.sg_clients.specs.sg_seat.declared.phase.Phase.TheVariants.{Idle}
+use Rattle.sg_clients.specs.declared.phase.Phase.TheVariants.{Idle}
 use Rattle.sg_world.proofs.inner.Inner.return_held.Given
 use Rattle.sg_world.proofs.inner.Inner.return_held.Goals.{Start}
 use Rattle.sg_world.proofs.inner.Inner.return_held.Goals as goal

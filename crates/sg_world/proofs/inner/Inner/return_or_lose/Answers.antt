@@ -2,7 +2,7 @@
 use Rattle.std.proofs.Common.{◌∙◌, ap, inl, inr, sym}
 use Rattle.std.specs.Prelude.{IsSome}
 use Rattle.sg_facts.specs.sg_base.declared.reply.Reply.{Reply}
-use Rattle.sg_clients.specs.sg_seat.WorldView.{WorldView, answered_to, committed}
+use Rattle.sg_clients.specs.WorldView.{WorldView, answered_to, committed}
 use Rattle.sg_world.specs.Inners.{view_in}
 use Rattle.sg_world.specs.Steps.{Returns, entry_with}
 use Rattle.sg_world.specs.Worlded.{setting_of}

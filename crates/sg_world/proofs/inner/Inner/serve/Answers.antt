@@ -8,7 +8,7 @@ use Rattle.sg_facts.specs.Tables.{Compiled}
 use Rattle.sg_facts.specs.declared.outcome.Outcome.{Outcome}
 use Rattle.sg_facts.specs.declared.outcome.Outcome.TheVariants.{Replied}
 use Rattle.sg_replay.specs.Serving.{ServesOne}
-use Rattle.sg_clients.specs.sg_seat.WorldView.{WorldView, seat_in, with_points}
+use Rattle.sg_clients.specs.WorldView.{WorldView, seat_in, with_points}
 use Rattle.sg_world.specs.Inners.{view_in}
 use Rattle.sg_world.specs.Inside.Served.{HasServed, view_with}
 use Rattle.sg_world.specs.Steps.{Steps}

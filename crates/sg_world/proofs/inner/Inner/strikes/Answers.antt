@@ -2,7 +2,7 @@
 use Rattle.std.proofs.Common.{length, true, ◌≤◌, ap, sym, subst, ◌∙◌}
 use Rattle.sg_facts.specs.sg_base.Stops.{struck_after}
 use Rattle.sg_replay.specs.sg_hist.Recovered.{struck_in}
-use Rattle.sg_clients.specs.sg_seat.WorldView.{WorldView}
+use Rattle.sg_clients.specs.WorldView.{WorldView}
 use Rattle.sg_world.specs.Inners.{rooms_in, view_in}
 use Rattle.sg_world.specs.Worlded.{IsWorld, Rooms, setting_of, view_of}
 use Rattle.sg_world.proofs.Points.{counted_on, not_stopped_up, stopped_on, stops_struck}

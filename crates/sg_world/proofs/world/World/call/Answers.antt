@@ -1,7 +1,7 @@
 -- A call that isn't answered is its client's, and a receipt is for its client's last entry.
 use Rattle.std.proofs.Common.{Some, true, length, subst, sym, ◌≡◌, ◌≤◌}
-use Rattle.sg_clients.specs.sg_seat.WorldView.{is_offered, seat_of}
-use Rattle.sg_clients.specs.sg_seat.declared.phase.Phase.TheVariants.{Receipted}
+use Rattle.sg_clients.specs.WorldView.{is_offered, seat_of}
+use Rattle.sg_clients.specs.declared.phase.Phase.TheVariants.{Receipted}
 use Rattle.sg_replay.specs.sg_hist.Clients.{calls_of}
 use Rattle.sg_world.proofs.Recovered.{seated_now}
 use Rattle.sg_world.specs.Engines.Stubs.{stub_of}

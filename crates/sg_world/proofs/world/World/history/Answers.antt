@@ -3,8 +3,8 @@ use Rattle.std.proofs.Common.{None, ℕ, length, subst, ◌≡◌, ◌≤◌}
 use Rattle.sg_world.specs.Engines.Stubs.{stub_of}
 use Rattle.sg_facts.specs.Legal.{LegalFrom, answer}
 use Rattle.sg_facts.specs.Object.{empty_object, object_of}
-use Rattle.sg_clients.specs.sg_seat.WorldView.{seat_of}
-use Rattle.sg_clients.specs.sg_seat.declared.phase.Phase.TheVariants.{Blocked}
+use Rattle.sg_clients.specs.WorldView.{seat_of}
+use Rattle.sg_clients.specs.declared.phase.Phase.TheVariants.{Blocked}
 use Rattle.sg_world.proofs.Recovered.{seated_now}
 use Rattle.sg_world.specs.Inners.{view_in}
 use Rattle.sg_world.specs.Worlded.{Worlded, setting_of}

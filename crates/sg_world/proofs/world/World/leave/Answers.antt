@@ -1,7 +1,7 @@
 -- A world keeps what it keeps where a client leaves.
 use Rattle.std.proofs.Common.{◌≤◌, sym, ◌∙◌, subst, arith, length, ap, ◌-◌}
-use Rattle.sg_clients.specs.sg_seat.WorldView.{IsFree, WorldView, seat_of}
-use Rattle.sg_clients.specs.sg_seat.declared.phase.Phase.TheVariants.{Left}
+use Rattle.sg_clients.specs.WorldView.{IsFree, WorldView, seat_of}
+use Rattle.sg_clients.specs.declared.phase.Phase.TheVariants.{Left}
 use Rattle.sg_world.proofs.Rooming.{length_set}
 use Rattle.sg_world.specs.Inners.{rooms_in, view_in}
 use Rattle.sg_world.specs.Worlded.{Rooms, setting_of}

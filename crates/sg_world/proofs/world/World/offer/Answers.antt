@@ -3,10 +3,10 @@ use Rattle.std.proofs.Common.{◌≡◌, ◌+◌, ◌++◌, ◌∷◌, [], ◌�
 use Rattle.sg_facts.specs.sg_base.declared.call.Call.{Call}
 use Rattle.sg_facts.specs.Interface.{declares}
 use Rattle.sg_facts.specs.Kinds.{FitsKinds}
-use Rattle.sg_clients.specs.sg_seat.WorldView.{IsFree, happened, offered, seat_of}
-use Rattle.sg_clients.specs.sg_seat.declared.mark.MarkKind.TheVariants.{Offer}
+use Rattle.sg_clients.specs.WorldView.{IsFree, happened, offered, seat_of}
+use Rattle.sg_clients.specs.declared.mark.MarkKind.TheVariants.{Offer}
 use Rattle.sg_replay.specs.sg_hist.Clients.{MayBeMade}
-use Rattle.sg_clients.specs.sg_seat.declared.phase.Phase.TheVariants.{Asked}
+use Rattle.sg_clients.specs.declared.phase.Phase.TheVariants.{Asked}
 use Rattle.sg_world.proofs.Rooming.{length_set}
 use Rattle.sg_world.specs.Inners.{rooms_in, view_in}
 use Rattle.sg_world.specs.Worlded.{IsWorld, Rooms, setting_of}

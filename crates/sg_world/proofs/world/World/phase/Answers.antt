@@ -3,7 +3,7 @@ use Rattle.std.proofs.Common.{None, length, subst, sym, ◌∙◌, ◌≡◌, �
 use Rattle.sg_world.specs.Engines.Stubs.{stub_of}
 use Rattle.sg_facts.specs.Legal.{answer}
 use Rattle.sg_facts.specs.Object.{object_of}
-use Rattle.sg_clients.specs.sg_seat.WorldView.{seat_of}
+use Rattle.sg_clients.specs.WorldView.{seat_of}
 use Rattle.sg_world.proofs.Recovered.{seated_now}
 use Rattle.sg_world.specs.Inners.{view_in}
 use Rattle.sg_world.specs.Worlded.{Worlded, setting_of}

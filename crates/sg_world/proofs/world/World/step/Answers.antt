@@ -2,7 +2,7 @@
 use Rattle.std.proofs.Common.{ap, refl, subst, ◌≤◌, sym, ◌∙◌, ◌≡◌, length}
 use Rattle.std.specs.Prelude.{OnErr}
 use Rattle.sg_facts.specs.Tables.{Compiled}
-use Rattle.sg_clients.specs.sg_seat.WorldView.{WorldView, happened, seat_of}
+use Rattle.sg_clients.specs.WorldView.{WorldView, happened, seat_of}
 use Rattle.sg_world.proofs.Events.{any_length, err_counted, err_wants, event_on, ok_answers, ok_counted}
 use Rattle.sg_world.specs.Inners.{rooms_in, view_in}
 use Rattle.sg_world.specs.Steps.{WantsMemory}

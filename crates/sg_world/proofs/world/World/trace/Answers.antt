@@ -3,7 +3,7 @@ use Rattle.std.proofs.Common.{subst, ◌≡◌}
 use Rattle.sg_world.specs.Engines.Stubs.{stub_of}
 use Rattle.sg_replay.specs.sg_hist.Recovered.{AreInBoots, IsRecovered, struck_in}
 use Rattle.sg_replay.specs.sg_hist.Growing.{IsRecovering}
-use Rattle.sg_clients.specs.sg_seat.WorldView.{unanswered}
+use Rattle.sg_clients.specs.WorldView.{unanswered}
 use Rattle.sg_world.proofs.Recovered.{recovered_now, recovering_now, tested_now}
 use Rattle.sg_world.specs.Inners.{view_in}
 use Rattle.sg_world.specs.Worlded.{CountsAll, Worlded, setting_of}

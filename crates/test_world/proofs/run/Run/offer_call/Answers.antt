@@ -2,7 +2,7 @@
 use Rattle.std.proofs.Common.{◌+◌, refl, subst, sym}
 use Rattle.sg_facts.specs.Interface.{Declared}
 use Rattle.sg_facts.specs.Kinds.{FitsKinds}
-use Rattle.sg_discard.specs.sg_seat.WorldView.{seat_of}
+use Rattle.sg_discard.specs.sg_clients.WorldView.{seat_of}
 use Rattle.test_world.proofs.run.Run.offer_call.Goals as goal
 
 pub offer-requires-clause-fits : goal.offer-requires-clause-fits

@@ -1,0 +1,51 @@
+-- Which bytes are the line of an entry, and of which one.
+use Rattle.std.specs.Prelude.{◌≡◌, ◌≤◌, ℕ, Bool, List, [], ◌∷◌, ◌++◌, None, Some, length, codes}
+use Rattle.std.specs.List.{flat_map}
+use Rattle.std.specs.Str.{bytes_eq}
+use Rattle.std.specs.Option.{is_some}
+use Rattle.sg_lex.specs.Lexeme.{Spelling}
+use Rattle.sg_lex.specs.Sentences.{separated}
+use Rattle.sg_entries.specs.declared.tree.WrittenArg.{WrittenArg}
+use Rattle.sg_entries.specs.declared.tree.WrittenArg.TheVariants.{Number, Text}
+use Rattle.sg_entries.specs.declared.tree.WrittenAnswer.{WrittenAnswer}
+use Rattle.sg_entries.specs.declared.tree.WrittenAnswer.TheVariants.{Refused, Ok}
+use Rattle.sg_entries.specs.declared.tree.WrittenEntry.{WrittenEntry}
+use Rattle.sg_facts.specs.sg_base.Codes.{code_name}
+use Rattle.sg_entries.specs.Pieces.{EntryPiece, fixed, number, positive, name, printable, piece_bytes, ArePlaced}
+
+-- ---- the pieces of an entry, in order
+
+-- a text in double quotes
+abbrev pub text_pieces : Spelling → List EntryPiece
+text_pieces t = fixed (0x22 ∷ []) ∷ printable t ∷ fixed (0x22 ∷ []) ∷ []
+
+-- a number, or a text in double quotes
+abbrev pub arg_pieces : WrittenArg → List EntryPiece
+arg_pieces arg = elim arg [ Number n ↦ number n ∷ [] | Text t ↦ text_pieces t ]
+
+-- an answer: `refused` and a code; or `ok`, its descriptor where it has one, its words, and its bytes where they are shown
+abbrev pub answer_pieces : WrittenAnswer → List EntryPiece
+answer_pieces (Refused code) = fixed (codes "refused ") ∷ fixed (code_name code) ∷ []
+answer_pieces (Ok desc words bytes) =
+    fixed (codes "ok")
+    ∷ ((elim desc [ None ↦ [] | Some d ↦ fixed (codes " #") ∷ positive d ∷ [] ])
+    ++ flat_map (λ w. fixed (codes " ") ∷ number w ∷ []) words
+    ++ (elim bytes [ None ↦ [] | Some t ↦ fixed (codes " ") ∷ text_pieces t ]))
+
+-- an entry: client, number and call, with a comma and a space between its arguments, and the answer
+abbrev pub entry_pieces : WrittenEntry → List EntryPiece
+entry_pieces e =
+    fixed (codes "c") ∷ number e.client ∷ fixed (codes ".") ∷ number e.seq ∷ fixed (codes " ") ∷ name e.name ∷ fixed (codes "(")
+    ∷ (separated (fixed (codes ", ")) arg_pieces e.args ++ fixed (codes ")") ∷ fixed (codes " = ") ∷ answer_pieces e.answer)
+
+-- ---- lines
+
+-- an answer of a function that shows its bytes, or doesn't: an Ok has at most four words, and bytes just where they are shown
+abbrev pub IsAnswer : Bool → WrittenAnswer → Type 0
+IsAnswer shown answer = elim answer [ Refused code ↦ Unit {0} | Ok desc words bytes ↦ (length words ≤ 4) × (is_some bytes ≡ shown) ]
+
+-- the line is that of this entry: each of its pieces is what it is said to be and stands at its place; the answer is one of its
+-- function, which shows its bytes where it is the one that reads a file; and the line has the bytes of the pieces, without a line's end
+abbrev pub IsEntry : List ℕ → WrittenEntry → Type 0
+IsEntry line e =
+    (ArePlaced 0 (entry_pieces e) × IsAnswer (bytes_eq e.name.bytes (codes "tread")) e.answer) × (line ≡ flat_map piece_bytes (entry_pieces e))

@@ -1,8 +1,0 @@
--- The bytes so far were taken.
-use Rattle.std.proofs.Common.{◌≡◌, drop}
-use Rattle.sg_entry_parse.specs.Inside.States.{EntryState, bytes}
-use Rattle.sg_entry_parse.specs.Inside.Reads.{read}
-use Rattle.sg_entry_parse.proofs.pieces.fixed.Given as goal
-
-abbrev pub invariant-bytes : goal.invariant-bytes
-invariant-bytes l = (k : EntryState) → read (bytes l.fn.wanted k) l.fn.line ≡ read (bytes (drop l.at l.fn.wanted) k) l.line

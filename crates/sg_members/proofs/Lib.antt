@@ -1,2 +1,0 @@
-pub mod Places
-pub use Rattle.sg_sim.proofs as sg_sim

@@ -1,3 +1,0 @@
--- What private clauses and proofs speak of.
-pub mod Calls
-pub mod Steps

@@ -1,2 +1,0 @@
-pub mod Lines
-pub use Rattle.sg_hist.proofs as sg_hist

@@ -1,2 +1,0 @@
-pub mod WorldView
-pub use Rattle.sg_hist.specs as sg_hist
