@@ -3,7 +3,8 @@ ghost use Rattle.std.specs.Prelude.{◌≡◌, ◌↔◌, IfSome, IsSome, IsTrue
 ghost use Rattle.sg_base.specs.declared.value.Value.TheVariants.{Word};
 ghost use Rattle.sg_base.specs.Records.{FitsBrief, IsBriefCall, IsBriefReply, word_of, words_of};
 
-use crate::records::{MOST_ARGS, MOST_REPLY_WORDS};
+use crate::records::MOST_ARGS;
+use crate::reply::MOST_REPLY_WORDS;
 use crate::{Args, Call, Gave, LentArgs, Reply, Value};
 
 /// Whether a call can be kept in brief: it has at most 4 arguments, all of them words.

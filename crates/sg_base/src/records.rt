@@ -8,15 +8,13 @@ ghost use Rattle.sg_base.specs.Lent.{record_in};
 ghost use Rattle.sg_base.specs.Records.{InBrief, Whole, most_args, most_reply_words, word_of};
 
 use crate::head::Head;
+use crate::reply::MOST_REPLY_WORDS;
 use crate::{Args, Brief, Gave, Lent, LentArgs, NoMemory, RecordKind, TryCopy, Value, Why};
 use std::alloc::Global;
 use std::marker::Model;
 
 /// The greatest number of argument words of a call in brief.
 pub const MOST_ARGS: usize = 4;
-
-/// The greatest number of words of its reply.
-pub const MOST_REPLY_WORDS: usize = 4;
 
 /// The greatest number of words of a record in brief: those of arguments and reply, the id and the client of a walk's call, and a descriptor.
 const MOST_WORDS: usize = MOST_ARGS + MOST_REPLY_WORDS + 3;

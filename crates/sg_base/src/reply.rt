@@ -1,11 +1,12 @@
 // What a client gets back.
 ghost use Rattle.std.specs.Prelude.{◌≡◌, ◌≤◌, IfOk};
+ghost use Rattle.sg_base.specs.Codes.{code_name};
 
 use crate::{Bytes, ListRoom, NoMemory, TryCopy, Words};
 use std::alloc::Global;
 
 /// The greatest number of words of a reply.
-pub(crate) const MOST_WORDS: usize = 4;
+pub const MOST_REPLY_WORDS: usize = 4;
 
 /// The greatest number of bytes of a reply.
 pub(crate) const MOST_BYTES: usize = 256;
@@ -57,6 +58,29 @@ pub enum Code {
     BadName = 13,
 }
 
+impl Code {
+    /// Its name, as a printed run has it.
+    pub fn name(self) -> &'static [u8]
+        ensures { result.now ≡ code_name self }
+    {
+        match self {
+            Code::NoDesc => b"NoDesc",
+            Code::NoParent => b"NoParent",
+            Code::BadState => b"BadState",
+            Code::HasChildren => b"HasChildren",
+            Code::Full => b"Full",
+            Code::NotOwner => b"NotOwner",
+            Code::Held => b"Held",
+            Code::Occupied => b"Occupied",
+            Code::NotFound => b"NotFound",
+            Code::Overflow => b"Overflow",
+            Code::Gap => b"Gap",
+            Code::TooBig => b"TooBig",
+            Code::BadName => b"BadName",
+        }
+    }
+}
+
 impl TryCopy for Good {
     fn copy(&self, alloc: Global) -> Result<Self, NoMemory> {
         Ok(Good {
@@ -92,7 +116,7 @@ impl Reply {
         ensures bytes { IfOk result (λ room. 256 ≤ room.bytes) }
     {
         Ok(ReplyRoom {
-            words: ListRoom::new(alloc, MOST_WORDS)?,
+            words: ListRoom::new(alloc, MOST_REPLY_WORDS)?,
             bytes: ListRoom::new(alloc, MOST_BYTES)?,
         })
     }

@@ -3,7 +3,7 @@ ghost use Rattle.std.specs.Prelude.{◌≡◌, ◌≤◌, [], length, vec_capaci
 ghost use Rattle.sg_base.specs.Few.{most_few};
 
 use crate::few::FewWords;
-use crate::reply::{MOST_BYTES, MOST_WORDS};
+use crate::reply::{MOST_BYTES, MOST_REPLY_WORDS};
 use crate::room::filled;
 use crate::{Good, ListOf, NoMemory, Reply, Words};
 use std::alloc::Global;
@@ -114,7 +114,7 @@ impl SpareReply {
         ensures words { self.old.words ≤ self.new.words }
         ensures bytes { self.old.bytes ≤ self.new.bytes }
     {
-        self.words.reserve(alloc, MOST_WORDS)?;
+        self.words.reserve(alloc, MOST_REPLY_WORDS)?;
         self.bytes.reserve(alloc, MOST_BYTES)?;
         Ok(())
     }
