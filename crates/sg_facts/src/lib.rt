@@ -48,7 +48,8 @@ pub use kinds::{ItemKind, TagKind};
 pub use laws::legal_from_the_front;
 pub use lent::{LentItem, LentOutcome, LentTag};
 pub use limits::{
-    END_OF_FUNS, LAST_CLIENT, MOST_FIELDS, MOST_FILE, MOST_FUNS, MOST_LIVE, MOST_PATH, MOST_WRITTEN,
+    END_OF_FUNS, FIRST_CLIENT, LAST_CLIENT, MOST_FIELDS, MOST_FILE, MOST_FUNS, MOST_LIVE,
+    MOST_PATH, MOST_WRITTEN,
 };
 pub use outcome::{Outcome, Patch, PatchRoom};
 pub use path::FilePath;
@@ -56,9 +57,10 @@ pub use row::{Fields, FieldsRoom, Row};
 pub use service::Service;
 pub use sg_base::{
     Args, Brief, Bytes, Call, Code, Gave, GaveKind, Good, IdList, Lent, LentArgs, LentBrief,
-    LentCall, LentGood, LentReply, LentValue, ListOf, NoMemory, PairList, Path, Point, PointList,
-    Records, Reply, ReplyRoom, RoomyList, SpareList, SpareReply, Stops, Text, TextFault, TextRoom,
-    TryCopy, Value, Why, Words, gave_of, is_brief_call, is_text_byte, reply_words,
+    LentCall, LentGood, LentReply, LentValue, ListOf, MOST_REPLY_WORDS, NoMemory, PairList, Path,
+    Point, PointList, Records, Reply, ReplyRoom, RoomyList, SpareList, SpareReply, Stops, Text,
+    TextFault, TextRoom, TryCopy, Value, Why, Words, gave_of, is_brief_call, is_text_byte,
+    reply_words,
 };
 pub use shape::{Effect, FieldShape, FunShape, Kind, Leaves, Parents, Shape};
 pub use tables::{Tables, WalkLine, WalkList};

@@ -7,9 +7,12 @@ pub const MOST_FUNS: u8 = 32;
 pub const END_OF_FUNS: u8 = MOST_FUNS + 1;
 
 /// The greatest number of fields of a row.
-pub const MOST_FIELDS: u8 = 8;
+pub const MOST_FIELDS: usize = 8;
 
-/// The greatest number of a client; the first is 1.
+/// The number of the first client, which makes the calls of a script's setup too.
+pub const FIRST_CLIENT: u8 = 1;
+
+/// The greatest number of a client.
 pub const LAST_CLIENT: u8 = 64;
 
 /// The greatest number of live rows.

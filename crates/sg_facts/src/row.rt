@@ -4,6 +4,7 @@ ghost use Rattle.std.specs.Option.{option_copied};
 ghost use Rattle.sg_facts.specs.Fields.{is_set};
 ghost use Rattle.sg_facts.specs.Inside.Rows.{mask_of};
 
+use crate::MOST_FIELDS;
 use sg_base::{ListOf, NoMemory, Text, TextRoom, TryCopy, Value};
 use std::alloc::Global;
 use std::marker::Model;
@@ -117,16 +118,13 @@ pub struct FieldsRoom {
 }
 
 impl Fields {
-    /// The greatest number of fields of a row.
-    pub const MOST: usize = 8;
-
     /// Room for the fields of a row, taken ahead so that a copy of them needs no memory later.
     pub fn room(alloc: Global) -> Result<FieldsRoom, NoMemory>
         ensures values { IfOk result (λ room. 8 ≤ vec_capacity room.values) }
         ensures texts { IfOk result (λ room. length room.texts.items ≡ 8) }
     {
         Ok(FieldsRoom {
-            values: Vec::with_capacity(alloc, Fields::MOST)?,
+            values: Vec::with_capacity(alloc, MOST_FIELDS)?,
             texts: text_rooms(alloc)?,
         })
     }
@@ -136,8 +134,8 @@ impl Fields {
 fn text_rooms(alloc: Global) -> Result<Vec<TextRoom>, NoMemory>
     ensures { IfOk result (λ rooms. length rooms.items ≡ 8) }
 {
-    let mut rooms = Vec::with_capacity(alloc, Fields::MOST)?;
-    'rooms: for _ in 0..Fields::MOST {
+    let mut rooms = Vec::with_capacity(alloc, MOST_FIELDS)?;
+    'rooms: for _ in 0..MOST_FIELDS {
         rooms.push(Text::room(alloc)?)?;
     }
     Ok(rooms)
@@ -188,7 +186,7 @@ impl Row {
         ensures { result ≡ mask_of (take 8 self.now.fields) }
     {
         let values = self.fields.as_slice();
-        mask_of(&values[..values.len().min(8)])
+        mask_of(&values[..values.len().min(MOST_FIELDS)])
     }
 }
 

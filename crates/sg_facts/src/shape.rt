@@ -175,6 +175,13 @@ impl FunShape {
     {
         self.kinds.iter().any(|kind| matches!(kind, Kind::Parent))
     }
+
+    /// Whether it takes a descriptor or a parent.
+    pub fn takes_id(&self) -> bool
+        ensures { result ≡ (takes_desc (fun_of_shape self.now) || takes_parent (fun_of_shape self.now)) }
+    {
+        self.takes_desc() || self.takes_parent()
+    }
 }
 
 /// The facts of a service. Functions are numbered from 1 in the order of `funs`, fields from 0 in that of `fields`.

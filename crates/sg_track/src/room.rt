@@ -3,7 +3,7 @@ ghost use Rattle.std.specs.Prelude.{◌≡◌, ◌+◌, ◌≤◌, [], length, m
 ghost use Rattle.sg_track.specs.Drafts.{drafted};
 
 use crate::draft::Draft;
-use sg_facts::{Call, Fields, LentValue, NoMemory, Text, TextRoom, Value};
+use sg_facts::{Call, Fields, LentValue, MOST_FIELDS, NoMemory, Text, TextRoom, Value};
 use std::alloc::Global;
 use std::mem;
 
@@ -30,7 +30,7 @@ impl RowRoom {
     pub(crate) fn reserve(&mut self, alloc: Global) -> Result<(), NoMemory>
         ensures { OnOk result (HasRowRoom self.new) }
     {
-        self.values = Vec::with_capacity(alloc, Fields::MOST)?;
+        self.values = Vec::with_capacity(alloc, MOST_FIELDS)?;
         add_text_rooms(alloc, &mut self.texts)?;
         Ok(())
     }
@@ -100,7 +100,7 @@ fn filled_text(texts: &mut Vec<TextRoom>, text: &Text) -> Text
 fn add_text_rooms(alloc: Global, rooms: &mut Vec<TextRoom>) -> Result<(), NoMemory>
     ensures { OnOk result (8 ≤ length rooms.new.items) }
 {
-    'rooms: for _ in rooms.len()..Fields::MOST {
+    'rooms: for _ in rooms.len()..MOST_FIELDS {
         rooms.push(Text::room(alloc)?)?;
     }
     Ok(())

@@ -19,7 +19,7 @@ pub(crate) fn interface(
 ) -> Result<Interface, Fail>
     ensures { IfOk result HasFewFields }
 {
-    if shape.fields.len() > usize::from(MOST_FIELDS) {
+    if shape.fields.len() > MOST_FIELDS {
         return Err(Fail::new("more fields than a row may have"));
     }
     Ok(Interface {

@@ -1,8 +1,8 @@
 // What no clause says: that each call does its work where there is memory, and values from outside.
 use sg_facts::{
     Args, Bytes, Call, Effect, Entry, FieldShape, Fields, FunShape, Good, Interface, Kind, Leaves,
-    NoMemory, PairList, Parents, Patch, Path, Reply, Row, Shape, Text, TryCopy, Value, Walk, Words,
-    close_word, flag_word, legal_from_the_front, parents_word,
+    MOST_FIELDS, NoMemory, PairList, Parents, Patch, Path, Reply, Row, Shape, Text, TryCopy, Value,
+    Walk, Words, close_word, flag_word, legal_from_the_front, parents_word,
 };
 use std::alloc::Global;
 use std::fmt::Debug;
@@ -320,7 +320,7 @@ fn copies_are_equal(rt: HostRuntime) -> Result<(), Fail> {
 
 // Whether fields fill the room that is taken for them.
 fn fill_room(alloc: Global, fields: &Fields) -> Result<bool, NoMemory> {
-    if fields.len() > Fields::MOST {
+    if fields.len() > MOST_FIELDS {
         return Ok(false);
     }
     let filled = Fields::room(alloc)?.fill(fields);
