@@ -1,18 +1,17 @@
 // What calls of functions can cost.
-ghost use Rattle.std.specs.Prelude.{◌≡◌, ◌||◌, IfOk, List, map};
+ghost use Rattle.std.specs.Prelude.{◌≡◌, IfOk, List, map};
 ghost use Rattle.sg_cost.specs.Costs.{all_lengths, fun_cost, greatest};
 ghost use Rattle.sg_cost.specs.Inside.Pieces.{declared_funs};
 ghost use Rattle.sg_cost.specs.Inside.Fronts.{AreFewRows};
 ghost use Rattle.sg_cost.specs.Inside.Lines.{line_cost};
-ghost use Rattle.sg_facts.specs.Facts.{fun_of_shape, takes_desc, takes_parent};
 ghost use Rattle.sg_facts.specs.declared.row.Row.{Row as IsRow};
 ghost use Rattle.sg_facts.specs.declared.tables.WalkLine.{WalkLine as IsLine};
 ghost use Rattle.sg_needs.specs.sg_track.Tracked.{AreTracked};
 
 use crate::lines::deepest_line;
 use crate::{FunCost, FunCostList};
-use sg_facts::{END_OF_FUNS, FunShape, Interface, NoMemory, Tables};
-use sg_needs::Tracker;
+use sg_facts::{END_OF_FUNS, Interface, NoMemory, Tables};
+use sg_needs::{Tracker, wants_all};
 use std::alloc::Global;
 
 /// The declared functions, ascending, each with the most that one of its calls can cost, where the walks of all live rows have so many
@@ -46,26 +45,11 @@ fn most_of(iface: &Interface, fun: u8, all: u64, deepest: u64) -> u64
     ensures { (walks : List IsLine) (given : _) (rows : List IsRow) → AreTracked given rows → all ≡ all_lengths walks rows
         → deepest ≡ greatest (map (λ r. line_cost walks rows r.id) rows) → result ≡ (fun_cost iface.now walks rows fun).cost }
 {
-    let shape = iface.fun(fun);
-    if wants_all(iface, &shape) {
+    if wants_all(iface, fun) {
         all
-    } else if takes_id(&shape) {
+    } else if iface.fun(fun).takes_id() {
         deepest
     } else {
         0
     }
-}
-
-// Whether all live rows have to be whole before a call of a function is served.
-fn wants_all(iface: &Interface, fun: &FunShape) -> bool
-    ensures { result ≡ (iface.now.eager || (fun_of_shape fun.now).all) }
-{
-    iface.eager || fun.looks_at_all()
-}
-
-// Whether a function takes a descriptor or a parent.
-fn takes_id(fun: &FunShape) -> bool
-    ensures { result ≡ (takes_desc (fun_of_shape fun.now) || takes_parent (fun_of_shape fun.now)) }
-{
-    fun.takes_desc() || fun.takes_parent()
 }

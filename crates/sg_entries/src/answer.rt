@@ -13,11 +13,10 @@ use crate::line::Line;
 use crate::list::list_of_one;
 use crate::pieces::{byte, end, fixed, number, positive, text_rest};
 use crate::syntax::EntrySyntax;
-use crate::tree::{Spelled, SpelledList, WrittenAnswer};
+use crate::tree::WrittenAnswer;
+use sg_facts::MOST_REPLY_WORDS;
+use sg_lex::{Spelled, SpelledList};
 use std::alloc::Global;
-
-/// How many words an answer may have.
-const MOST_WORDS: usize = 4;
 
 /// What a call was answered, up to the end of the line. The function shows its bytes, or doesn't.
 pub fn answer<'a>(
@@ -82,10 +81,10 @@ fn given_something<'a>(line: &mut Line<'a>, alloc: Global) -> Result<WrittenAnsw
 {
     if line.take_byte(b'#') {
         let desc = positive(line)?;
-        return words(line, Some(desc), SpelledList::new(alloc), MOST_WORDS);
+        return words(line, Some(desc), SpelledList::new(alloc), MOST_REPLY_WORDS);
     }
     let read = list_of_one(alloc, number(line)?)?;
-    words(line, None, read, MOST_WORDS - 1)
+    words(line, None, read, MOST_REPLY_WORDS - 1)
 }
 
 // So many further words at most, each with a space before it, and the end.
@@ -120,7 +119,7 @@ fn words_and_bytes<'a>(
     ensures ends { (k : Answer → Entry) → Ends (read (words_and_bytes 4 desc.entry [] k) line.old) result k }
 {
     let mut words = SpelledList::new(alloc);
-    let mut left = MOST_WORDS;
+    let mut left = MOST_REPLY_WORDS;
     'words: while let Some(word) = next_shown_word(line, left)? {
         words.push(word)?;
         left -= 1;

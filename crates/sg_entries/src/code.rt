@@ -2,7 +2,6 @@
 ghost use Rattle.std.specs.Prelude.{◌≡◌, []};
 ghost use Rattle.sg_facts.specs.sg_base.declared.reply.Code.{Code as Refusal};
 ghost use Rattle.sg_entries.specs.declared.tree.WrittenEntry.{WrittenEntry as Entry};
-ghost use Rattle.sg_facts.specs.sg_base.Codes.{code_name};
 ghost use Rattle.sg_entries.specs.Inside.CodeWords.{code_of, begins_code};
 ghost use Rattle.sg_entries.specs.Inside.States.{coded};
 ghost use Rattle.sg_entries.specs.Inside.Reads.{read, Ends};
@@ -49,33 +48,12 @@ pub fn code(line: &Line<'_>) -> Result<Code, EntrySyntax>
 fn begins_code(bytes: &[u8]) -> bool
     ensures { result ≡ begins_code bytes.now }
 {
-    CODES.iter().any(|code| code_name(*code).starts_with(bytes))
+    CODES.iter().any(|code| code.name().starts_with(bytes))
 }
 
 // The code whose word these bytes are.
 fn code_of(bytes: &[u8]) -> Option<Code>
     ensures { result ≡ code_of bytes.now }
 {
-    CODES.iter().copied().find(|code| bytes == code_name(*code))
-}
-
-// The word for a code.
-fn code_name(code: Code) -> &'static [u8]
-    ensures { result.now ≡ code_name code }
-{
-    match code {
-        Code::NoDesc => b"NoDesc",
-        Code::NoParent => b"NoParent",
-        Code::BadState => b"BadState",
-        Code::HasChildren => b"HasChildren",
-        Code::Full => b"Full",
-        Code::NotOwner => b"NotOwner",
-        Code::Held => b"Held",
-        Code::Occupied => b"Occupied",
-        Code::NotFound => b"NotFound",
-        Code::Overflow => b"Overflow",
-        Code::Gap => b"Gap",
-        Code::TooBig => b"TooBig",
-        Code::BadName => b"BadName",
-    }
+    CODES.iter().copied().find(|code| bytes == code.name())
 }

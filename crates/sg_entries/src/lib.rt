@@ -8,7 +8,6 @@
 //!   `making`: what a written entry stands for, or what is first wrong with it
 //! - `laws`: a text that prints a history is read to it (`printed_is_read`), and to nothing else (`one_reading`); the
 //!   first flaw comes before all others (`first_flaw_comes_first`)
-//! - `names`: functions by their names; `numbers`: what digits stand for
 //! - `tree`: an entry (`WrittenEntry`), whose numbers, names and texts are lent from the line (`Spelled`), and its outline
 //!   (`EntryOutline`); `syntax`: why a line is no entry (`EntrySyntax`)
 //! - `line`: what is still to be read of a line; `list`: lists of one; `pieces`, `call`, `code`, `answer`: the parts of an entry,
@@ -28,8 +27,6 @@ mod line;
 mod lines;
 mod list;
 mod making;
-mod names;
-mod numbers;
 mod outline;
 mod parse_laws;
 mod parser;
@@ -45,8 +42,7 @@ pub use laws::{first_flaw_comes_first, one_reading, printed_is_read};
 pub use parse_laws::{one_answer, one_tree};
 pub use parser::{parse_entry, parse_outline};
 pub use reading::read_entries;
+pub use sg_lex::{Spelled, SpelledList};
 pub use sg_report::History;
 pub use syntax::EntrySyntax;
-pub use tree::{
-    EntryOutline, Spelled, SpelledList, WrittenAnswer, WrittenArg, WrittenArgList, WrittenEntry,
-};
+pub use tree::{EntryOutline, WrittenAnswer, WrittenArg, WrittenArgList, WrittenEntry};

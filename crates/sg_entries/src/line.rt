@@ -3,7 +3,7 @@ ghost use Rattle.std.specs.Prelude.{◌≡◌, ◌≤◌, ◌+◌, length, Match
 ghost use Rattle.sg_entries.specs.Inside.Ahead.{Came, Off, front_of, behind_of};
 
 use crate::syntax::EntrySyntax;
-use crate::tree::Spelled;
+use sg_lex::Spelled;
 use std::marker::Model;
 
 /// What is still to be read of a line. Contracts see its bytes, and the place of the first.

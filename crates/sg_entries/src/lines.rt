@@ -3,8 +3,8 @@ ghost use Rattle.std.specs.Prelude.{◌≡◌, ◌+◌, ◌<◌, ◌^◌, ◌==�
 ghost use Rattle.sg_entries.specs.Inside.Cutting.{IsNext, line_feed, lines_from, lines_left};
 ghost use Rattle.sg_entries.specs.Lines.{begins_entry, entry_lines_of};
 
-use crate::Spelled;
 use crate::rest::Rest;
+use sg_lex::Spelled;
 use std::marker::Model;
 
 impl<'a> Rest<'a> {

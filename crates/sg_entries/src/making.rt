@@ -1,30 +1,25 @@
 // What a written entry stands for, or what is first wrong with it.
-ghost use Rattle.std.specs.Prelude.{◌≡◌, ◌==◌, ◌||◌, ◌++◌, ◌∷◌, [], true, map, IfOk, OnOk};
+ghost use Rattle.std.specs.Prelude.{◌≡◌, ◌==◌, ◌++◌, ◌∷◌, [], true, map, IfOk, OnOk};
 ghost use Rattle.std.specs.List.{flat_map};
 ghost use Rattle.sg_entries.specs.Flaws.{entry_flaws, flaw_if, number_flaws, text_flaws, values_fit};
 ghost use Rattle.sg_entries.specs.Inside.Flaws.{answer_flaws, arg_flaws, client_flaws, fun_flaws, optional_flaws, too_many_entries, word_flaws};
 ghost use Rattle.sg_entries.specs.Inside.Making.{IsMade};
 ghost use Rattle.sg_entries.specs.Standing.{args_in, entry_of, id_in, number_of, value_of};
 ghost use Rattle.sg_entries.specs.Inside.Standing.{bytes_of, desc_of, fun_of, reply_of};
-ghost use Rattle.sg_facts.specs.Facts.{fun_of_shape, takes_desc, takes_parent};
 ghost use Rattle.sg_facts.specs.Kinds.{kinds_fit};
 ghost use Rattle.sg_script.specs.Numbers.{is_text};
 ghost use Rattle.sg_script.specs.Scripts.{declared_fun};
 
-use crate::names::declared_fun;
-use crate::numbers::{is_text, number_of_digits};
 use crate::{EntriesError, EntriesKind, Spelled, WrittenAnswer, WrittenArg, WrittenEntry};
 use sg_facts::{
     Args, Bytes, Call, Entry, FunShape, Good, Interface, Kind, LAST_CLIENT, NoMemory, Reply, Text,
     Value, Words,
 };
-use sg_script::text_of;
+use sg_script::{MOST_CALLS, declared_fun, is_text, number_of_digits, text_of};
 use std::alloc::Global;
 
-// The greatest number of entries, and the number of the first that is one too many.
-const MOST_ENTRIES: u64 = 65_536;
-
-const TOO_MANY_ENTRIES: u64 = MOST_ENTRIES + 1;
+// The number of the first entry that is one too many: a run has as many entries as its script has calls, at the most.
+const TOO_MANY_ENTRIES: u64 = MOST_CALLS + 1;
 
 // ---- numbers and texts
 
@@ -199,13 +194,6 @@ fn args_of(alloc: Global, takes_id: bool, args: &[WrittenArg]) -> Result<(u64, A
     }
 }
 
-/// Whether a function takes a descriptor or a parent.
-pub fn takes_id(fun: &FunShape) -> bool
-    ensures { result ≡ (takes_desc (fun_of_shape fun.now) || takes_parent (fun_of_shape fun.now)) }
-{
-    fun.takes_desc() || fun.takes_parent()
-}
-
 // Whether arguments are those that parameters ask for, beside descriptor and parent.
 fn kinds_fit(kinds: &[Kind], args: &[WrittenArg]) -> bool
     ensures { result ≡ kinds_fit kinds.now (map value_of args.now) }
@@ -246,7 +234,7 @@ fn fun_of(iface: &Interface, entry: &WrittenEntry) -> Result<u8, EntriesError>
         return Err(fault(EntriesKind::UnknownFunction, at));
     };
     let fun = iface.fun(number);
-    if values_fit(takes_id(&fun), fun.kinds, entry.args.as_slice()) {
+    if values_fit(fun.takes_id(), fun.kinds, entry.args.as_slice()) {
         Ok(number)
     } else {
         Err(fault(EntriesKind::BadArgs, at))
@@ -278,7 +266,7 @@ pub fn entry_of(
     let seq = seq_of(&entry.seq)?;
     let fun = fun_of(iface, entry)?;
     check_number(nth, &entry.name)?;
-    let takes_id = takes_id(&iface.fun(fun));
+    let takes_id = iface.fun(fun).takes_id();
     let (desc, args) = args_of(alloc, takes_id, entry.args.as_slice())?;
     let reply = reply_of(alloc, &entry.answer)?;
     let call = Call {

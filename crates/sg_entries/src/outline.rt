@@ -5,10 +5,10 @@ ghost use Rattle.sg_entries.specs.Inside.Outlines.{bracket_count, count_flaws, i
 ghost use Rattle.sg_facts.specs.Allowed.{count_args};
 ghost use Rattle.sg_script.specs.Scripts.{declared_fun};
 
-use crate::making::{client_of, fault, seq_of, takes_id};
-use crate::names::declared_fun;
+use crate::making::{client_of, fault, seq_of};
 use crate::{EntriesError, EntriesKind, EntryOutline};
 use sg_facts::{Interface, Kind};
+use sg_script::declared_fun;
 
 /// Looks whether an entry's client and number, its function, and the number of its arguments are right, and tells the first that isn't; a
 /// place is one in its line.
@@ -29,7 +29,7 @@ fn check_count(iface: &Interface, outline: &EntryOutline) -> Result<(), EntriesE
         return Err(fault(EntriesKind::UnknownFunction, at));
     };
     let fun = iface.fun(number);
-    if outline.args == bracket_count(takes_id(&fun), fun.kinds) {
+    if outline.args == bracket_count(fun.takes_id(), fun.kinds) {
         Ok(())
     } else {
         Err(fault(EntriesKind::BadArgs, at))

@@ -15,7 +15,8 @@ use crate::call::{bracketed, count_bracketed};
 use crate::line::Line;
 use crate::pieces::{byte, fixed, name, number};
 use crate::syntax::EntrySyntax;
-use crate::tree::{EntryOutline, Spelled, WrittenAnswer, WrittenEntry};
+use crate::tree::{EntryOutline, WrittenAnswer, WrittenEntry};
+use sg_lex::Spelled;
 use std::alloc::Global;
 
 /// The entry whose line this is, without a line's end. What it spells is lent from the line.

@@ -13,8 +13,8 @@ ghost use Rattle.sg_entries.specs.Inside.Reads.{read, Leads, Ends};
 
 use crate::line::Line;
 use crate::syntax::EntrySyntax;
-use crate::tree::Spelled;
 use sg_facts::is_text_byte;
+use sg_lex::Spelled;
 
 /// Takes this byte.
 #[tactic(auto, using(crate::proofs::ByByte::byte_came, crate::proofs::ByByte::byte_missing))]

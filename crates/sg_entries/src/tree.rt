@@ -1,26 +1,7 @@
 // What an entry's line is read to.
 use sg_facts::{Code, ListOf};
-use std::marker::Model;
+use sg_lex::{Spelled, SpelledList};
 
-/// A number, a name or a text in a line. Contracts see its bytes and its place.
-#[derive(Debug, Drop)]
-pub struct Spelled<'a> {
-    /// Its bytes, lent from the line; of a text, what stands between its quotes.
-    pub slice: &'a [u8],
-    /// The place of its first byte in the line, counted from 0; of an empty text, the place after its first quote.
-    pub at: usize,
-}
-
-impl<'a> Model for Spelled<'a> {
-    ghost use Rattle.sg_lex.specs.Lexeme.{Spelling};
-
-    ghost Value = { Spelling };
-
-    ghost view = { λ s. record { bytes = s.slice.now; at = s.at } };
-}
-
-/// The words of an answer.
-pub type SpelledList<'a> = ListOf<Spelled<'a>>;
 /// The arguments of a call.
 pub type WrittenArgList<'a> = ListOf<WrittenArg<'a>>;
 

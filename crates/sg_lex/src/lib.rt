@@ -6,6 +6,7 @@
 //! - `reader`: what a parser takes them from, which looks at the next and leaves it where it isn't the one asked for
 //!   (`Reader`)
 //! - `token_test`: what a token is asked for (`TokenTest`, `IsKind`, `IsMark`, `IsWord`)
+//! - `spelled`: a part of a text, with its place (`Spelled`)
 //! - `front`: what stands at the front of a text, over `bytes`, the classes of bytes
 //! - `laws`: tokens are slices, and the answers are the one reading of a text
 #![tactic(auto)]
@@ -15,11 +16,13 @@ mod front;
 mod laws;
 mod lexer;
 mod reader;
+mod spelled;
 mod token;
 mod token_test;
 
 pub use laws::{answers_are_the_reading, tokens_are_slices};
 pub use lexer::{Lexer, first_token};
 pub use reader::Reader;
+pub use spelled::{Spelled, SpelledList};
 pub use token::{LexFault, Token, TokenKind};
 pub use token_test::{IsKind, IsMark, IsWord, TokenTest};

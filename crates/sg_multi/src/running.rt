@@ -16,12 +16,9 @@ ghost use Rattle.sg_multi.specs.Inside.Turns.{KeepsRunning, SameMembers, TakesNe
 ghost use Rattle.sg_multi.specs.Inside.Whose.{next_of, seat_at};
 
 use crate::{Did, Given, Member, Members, NextCall, Phase, call_with_setup, desc_of, resolve};
-use sg_facts::{Call, NoMemory, RoomyList};
+use sg_facts::{Call, FIRST_CLIENT, NoMemory, RoomyList};
 use sg_script::{MultiCall, MultiScript};
 use std::alloc::Global;
-
-// The first client, which makes the calls of the setup.
-const FIRST: u8 = 1;
 
 /// The worlds of the members, what the calls of the clients were given, and the member of each entry, from 1, in the order of the commits.
 #[derive(Debug, Drop)]
@@ -70,7 +67,7 @@ impl Running {
         requires keeps { KeepsRunning script.now self.now }
         ensures { result ≡ is_at_setup script.now self.now }
     {
-        self.given.of(FIRST).len() < script.setup.len()
+        self.given.of(FIRST_CLIENT).len() < script.setup.len()
     }
 
     /// A client takes its turn: it offers its next call where it has none under way, and makes a step in the world of that call's member.

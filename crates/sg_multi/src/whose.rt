@@ -5,10 +5,8 @@ ghost use Rattle.sg_multi.specs.Inside.Turns.{IsFirstBehind, IsOverNow, KeepsRun
 
 use crate::most_client;
 use crate::running::Running;
+use sg_facts::FIRST_CLIENT;
 use sg_script::MultiScript;
-
-/// The first client, which makes the calls of the setup.
-const FIRST: u8 = 1;
 
 /// A turn that is to be taken: its client, and how many turns of the schedule are after it.
 #[derive(Clone, Copy, Debug)]
@@ -29,7 +27,7 @@ pub(crate) fn next_turn(running: &Running, script: &MultiScript) -> Option<Turn>
 {
     if running.is_setting_up(script) {
         return Some(Turn {
-            client: FIRST,
+            client: FIRST_CLIENT,
             passed: running.passed,
         });
     }
@@ -52,7 +50,7 @@ fn next_scheduled(running: &Running, script: &MultiScript) -> Option<Turn>
     let clients = most_client(script.clients.as_slice());
     'turns: for at in running.passed..schedule.len() {
         let client = schedule[at];
-        if client >= FIRST && client <= clients && running.can_go(script, client) {
+        if client >= FIRST_CLIENT && client <= clients && running.can_go(script, client) {
             return Some(Turn {
                 client,
                 passed: at + 1,

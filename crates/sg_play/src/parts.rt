@@ -5,19 +5,16 @@ ghost use Rattle.std.specs.Option.{option_copied};
 ghost use Rattle.sg_plain.specs.Calls.{calls_with_setup, most_client, part_of, script_calls};
 ghost use Rattle.sg_plain.specs.Playing.Playable.{AreClients};
 
-use sg_facts::ListOf;
+use sg_facts::{FIRST_CLIENT, ListOf};
 use sg_plain::{Script, ScriptCall};
 use std::cmp::Ordering;
-
-// The first client.
-const FIRST: u8 = 1;
 
 /// The greatest number of a client that has a part, at least 1.
 pub fn most_client<C>(clients: &[(u8, ListOf<C>)]) -> u8
     ensures { result ≡ most_client clients.now }
 {
     match clients {
-        [] => FIRST,
+        [] => FIRST_CLIENT,
         [.., (client, _)] => *client,
     }
 }
@@ -47,7 +44,7 @@ pub fn call_with_setup<'a, C>(
     ensures { option_copied result ≡ slice_get (calls_with_setup setup.now clients.now client) done }
 {
     let part = part_of(clients, client);
-    if client != FIRST {
+    if client != FIRST_CLIENT {
         return part.get(done);
     }
     if done < setup.len() {

@@ -1,18 +1,17 @@
 // Calls, replies and values as they are printed.
-ghost use Rattle.std.specs.Prelude.{◌≡◌, ◌++◌, ◌==◌, ◌||◌, if◌then◌else◌, [], ◌∷◌, OnOk, codes, map};
+ghost use Rattle.std.specs.Prelude.{◌≡◌, ◌++◌, ◌==◌, if◌then◌else◌, [], ◌∷◌, OnOk, codes, map};
 ghost use Rattle.std.specs.Fmt.{decimal};
 ghost use Rattle.std.specs.List.{flat_map};
 ghost use Rattle.std.specs.Str.{bytes_eq};
 ghost use Rattle.sg_facts.specs.sg_base.declared.value.Value.TheVariants.{Word as IsWord};
 ghost use Rattle.sg_facts.specs.sg_base.Lent.{args_in, call_in, good_in, reply_in};
-ghost use Rattle.sg_facts.specs.Facts.{fun_at, fun_of_shape, takes_desc, takes_parent};
-ghost use Rattle.sg_facts.specs.sg_base.Codes.{code_name};
+ghost use Rattle.sg_facts.specs.Facts.{fun_at, fun_of_shape};
 ghost use Rattle.sg_report.specs.Report.{call_text, listed, reply_text, value_text};
 ghost use Rattle.sg_report.specs.Inside.Pieces.{good_text, quoted};
 
 use itoa::Buffer;
 use sg_facts::{
-    Bytes, Code, FunShape, Interface, LentArgs, LentCall, LentGood, LentReply, NoMemory, Value,
+    Bytes, FunShape, Interface, LentArgs, LentCall, LentGood, LentReply, NoMemory, Value,
 };
 
 /// A call: its function's name, and in brackets its descriptor or parent, where the function takes one, and its arguments.
@@ -22,20 +21,13 @@ pub fn push_call(out: &mut Bytes, iface: &Interface, call: &LentCall) -> Result<
     let fun = iface.fun(call.fun);
     out.extend_from_slice(fun.name)?;
     out.extend_from_slice(b"(")?;
-    if takes_id(&fun) {
+    if fun.takes_id() {
         push_number(out, call.desc)?;
         push_more(out, call)?;
     } else {
         push_listed(out, call)?;
     }
     out.extend_from_slice(b")")
-}
-
-// Whether a function takes a descriptor or a parent.
-fn takes_id(fun: &FunShape) -> bool
-    ensures { result ≡ (takes_desc (fun_of_shape fun.now) || takes_parent (fun_of_shape fun.now)) }
-{
-    fun.takes_desc() || fun.takes_parent()
 }
 
 // The arguments of a call, with a comma and a space between them.
@@ -135,7 +127,7 @@ pub fn push_answer(out: &mut Bytes, fun: &FunShape, reply: &LentReply) -> Result
     match reply {
         LentReply::Refused(code) => {
             out.extend_from_slice(b"refused ")?;
-            out.extend_from_slice(code_name(*code))
+            out.extend_from_slice(code.name())
         }
         LentReply::Ok(good) => push_good(out, fun, good),
     }
@@ -174,25 +166,4 @@ pub fn push_number(out: &mut Bytes, number: u64) -> Result<(), NoMemory>
     ensures { OnOk result (out.new ≡ out.old ++ decimal number) }
 {
     out.extend_from_slice(Buffer::new().format(number).as_bytes())
-}
-
-// The name of a code.
-fn code_name(code: Code) -> &'static [u8]
-    ensures { result.now ≡ code_name code }
-{
-    match code {
-        Code::NoDesc => b"NoDesc",
-        Code::NoParent => b"NoParent",
-        Code::BadState => b"BadState",
-        Code::HasChildren => b"HasChildren",
-        Code::Full => b"Full",
-        Code::NotOwner => b"NotOwner",
-        Code::Held => b"Held",
-        Code::Occupied => b"Occupied",
-        Code::NotFound => b"NotFound",
-        Code::Overflow => b"Overflow",
-        Code::Gap => b"Gap",
-        Code::TooBig => b"TooBig",
-        Code::BadName => b"BadName",
-    }
 }

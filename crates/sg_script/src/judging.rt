@@ -14,13 +14,12 @@ use crate::first::First;
 use crate::front::SeenParts;
 use crate::names::{function_named, stop_member};
 use crate::numbers::{counts_as, is_above, is_known_client, is_text, unquoted};
+use crate::script::MOST_CALLS;
 use sg_facts::{Interface, Kind};
 use sg_script_parse::{Part, Spelled, WrittenArg, WrittenCall};
 
-// The greatest number of calls of a script, and the number of the first that is one too many.
-const MOST_CALLS: u128 = 65_536;
-
-const TOO_MANY_CALLS: u128 = MOST_CALLS + 1;
+// The number of the first call that is one too many.
+const TOO_MANY_CALLS: u128 = MOST_CALLS as u128 + 1;
 
 // The greatest number of stops of a script, and the number of the first that is one too many.
 const MOST_STOPS: usize = 64;

@@ -5,11 +5,8 @@ ghost use Rattle.std.specs.Str.{bytes_eq};
 ghost use Rattle.sg_facts.specs.Facts.{fun_of_shape};
 ghost use Rattle.sg_script.specs.Scripts.{declared_fun, declared_from, found_from, function_named, is_stop_of, most_members, stop_member};
 
-use sg_facts::{FunShape, Interface};
+use sg_facts::{FunShape, Interface, MOST_FUNS};
 use sg_script_parse::{Part, Spelled};
-
-// The greatest number of a function that an interface can declare.
-const LAST: u8 = 32;
 
 /// The number of the declared function of a name; None where there is none.
 pub fn declared_fun(iface: &Interface, name: &[u8]) -> Option<u8>
@@ -23,7 +20,7 @@ pub fn declared_fun(iface: &Interface, name: &[u8]) -> Option<u8>
 fn declared_from(iface: &Interface, name: &[u8], first: u8, funs: &[FunShape]) -> Option<u8>
     ensures { result ≡ declared_from iface.now name.now first (map fun_of_shape funs.now) }
 {
-    if first > LAST {
+    if first > MOST_FUNS {
         prove!(iface.declared <= u32::MAX);
         return None;
     }

@@ -45,8 +45,8 @@ pub fn is_text(bytes: &[u8]) -> bool
     bytes.len() <= Text::MOST && are_text_bytes(bytes)
 }
 
-// What digits stand for; None where that is above the greatest number of 64 bits.
-fn number_of_digits(digits: &[u8]) -> Option<u64>
+/// What digits stand for; None where that is above the greatest number of 64 bits.
+pub fn number_of_digits(digits: &[u8]) -> Option<u64>
     ensures { result ≡ number_of_digits digits.now }
 {
     let mut value = 0;

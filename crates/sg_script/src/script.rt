@@ -2,6 +2,9 @@
 use crate::args::ArgList;
 use sg_facts::{ListOf, PointList, Text};
 
+/// The greatest number of calls of a script.
+pub const MOST_CALLS: u64 = 65_536;
+
 /// What a call is given in place of a descriptor, a parent, a number or a text.
 #[derive(Debug, Drop)]
 pub enum Arg {

@@ -1,8 +1,9 @@
 // The arguments of a call, as they are written.
 ghost use Rattle.std.specs.Prelude.{◌≡◌, [], ◌∷◌, ◌++◌, IfOk, OnOk, OnErr};
 
-use crate::tree::{Spelled, WrittenArg};
+use crate::tree::WrittenArg;
 use sg_base::NoMemory;
+use sg_lex::Spelled;
 use std::alloc::Global;
 use std::marker::Model;
 use std::{mem, slice};

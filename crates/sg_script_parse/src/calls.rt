@@ -8,8 +8,8 @@ ghost use Rattle.sg_lex.specs.Inside.Automata.{read, Leads};
 use crate::args::WrittenArgList;
 use crate::error::ScriptSyntax;
 use crate::reader::{mark, number, take_mark, take_spelled};
-use crate::tree::{Spelled, WrittenArg, WrittenCall, WrittenCallList};
-use sg_lex::{Reader, TokenKind};
+use crate::tree::{WrittenArg, WrittenCall, WrittenCallList};
+use sg_lex::{Reader, Spelled, TokenKind};
 use std::alloc::Global;
 
 /// Calls in braces.

@@ -23,4 +23,5 @@ pub use args::WrittenArgList;
 pub use error::ScriptSyntax;
 pub use laws::{one_answer, one_list_of_parts};
 pub use parser::{parse, parse_multi};
-pub use tree::{Part, PartList, Spelled, SpelledList, WrittenArg, WrittenCall, WrittenCallList};
+pub use sg_lex::{Spelled, SpelledList};
+pub use tree::{Part, PartList, WrittenArg, WrittenCall, WrittenCallList};

@@ -9,8 +9,8 @@ ghost use Rattle.sg_lex.specs.Inside.Automata.{read, Leads, Answers, read_on};
 use crate::calls::braced;
 use crate::error::ScriptSyntax;
 use crate::reader::{mark, next_token, number, take_spelled, word};
-use crate::tree::{Part, PartList, Spelled, SpelledList};
-use sg_lex::{Reader, Token, TokenKind};
+use crate::tree::{Part, PartList};
+use sg_lex::{Reader, Spelled, SpelledList, Token, TokenKind};
 use std::alloc::Global;
 
 /// The parts up to the end of the text, of a script for several services or for one.

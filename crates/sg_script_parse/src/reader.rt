@@ -8,8 +8,7 @@ ghost use Rattle.sg_lex.specs.Inside.Tests.{has_kind, is_this_mark};
 ghost use Rattle.sg_script_parse.specs.Inside.{spelt_token};
 
 use crate::error::ScriptSyntax;
-use crate::tree::Spelled;
-use sg_lex::{IsKind, LexFault, Reader, Token, TokenKind};
+use sg_lex::{IsKind, LexFault, Reader, Spelled, Token, TokenKind};
 
 /// Takes the next token; None at the end of the text. A byte that begins none is an error.
 #[tactic(auto, using(crate::proofs::ByToken::no_token_came))]

@@ -1,27 +1,8 @@
 // The parts of a script, as they are written.
 use crate::args::WrittenArgList;
 use sg_base::ListOf;
-use std::marker::Model;
+use sg_lex::{Spelled, SpelledList};
 
-/// A word, a number or a text in a script. Contracts see its bytes and its place.
-#[derive(Debug, Drop)]
-pub struct Spelled<'a> {
-    /// Its bytes, lent from the script; the quotes of a text are with it.
-    pub slice: &'a [u8],
-    /// The place of its first byte in the script, counted from 0.
-    pub at: usize,
-}
-
-impl<'a> Model for Spelled<'a> {
-    ghost use Rattle.sg_lex.specs.Lexeme.{Spelling};
-
-    ghost Value = { Spelling };
-
-    ghost view = { λ s. record { bytes = s.slice.now; at = s.at } };
-}
-
-/// The numbers of a part.
-pub type SpelledList<'a> = ListOf<Spelled<'a>>;
 /// The calls of a part.
 pub type WrittenCallList<'a> = ListOf<WrittenCall<'a>>;
 /// The parts of a script.

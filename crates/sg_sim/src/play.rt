@@ -23,7 +23,7 @@ use crate::given::Given;
 use crate::played::Played;
 use crate::turn::take_turn;
 use sg_discard::discard;
-use sg_facts::{NoMemory, Service, Stops, Tables, TryCopy};
+use sg_facts::{FIRST_CLIENT, NoMemory, Service, Stops, Tables, TryCopy};
 use sg_play::{End, EndList, Ended, Phase, Script, World, most_client, script_call};
 use std::alloc::Global;
 use std::marker::Model;
@@ -31,9 +31,6 @@ use std::marker::Model;
 /// The greatest number of turns of a play. Each turn adds to the trace or to the history of its world, so that a play of more turns
 /// wants memory.
 const MOST_TURNS: u64 = u64::MAX;
-
-/// The first client, which makes the calls of the setup.
-const FIRST: u8 = 1;
 
 /// A play of a script: its clients make their calls, turn by turn, on a world whose service may stop. Contracts see it as plain data.
 #[derive(Debug, Drop)]
@@ -194,7 +191,7 @@ impl<S: Service, T: Stops> Play<S, T> {
         ensures client { result ≡ true → IsClient (length self.now.view.seats) client }
         ensures beyond { result ≡ false → 1 ≤ client → length self.now.view.seats < client }
     {
-        client >= FIRST && client <= self.clients()
+        client >= FIRST_CLIENT && client <= self.clients()
     }
 
     /// Whether a client is one of the play's and can take a turn: it has a call under way that doesn't wait, or it has none and has more
@@ -334,7 +331,7 @@ impl<S: Service, T: Stops> Play<S, T> {
     fn is_setting_up(&self) -> bool
         ensures { result ≡ is_setting_up self.now.script self.now.view.seats }
     {
-        self.given.of(FIRST).len() < self.script.setup.len()
+        self.given.of(FIRST_CLIENT).len() < self.script.setup.len()
     }
 
     // Whose turn it is: client 1's until the setup is done, then who the schedule says and can, then who is next and can; None exactly
@@ -364,7 +361,7 @@ impl<S: Service, T: Stops> Play<S, T> {
         ensures next { IsNextTurn self.now.script (stage_now self.now) result.client result.passed }
     {
         Turn {
-            client: FIRST,
+            client: FIRST_CLIENT,
             passed: self.passed,
         }
     }
