@@ -10,9 +10,9 @@ use sg_check_statements::{Protos, Statement, Tree, says_of};
 use sg_facts::{FunShape, Interface, NoMemory, PairList, Shape};
 use std::alloc::Global;
 
-/// The interface that a text declares of a shape: the functions that have a prototype, the version of the text's language,
-/// whether it is eager, and those of the shape's transitions and recover steps that a statement names. A shape has at most
-/// `MOST_FUNS` functions.
+/// The interface that a text declares of a shape, whether the text is accepted or not: the functions that have a prototype, the
+/// version of the text's language, whether it is eager, and those of the shape's transitions and recover steps that a statement
+/// names. A shape has at most `MOST_FUNS` functions.
 pub fn interface_of(alloc: Global, shape: &Shape, tree: &Tree) -> Result<Interface, NoMemory>
     requires { length shape.now.funs.now ≤ most_funs }
     ensures { IfOk result (λ i. i ≡ interface_of (facts_of shape.now) tree.now) }

@@ -2,7 +2,7 @@
 //!
 //! - `checking`: whether a text is accepted (`check`)
 //! - `accepted`: an interface that is (`Accepted`)
-//! - `declared`: the interface that a text declares; `candidate`: that with what its descriptors come to (`Candidate`)
+//! - `declared`: the interface that a text declares, accepted or not (`interface_of`); `candidate`: that with what its descriptors come to (`Candidate`)
 //! - `reached`: the functions that can't be reached
 //! - `stuck`: the states that have no walk
 //! - `protos`: the first prototype of one of some functions; `numbers`: sets of function numbers
@@ -24,6 +24,7 @@ mod stuck;
 
 pub use accepted::Accepted;
 pub use checking::check;
+pub use declared::interface_of;
 pub use laws::one_fault;
 pub use sg_check_statements::{CheckError, CheckFault, CheckKind, parse};
 pub use sg_walk::{Triple, reachable, restores, set_count, shortest};

@@ -2,7 +2,7 @@
 //!
 //! - `explaining`: what is explained of an input (`explain`)
 //! - `reasons`: why the text of an interface is refused
-//! - `stuck`: what a descriptor can come to that no walk restores; `declared`: the interface of a text that isn't accepted
+//! - `stuck`: what a descriptor can come to that no walk restores
 //! - `words`: the sentences of each kind of fault
 //! - `places`: a place in a text as it is shown
 //! - `rebuilt`: how what descriptors come to is rebuilt, and the counts of a script
@@ -12,7 +12,6 @@
 //! `specs/Explained.antt` says what is explained of an input, and `specs/Words.antt` has the sentences.
 #![tactic(auto)]
 
-mod declared;
 mod explaining;
 pub mod inputs;
 mod parts;

@@ -1,5 +1,5 @@
 // The finite facts of a service.
-ghost use Rattle.std.specs.Prelude.{◌≡◌, ◌+◌, ◌<◌, ◌^◌, map};
+ghost use Rattle.std.specs.Prelude.{◌≡◌, ◌||◌, ◌+◌, ◌<◌, ◌^◌, map};
 ghost use Rattle.sg_facts.specs.Facts.{facts_of, fun_at, fun_of_shape, takes_desc, takes_parent};
 ghost use Rattle.sg_facts.specs.Inside.Rows.{left_by};
 

@@ -63,5 +63,6 @@ pub use sg_entries::History;
 pub use sg_print::{ParseError, parse};
 pub use sg_script::{MultiScript, Script};
 pub use sg_stub::{
-    Accepted, CheckError, CheckKind, Triple, check, compile, reachable, restores, shortest,
+    Accepted, CheckError, CheckKind, Triple, check, compile, interface_of, reachable, restores,
+    shortest,
 };

@@ -14,5 +14,6 @@ mod triples;
 pub use compiling::compile;
 pub use laws::one_table;
 pub use sg_check::{
-    Accepted, CheckError, CheckKind, Triple, check, parse, reachable, restores, shortest,
+    Accepted, CheckError, CheckKind, Triple, check, interface_of, parse, reachable, restores,
+    shortest,
 };
