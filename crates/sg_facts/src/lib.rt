@@ -3,7 +3,7 @@
 //! - `shape`: the facts of a service (`Shape`, `FunShape`, `FieldShape`, `Effect` and their parts)
 //! - `interface`: what an interface declares of a shape (`Interface`)
 //! - `row`: a tracked descriptor (`Row`, `Fields`)
-//! - `entry`: a call with its reply (`Entry`)
+//! - `entry`: a call with its reply (`Entry`); `next_call`: a call that a client is about to make (`NextCall`)
 //! - `outcome`: what asking a service gives (`Outcome`, `Patch`)
 //! - `path`: the path of a file as a key (`FilePath`)
 //! - `trace`: what was done to a service, boot by boot (`Trace`, `BootLog`, `Item`, `Tag`)
@@ -30,6 +30,7 @@ mod kinds;
 mod laws;
 mod lent;
 mod limits;
+mod next_call;
 mod outcome;
 mod path;
 mod row;
@@ -51,6 +52,7 @@ pub use limits::{
     END_OF_FUNS, FIRST_CLIENT, LAST_CLIENT, MOST_FIELDS, MOST_FILE, MOST_FUNS, MOST_LIVE,
     MOST_PATH, MOST_WRITTEN,
 };
+pub use next_call::NextCall;
 pub use outcome::{Outcome, Patch, PatchRoom};
 pub use path::FilePath;
 pub use row::{Fields, FieldsRoom, Row};

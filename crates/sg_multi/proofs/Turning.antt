@@ -26,7 +26,7 @@ use Rattle.sg_multi.specs.sg_sim.sg_plain.Script.{call_fits, desc_among, values_
 use Rattle.sg_multi.specs.sg_sim.sg_play.NextCall.{IsResolved}
 use Rattle.sg_multi.specs.sg_sim.sg_play.Recovering.{RecoversSoFar}
 use Rattle.sg_multi.specs.sg_sim.sg_play.Turning.{handed_by}
-use Rattle.sg_multi.specs.sg_sim.sg_play.declared.calls.NextCall.{NextCall}
+use Rattle.sg_facts.specs.declared.next_call.NextCall.{NextCall}
 use Rattle.sg_multi.specs.sg_sim.sg_play.sg_clients.Clients.{IsClient}
 use Rattle.sg_multi.specs.sg_sim.sg_play.sg_hist.Clients.{calls_of}
 use Rattle.sg_multi.specs.sg_sim.sg_play.sg_hist.Recovered.{Stubs}

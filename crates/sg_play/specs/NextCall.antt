@@ -10,7 +10,7 @@ use Rattle.sg_plain.specs.Calls.{call_after}
 use Rattle.sg_plain.specs.Script.{desc_among, values_of}
 use Rattle.sg_plain.specs.sg_script.declared.script.Script.{Script}
 use Rattle.sg_plain.specs.sg_script.declared.script.ScriptCall.{ScriptCall}
-use Rattle.sg_play.specs.declared.calls.NextCall.{NextCall}
+use Rattle.sg_facts.specs.declared.next_call.NextCall.{NextCall}
 
 -- a call is the next of its client, which has these entries so far: in every history with just these of the client it is the script's
 -- next, and it may be offered

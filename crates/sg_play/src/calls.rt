@@ -9,17 +9,9 @@ ghost use Rattle.sg_play.specs.NextCall.{IsNextCall, IsResolved};
 ghost use Rattle.sg_plain.specs.Script.{arg_value, desc_among, id_of_call, value_of, values_of};
 
 use crate::parts::script_call;
-use sg_facts::{Args, Interface, Kind, NoMemory, TryCopy, Value};
+use sg_facts::{Args, Interface, Kind, NextCall, NoMemory, TryCopy, Value};
 use sg_plain::{Arg, Script, ScriptCall};
 use std::alloc::Global;
-
-/// What a client says of its next call.
-#[derive(Drop)]
-pub struct NextCall {
-    pub fun: u8,
-    pub desc: u64,
-    pub args: Args,
-}
 
 /// The next call of a client, whose calls so far were given these descriptors; None where it has no more.
 pub fn next_call(

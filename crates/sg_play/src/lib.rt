@@ -12,8 +12,9 @@ mod calls;
 mod parts;
 mod turn;
 
-pub use calls::{NextCall, next_call, resolve};
+pub use calls::{next_call, resolve};
 pub use parts::{call_with_setup, most_client, script_call};
+pub use sg_facts::NextCall;
 pub use sg_plain::{
     Arg, ArgList, CallList, ClientList, End, EndList, Ended, Phase, Script, ScriptCall,
 };

@@ -13,9 +13,9 @@ ghost use Rattle.sg_world.specs.Worlded.{setting_of};
 ghost use Rattle.sg_plain.specs.sg_clients.declared.phase.Phase.TheVariants.{Idle};
 ghost use Rattle.sg_plain.specs.Playing.Turns.{is_free_phase};
 
-use crate::calls::{NextCall, next_call};
+use crate::calls::next_call;
 use crate::parts::script_call;
-use sg_facts::{NoMemory, Reply, Service, Stops};
+use sg_facts::{NextCall, NoMemory, Reply, Service, Stops};
 use sg_plain::{Phase, Script};
 use sg_world::{Did, World};
 use std::alloc::Global;

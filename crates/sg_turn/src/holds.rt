@@ -10,16 +10,8 @@ ghost use Rattle.sg_turn.specs.Told.{AllRest, HasNoCall, asking, mark_by};
 
 use crate::host::{Host, Stepped};
 use crate::{Held, Seat, Turn};
-use sg_facts::{Args, NoMemory, Reply};
+use sg_facts::{NextCall, NoMemory, Reply};
 use std::alloc::Global;
-
-/// What a client says of its next call.
-#[derive(Drop)]
-pub struct CallParts {
-    pub fun: u8,
-    pub desc: u64,
-    pub args: Args,
-}
 
 /// The client offers its next call.
 pub fn offer<H: Host>(
@@ -28,7 +20,7 @@ pub fn offer<H: Host>(
     seat: &mut Seat<H>,
     client: u8,
     mut held: Held<H>,
-    parts: CallParts,
+    parts: NextCall,
 ) -> Result<(), NoMemory>
     requires turn { seat.old.turn ≡ turn.now.id }
     requires holds { seat.old.holds ≡ true }
@@ -42,7 +34,7 @@ pub fn offer<H: Host>(
     ensures ok { OnOk result (GaveBackWith seat.old seat.new (mark_by client (Offer (call_by seat.old parts.fun parts.desc parts.args)) ∷ [])) }
     ensures err { OnErr result (GaveBackWith seat.old seat.new []) }
 {
-    let CallParts { fun, desc, args } = parts;
+    let NextCall { fun, desc, args } = parts;
     let offered = held.value.offer(alloc, client, fun, desc, args);
     turn.give(seat, held);
     offered

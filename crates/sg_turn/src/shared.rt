@@ -6,12 +6,12 @@ ghost use Rattle.sg_turn.specs.Inside.Calls.{EndsBlocked, HasHeld, IsOffered, Is
 ghost use Rattle.sg_turn.specs.Passes.{AreAllPasses, HasCalled, HasInvoked, HasNoMemory, HasPlayed, StaysIn, call_by, own_entries, standing_of};
 ghost use Rattle.sg_turn.specs.Told.{HasNoCall, left};
 
-use crate::holds::{CallParts, HoldStep};
+use crate::holds::HoldStep;
 use crate::host::Host;
 use crate::pass::{Pass, PassList};
 use crate::pause::pause;
 use crate::{Dealing, Turn, holds};
-use sg_facts::{Args, NoMemory, Reply};
+use sg_facts::{Args, NextCall, NoMemory, Reply};
 use std::alloc::Global;
 use std::marker::Model;
 use std::sync::Wait;
@@ -107,7 +107,7 @@ impl<H: Host> Shared<H> {
         requires may { H.may_offer (own_entries pass.old) (call_by pass.old fun desc args) }
         ensures { HasInvoked H.legal H.waits pass.old (call_by pass.old fun desc args) result pass.new }
     {
-        let parts = CallParts { fun, desc, args };
+        let parts = NextCall { fun, desc, args };
         self.call(rt, alloc, pass, parts, WhenBlocked::Withdraws)
     }
 
@@ -128,7 +128,7 @@ impl<H: Host> Shared<H> {
         requires may { H.may_offer (own_entries pass.old) (call_by pass.old fun desc args) }
         ensures { HasPlayed H.legal H.waits pass.old (call_by pass.old fun desc args) result pass.new }
     {
-        let parts = CallParts { fun, desc, args };
+        let parts = NextCall { fun, desc, args };
         self.call(rt, alloc, pass, parts, WhenBlocked::Stays)
     }
 
@@ -138,7 +138,7 @@ impl<H: Host> Shared<H> {
         rt: &R,
         alloc: Global,
         pass: &mut Pass<H>,
-        parts: CallParts,
+        parts: NextCall,
         blocked: WhenBlocked,
     ) -> Result<Reply, InvokeFault>
         requires turn { pass.old.turn ≡ self.now.id }
@@ -173,7 +173,7 @@ impl<H: Host> Shared<H> {
         rt: &R,
         alloc: Global,
         pass: &mut Pass<H>,
-        parts: CallParts,
+        parts: NextCall,
     ) -> Result<(), NoMemory>
         requires turn { pass.old.turn ≡ self.now.id }
         requires free { HasNoCall (standing_of pass.old) }
