@@ -3,7 +3,8 @@ use Rattle.std.proofs.Common.{◌≡◌, ◌≢◌, ◌↔◌, ◌∙◌, Bool, 
 use Rattle.sg_facts.specs.Interface.{Declared}
 use Rattle.sg_facts.specs.Trace.{run_of}
 use Rattle.sg_report.specs.sg_hist.declared.ended.Ended.{Ended}
-use Rattle.sg_shared.specs.Runs.{Answering, IsRunInOrder}
+use Rattle.sg_shared.specs.Runs.{IsRunInOrder}
+use Rattle.sg_shared.specs.sg_sim.sg_plain.Answering.{Answering}
 use Rattle.sg_shared.specs.sg_sim.sg_plain.Playing.Playable.{IsPlayable}
 use Rattle.sg_shared.specs.sg_sim.sg_script.declared.script.Script.{Script}
 use Rattle.sg_explore.specs.declared.outcomes.Outcome.{Outcome}

@@ -5,7 +5,8 @@ use Rattle.sg_facts.specs.Interface.{Declared}
 use Rattle.sg_facts.specs.Trace.{run_of}
 use Rattle.sg_facts.specs.sg_base.Lists.{Each}
 use Rattle.sg_report.specs.sg_hist.declared.ended.Ended.{Ended}
-use Rattle.sg_shared.specs.Runs.{Answering, IsRunInOrder}
+use Rattle.sg_shared.specs.Runs.{IsRunInOrder}
+use Rattle.sg_shared.specs.sg_sim.sg_plain.Answering.{Answering}
 use Rattle.sg_shared.specs.sg_sim.sg_script.declared.script.Script.{Script}
 use Rattle.sg_explore.specs.declared.exploring.Explored.{Explored}
 use Rattle.sg_explore.specs.Text.{all_ends, exploration_text}

@@ -10,7 +10,7 @@ ghost use Rattle.sg_explore.specs.Inside.Stopping.{IsRow, points_of, row_of};
 ghost use Rattle.sg_explore.specs.Inside.Sums.{sums_from, sums_of};
 ghost use Rattle.sg_shared.specs.sg_sim.sg_plain.Playing.Playable.{IsPlayable};
 ghost use Rattle.sg_shared.specs.sg_sim.sg_plain.sg_edge.Stops.{AscendsAbove};
-ghost use Rattle.sg_shared.specs.sg_play.Waking.Waking.{no_query_waits};
+ghost use Rattle.sg_shared.specs.sg_sim.sg_plain.Answering.{no_query_waits};
 
 use crate::outcomes::{Outcome, is_waiting};
 use crate::plays::play_with;

@@ -6,7 +6,7 @@ ghost use Rattle.sg_explore.specs.Inside.Stopping.{points_of};
 ghost use Rattle.sg_shared.specs.Runs.{IsRunInOrder};
 ghost use Rattle.sg_shared.specs.sg_sim.sg_plain.Playing.Playable.{IsPlayable};
 ghost use Rattle.sg_shared.specs.sg_sim.sg_plain.sg_edge.Stops.{AscendsAbove};
-ghost use Rattle.sg_shared.specs.sg_play.Waking.Waking.{no_query_waits};
+ghost use Rattle.sg_shared.specs.sg_sim.sg_plain.Answering.{no_query_waits};
 
 use crate::outcomes::Outcome;
 use crate::scripts::with_stops;

@@ -4,7 +4,7 @@ ghost use Rattle.sg_explore.specs.Inside.Adding.{AreOutcomes, IsOutcomeOf};
 ghost use Rattle.sg_explore.specs.Inside.Jobs.{IsTriedOf};
 ghost use Rattle.sg_explore.specs.Inside.Stopping.{IsRow, behind};
 ghost use Rattle.sg_shared.specs.sg_sim.sg_plain.Playing.Playable.{IsPlayable};
-ghost use Rattle.sg_shared.specs.sg_play.Waking.Waking.{no_query_waits};
+ghost use Rattle.sg_shared.specs.sg_sim.sg_plain.Answering.{no_query_waits};
 
 use crate::outcomes::Outcome;
 use crate::plays::outcome_with;

@@ -21,6 +21,7 @@ use Rattle.sg_load.proofs.Checked.{IsChecked, Line, UpTo, fits, line}
 use Rattle.sg_load.proofs.Printable.{all_both, both, decimal_is, short}
 use Rattle.sg_load.proofs.Repeats.{times_all, times_fit, times_length}
 use Rattle.sg_load.proofs.Wholes.{whole_is}
+use Rattle.sg_plain.specs.Answering.{no_query_waits}
 use Rattle.sg_plain.specs.Script.{calls_fit}
 use Rattle.sg_plain.specs.sg_script.Numbers.{is_text}
 
@@ -229,6 +230,17 @@ standard_small Pages = record { funs = omega arith; fields = omega arith }
 standard_small Files = record { funs = omega arith; fields = omega arith }
 standard_small Threads = record { funs = omega arith; fields = omega arith }
 standard_small Timers = record { funs = omega arith; fields = omega arith }
+
+-- ---- waits
+
+-- in a private service no query waits
+pub none_waits : (service : ServiceKind) → no_query_waits (facts_by service) ≡ true
+none_waits Locks = refl
+none_waits Events = refl
+none_waits Pages = refl
+none_waits Files = refl
+none_waits Threads = refl
+none_waits Timers = refl
 
 -- ---- what a standard interface declares
 

@@ -1,21 +1,28 @@
 -- The services: the facts of each, its standard interface, the calls of its setup, and its group of calls. What stands in the specs of each
 -- is passed on from here.
-use Rattle.std.specs.Prelude.{ℕ, ◌+◌, ◌-◌, ◌*◌, ◌%◌, ◌^◌, List, [], ◌∷◌, ◌++◌, codes, take}
+use Rattle.std.specs.Prelude.{ℕ, ◌+◌, ◌-◌, ◌*◌, ◌%◌, ◌^◌, List, [], ◌∷◌, ◌++◌, codes, map, take}
 use Rattle.std.specs.Fmt.{decimal}
 use Rattle.sg_event.specs.EventFacts.{event_facts}
+use Rattle.sg_event.specs.EventTable.{event_parts, event_table}
 use Rattle.sg_facts.specs.Facts.{Facts}
 use Rattle.sg_facts.specs.Interface.{Declared}
 use Rattle.sg_facts.specs.Laws.{whole}
 use Rattle.sg_load.specs.declared.kind.ServiceKind.{ServiceKind}
 use Rattle.sg_load.specs.declared.kind.ServiceKind.TheVariants.{Locks, Events, Pages, Files, Threads, Timers}
 use Rattle.sg_lock.specs.LockFacts.{lock_facts}
+use Rattle.sg_lock.specs.LockTable.{lock_parts, lock_table}
 use Rattle.sg_mm.specs.MmFacts.{mm_facts}
+use Rattle.sg_mm.specs.MmTable.{mm_parts, mm_table}
+use Rattle.sg_plain.specs.Answering.{Answering}
 use Rattle.sg_plain.specs.sg_script.declared.script.Arg.{Arg}
 use Rattle.sg_plain.specs.sg_script.declared.script.Arg.TheVariants.{Number, Text, Back}
 use Rattle.sg_plain.specs.sg_script.declared.script.ScriptCall.{ScriptCall}
 use Rattle.sg_ramfs.specs.RamfsFacts.{ramfs_facts}
+use Rattle.sg_ramfs.specs.RamfsTable.{ramfs_parts, ramfs_table}
 use Rattle.sg_sched.specs.SchedFacts.{sched_facts}
+use Rattle.sg_sched.specs.SchedTable.{sched_parts, sched_table}
 use Rattle.sg_timer.specs.TimerFacts.{timer_facts}
+use Rattle.sg_timer.specs.TimerTable.{timer_parts, timer_table}
 pub use Rattle.sg_event.specs as sg_event
 pub use Rattle.sg_lock.specs as sg_lock
 pub use Rattle.sg_mm.specs as sg_mm
@@ -23,12 +30,26 @@ pub use Rattle.sg_ramfs.specs as sg_ramfs
 pub use Rattle.sg_sched.specs as sg_sched
 pub use Rattle.sg_timer.specs as sg_timer
 
+-- ---- services
+
+-- the service of a kind
+abbrev pub answering : ServiceKind → Answering
+answering Locks = record { facts = lock_facts; ask = lock_table; parts = lock_parts }
+answering Events = record { facts = event_facts; ask = event_table; parts = event_parts }
+answering Pages = record { facts = mm_facts; ask = mm_table; parts = mm_parts }
+answering Files = record { facts = ramfs_facts; ask = ramfs_table; parts = ramfs_parts }
+answering Threads = record { facts = sched_facts; ask = sched_table; parts = sched_parts }
+answering Timers = record { facts = timer_facts; ask = timer_table; parts = timer_parts }
+
+-- the services that are played
+abbrev pub played_services : List Answering
+played_services = map answering (Locks ∷ Events ∷ Pages ∷ Files ∷ Threads ∷ Timers ∷ [])
+
 -- ---- interfaces
 
 -- the facts of a service
 abbrev pub facts_by : ServiceKind → Facts
-facts_by kind =
-    elim kind [ Locks ↦ lock_facts | Events ↦ event_facts | Pages ↦ mm_facts | Files ↦ ramfs_facts | Threads ↦ sched_facts | Timers ↦ timer_facts ]
+facts_by kind = (answering kind).facts
 
 -- the standard interface of a service: it declares each function that version 1 of its text declares, with all transitions and
 -- recover steps of these. So of events it leaves out the fifth function, evt_take, which only version 2 of the text declares

@@ -1,9 +1,11 @@
 // The services: of each its shape, its standard interface, how many calls the setup makes, and its group of calls.
 ghost use Rattle.std.specs.Fmt.{decimal};
-ghost use Rattle.std.specs.Prelude.{◌≡◌, ◌≤◌, ◌++◌, OnOk, IfOk, codes};
+ghost use Rattle.std.specs.Prelude.{◌≡◌, ◌≤◌, ◌++◌, true, map, OnOk, IfOk, MatchOption, codes};
 ghost use Rattle.sg_facts.specs.Facts.{facts_of};
 ghost use Rattle.sg_load.specs.Inside.{most_group, most_setup};
-ghost use Rattle.sg_load.specs.Services.{facts_by, group_of, group_size, setup_count, standard};
+ghost use Rattle.sg_check.specs.Shapes.{are_shapes};
+ghost use Rattle.sg_load.specs.Services.{facts_by, group_of, group_size, played_services, setup_count, standard};
+ghost use Rattle.sg_load.specs.declared.kind.ServiceKind.{ServiceKind as Kind};
 ghost use Rattle.sg_load.specs.declared.kind.ServiceKind.TheVariants.{Locks, Events, Pages, Files, Threads, Timers};
 
 use crate::calls::{GroupState, add_call};
@@ -12,7 +14,7 @@ pub use sg_event::EventService;
 use sg_event::functions::{
     FREE as EVT_FREE, SPLIT as EVT_SPLIT, TRIGGER as EVT_TRIGGER, WAIT as EVT_WAIT,
 };
-use sg_facts::{Interface, NoMemory, Service, Shape, Text};
+use sg_facts::{Interface, NoMemory, Shape, Text};
 pub use sg_lock::LockService;
 use sg_lock::functions::{RELEASE as LOCK_RELEASE, TAKE as LOCK_TAKE};
 pub use sg_mm::MmService;
@@ -47,6 +49,42 @@ pub enum ServiceKind {
 }
 
 impl ServiceKind {
+    /// The service of a name; None where none has it.
+    pub fn named(name: &[u8]) -> Option<ServiceKind>
+        ensures { MatchOption result ((kind : Kind) → name.now ≡ (facts_by kind).name → ⊥) (λ kind. name.now ≡ (facts_by kind).name) }
+    {
+        if name == LockService::shape().name {
+            Some(ServiceKind::Locks)
+        } else if name == EventService::shape().name {
+            Some(ServiceKind::Events)
+        } else if name == MmService::shape().name {
+            Some(ServiceKind::Pages)
+        } else if name == RamfsService::shape().name {
+            Some(ServiceKind::Files)
+        } else if name == SchedService::shape().name {
+            Some(ServiceKind::Threads)
+        } else if name == TimerService::shape().name {
+            Some(ServiceKind::Timers)
+        } else {
+            None
+        }
+    }
+
+    /// The shapes of all services.
+    pub fn shapes() -> [Shape; 6]
+        ensures facts { map facts_of result ≡ map (λ s. s.facts) played_services }
+        ensures shapes { are_shapes (map facts_of result) ≡ true }
+    {
+        [
+            LockService::shape(),
+            EventService::shape(),
+            MmService::shape(),
+            RamfsService::shape(),
+            SchedService::shape(),
+            TimerService::shape(),
+        ]
+    }
+
     /// Its shape, with all of its functions.
     pub fn shape(self) -> Shape
         ensures { facts_of result ≡ facts_by self }

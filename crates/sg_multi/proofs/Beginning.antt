@@ -9,13 +9,13 @@ use Rattle.sg_facts.specs.Tables.{Compiled}
 use Rattle.sg_multi.proofs.sg_sim.Beginning.{new_seat}
 use Rattle.sg_multi.specs.Members.{kind_in, setting_by, setting_in, view_in, world_in}
 use Rattle.sg_multi.specs.declared.member.Member.{Member}
+use Rattle.sg_load.proofs.Services.{none_waits}
 use Rattle.sg_multi.specs.sg_load.Services.{facts_by}
 use Rattle.sg_multi.specs.sg_load.declared.kind.ServiceKind.{ServiceKind}
-use Rattle.sg_multi.specs.sg_load.declared.kind.ServiceKind.TheVariants.{Locks, Events, Pages, Files, Threads, Timers}
 use Rattle.sg_multi.specs.sg_sim.sg_plain.Calls.{most_client}
 use Rattle.sg_multi.specs.sg_sim.sg_plain.Playing.Callers.{is_receipted}
 use Rattle.sg_multi.specs.sg_sim.sg_plain.Playing.Playable.{AreClients}
-use Rattle.sg_multi.specs.sg_sim.sg_play.Waking.Waking.{no_query_waits}
+use Rattle.sg_multi.specs.sg_sim.sg_plain.Answering.{no_query_waits}
 use Rattle.sg_multi.specs.sg_sim.sg_script.declared.multi.MultiCall.{MultiCall}
 use Rattle.sg_multi.specs.sg_sim.sg_script.declared.multi.MultiScript.{MultiScript}
 use Rattle.sg_multi.specs.sg_sim.sg_clients.WorldView.{Seat, WorldView, is_offered, new_world, no_seat, seat_of}
@@ -43,21 +43,8 @@ last_within above (c ∷ d ∷ clients) are = last_within c.0 (d ∷ clients) ar
 
 -- ---- services
 
-none_waits : (k : ServiceKind) → no_query_waits (facts_by k) ≡ true
-none_waits Locks = refl
-none_waits Events = refl
-none_waits Pages = refl
-none_waits Files = refl
-none_waits Threads = refl
-none_waits Timers = refl
-
 pub its_interface : (k : ServiceKind) (t : Compiled) → (setting_by k t).iface ≡ t.iface
-its_interface Locks t = refl
-its_interface Events t = refl
-its_interface Pages t = refl
-its_interface Files t = refl
-its_interface Threads t = refl
-its_interface Timers t = refl
+its_interface k t = refl
 
 -- ---- nothing given
 

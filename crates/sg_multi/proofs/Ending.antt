@@ -19,7 +19,6 @@ use Rattle.sg_multi.proofs.sg_sim.sg_play.Waking.Waking.{waking_woken}
 use Rattle.sg_multi.proofs.sg_sim.sg_play.sg_world.sg_world_laws.sg_recovery_laws.Lists.{each_append}
 use Rattle.sg_multi.specs.Members.{kind_in, setting_by, setting_in, view_in, world_in}
 use Rattle.sg_multi.specs.sg_load.declared.kind.ServiceKind.{ServiceKind}
-use Rattle.sg_multi.specs.sg_load.declared.kind.ServiceKind.TheVariants.{Locks as locks, Events as events, Pages as pages, Files as files, Threads as threads, Timers as timers}
 use Rattle.sg_multi.specs.declared.member.Member.{Member}
 use Rattle.sg_multi.specs.sg_sim.Played.{IsOfWorld}
 use Rattle.sg_multi.specs.sg_sim.sg_plain.Calls.{ascending_from, most_client}
@@ -344,16 +343,7 @@ module _ (members : List Member) (script : MultiScript) (given : List (List ℕ)
 
   stubs_interfaces : (xs : List Member) → map (λ s. s.interface) (map stubs_in xs) ≡ interfaces_of xs
   stubs_interfaces [] = refl
-  stubs_interfaces (y ∷ xs) = by (kind_in y) (stubs_interfaces xs)
-    where
-      by : (k : ServiceKind) → map (λ s. s.interface) (map stubs_in xs) ≡ interfaces_of xs
-          → (stubs_of (setting_by k (world_in y).tables)).interface ∷ map (λ s. s.interface) (map stubs_in xs) ≡ (world_in y).tables.iface ∷ interfaces_of xs
-      by locks rest = ap (λ l. (world_in y).tables.iface ∷ l) rest
-      by events rest = ap (λ l. (world_in y).tables.iface ∷ l) rest
-      by pages rest = ap (λ l. (world_in y).tables.iface ∷ l) rest
-      by files rest = ap (λ l. (world_in y).tables.iface ∷ l) rest
-      by threads rest = ap (λ l. (world_in y).tables.iface ∷ l) rest
-      by timers rest = ap (λ l. (world_in y).tables.iface ∷ l) rest
+  stubs_interfaces (y ∷ xs) = ap (λ l. (world_in y).tables.iface ∷ l) (stubs_interfaces xs)
 
   pub multi_calls_are : AreMultiCalls (map (λ s. s.interface) (map stubs_in members)) script is.merged
   multi_calls_are = subst (λ i. AreMultiCalls i script is.merged) (sym (stubs_interfaces members)) (record {

@@ -30,7 +30,8 @@ use Rattle.sg_multi.specs.sg_sim.sg_plain.Script.{call_fits, desc_among, values_
 use Rattle.sg_multi.specs.sg_sim.sg_play.NextCall.{IsNextCall}
 use Rattle.sg_multi.specs.sg_sim.sg_play.Recovering.{RecoversSoFar}
 use Rattle.sg_multi.specs.sg_sim.sg_play.Turning.{with_call}
-use Rattle.sg_multi.specs.sg_sim.sg_play.Waking.Waking.{IsWaking, no_query_waits}
+use Rattle.sg_multi.specs.sg_sim.sg_plain.Answering.{no_query_waits}
+use Rattle.sg_multi.specs.sg_sim.sg_play.Waking.Waking.{IsWaking}
 use Rattle.sg_multi.specs.sg_sim.sg_play.sg_hist.Clients.{AreNumbered, calls_of}
 use Rattle.sg_multi.specs.sg_sim.sg_play.sg_hist.Inside.Reads.{desc_of}
 use Rattle.sg_multi.specs.sg_sim.sg_script.declared.script.Script.{Script}

@@ -1,18 +1,14 @@
 -- What contracts see of the worlds of several services.
 use Rattle.std.specs.Prelude.{ℕ, ◌≡◌, List, Some, replicate, slice_get, slice_set}
+use Rattle.sg_facts.specs.Object.{Object}
 use Rattle.sg_facts.specs.Tables.{Compiled}
+use Rattle.sg_load.specs.Services.{answering}
 use Rattle.sg_load.specs.Services.sg_event.EventSound.{IsEventSound}
-use Rattle.sg_load.specs.Services.sg_event.EventTable.{event_parts, event_table}
 use Rattle.sg_load.specs.Services.sg_lock.LockSound.{IsLockSound}
-use Rattle.sg_load.specs.Services.sg_lock.LockTable.{lock_parts, lock_table}
 use Rattle.sg_load.specs.Services.sg_mm.MmSound.{IsMmSound}
-use Rattle.sg_load.specs.Services.sg_mm.MmTable.{mm_parts, mm_table}
 use Rattle.sg_load.specs.Services.sg_ramfs.RamfsSound.{IsRamfsSound}
-use Rattle.sg_load.specs.Services.sg_ramfs.RamfsTable.{ramfs_parts, ramfs_table}
 use Rattle.sg_load.specs.Services.sg_sched.SchedSound.{IsSchedSound}
-use Rattle.sg_load.specs.Services.sg_sched.SchedTable.{sched_parts, sched_table}
 use Rattle.sg_load.specs.Services.sg_timer.TimerSound.{IsTimerSound}
-use Rattle.sg_load.specs.Services.sg_timer.TimerTable.{timer_parts, timer_table}
 use Rattle.sg_load.specs.declared.kind.ServiceKind.{ServiceKind}
 use Rattle.sg_load.specs.declared.kind.ServiceKind.TheVariants.{Locks as locks, Events as events, Pages as pages, Files as files, Threads as threads, Timers as timers}
 use Rattle.sg_multi.specs.declared.member.Member.{Member}
@@ -41,14 +37,18 @@ world_in (Files w) = w
 world_in (Threads w) = w
 world_in (Timers w) = w
 
+-- what is kept true of a service's object
+abbrev pub sound_by : ServiceKind → Object → Type 0
+sound_by locks = IsLockSound
+sound_by events = IsEventSound
+sound_by pages = IsMmSound
+sound_by files = IsRamfsSound
+sound_by threads = IsSchedSound
+sound_by timers = IsTimerSound
+
 -- what doesn't change in the world of a service with these tables
 abbrev pub setting_by : ServiceKind → Compiled → Setting
-setting_by locks tables = setting_of lock_table IsLockSound lock_parts tables
-setting_by events tables = setting_of event_table IsEventSound event_parts tables
-setting_by pages tables = setting_of mm_table IsMmSound mm_parts tables
-setting_by files tables = setting_of ramfs_table IsRamfsSound ramfs_parts tables
-setting_by threads tables = setting_of sched_table IsSchedSound sched_parts tables
-setting_by timers tables = setting_of timer_table IsTimerSound timer_parts tables
+setting_by kind tables = setting_of (answering kind).ask (sound_by kind) (answering kind).parts tables
 
 -- what doesn't change in its world
 abbrev pub setting_in : Member → Setting

@@ -35,6 +35,20 @@ pub enum Member {
     Timers(World<TimerService, AtPoints>),
 }
 
+// What is made of the world of a member, whichever its service is.
+macro_rules! at_world {
+    ($member:expr, $world:ident => $made:expr) => {
+        match $member {
+            Member::Locks($world) => $made,
+            Member::Events($world) => $made,
+            Member::Pages($world) => $made,
+            Member::Files($world) => $made,
+            Member::Threads($world) => $made,
+            Member::Timers($world) => $made,
+        }
+    };
+}
+
 impl Member {
     /// A world of a service in which nothing was done, with clients from 1 to so many.
     pub fn new(
@@ -65,14 +79,7 @@ impl Member {
         requires client { IsClient (length (view_in self.now).seats) client }
         ensures { result ≡ (seat_of (view_in self.now) client).phase }
     {
-        match self {
-            Member::Locks(world) => world.phase(client),
-            Member::Events(world) => world.phase(client),
-            Member::Pages(world) => world.phase(client),
-            Member::Files(world) => world.phase(client),
-            Member::Threads(world) => world.phase(client),
-            Member::Timers(world) => world.phase(client),
-        }
+        at_world!(self, world => world.phase(client))
     }
 
     /// The call that a client offered last, lent.
@@ -80,28 +87,14 @@ impl Member {
         requires client { IsClient (length (view_in self.now).seats) client }
         ensures { result.now ≡ (seat_of (view_in self.now) client).call }
     {
-        match self {
-            Member::Locks(world) => world.call(client),
-            Member::Events(world) => world.call(client),
-            Member::Pages(world) => world.call(client),
-            Member::Files(world) => world.call(client),
-            Member::Threads(world) => world.call(client),
-            Member::Timers(world) => world.call(client),
-        }
+        at_world!(self, world => world.call(client))
     }
 
     /// The interface that the service is used by, lent.
     pub fn interface(&self) -> &Interface
         ensures { result.now ≡ (world_in self.now).tables.iface }
     {
-        match self {
-            Member::Locks(world) => world.interface(),
-            Member::Events(world) => world.interface(),
-            Member::Pages(world) => world.interface(),
-            Member::Files(world) => world.interface(),
-            Member::Threads(world) => world.interface(),
-            Member::Timers(world) => world.interface(),
-        }
+        at_world!(self, world => world.interface())
     }
 
     /// The number of a client's entries, which is that of its last; its next call has the next number.
@@ -109,14 +102,7 @@ impl Member {
         requires client { IsClient (length (view_in self.now).seats) client }
         ensures { result ≡ (seat_of (view_in self.now) client).seq }
     {
-        match self {
-            Member::Locks(world) => world.seq(client),
-            Member::Events(world) => world.seq(client),
-            Member::Pages(world) => world.seq(client),
-            Member::Files(world) => world.seq(client),
-            Member::Threads(world) => world.seq(client),
-            Member::Timers(world) => world.seq(client),
-        }
+        at_world!(self, world => world.seq(client))
     }
 
     /// The calls of this service that were done and what was done to it, copied, with these as its clients' ends.
@@ -124,28 +110,14 @@ impl Member {
         ensures its { IfOk result (IsOfWorld (view_in self.now)) }
         ensures ends { IfOk result (λ ended. ended.ends ≡ ends) }
     {
-        match self {
-            Member::Locks(world) => ended_of(alloc, world, ends),
-            Member::Events(world) => ended_of(alloc, world, ends),
-            Member::Pages(world) => ended_of(alloc, world, ends),
-            Member::Files(world) => ended_of(alloc, world, ends),
-            Member::Threads(world) => ended_of(alloc, world, ends),
-            Member::Timers(world) => ended_of(alloc, world, ends),
-        }
+        at_world!(self, world => ended_of(alloc, world, ends))
     }
 
     /// The number of its steps that wanted memory, up to the greatest number.
     pub fn refused(&self) -> u64
         ensures { result ≡ (view_in self.now).refused }
     {
-        match self {
-            Member::Locks(world) => world.refused(),
-            Member::Events(world) => world.refused(),
-            Member::Pages(world) => world.refused(),
-            Member::Files(world) => world.refused(),
-            Member::Threads(world) => world.refused(),
-            Member::Timers(world) => world.refused(),
-        }
+        at_world!(self, world => world.refused())
     }
 
     /// What its world keeps, for the proof: nothing is done. It stopped at the points of its plan that were asked, and at no others; and
@@ -155,14 +127,7 @@ impl Member {
         ensures recovered { let w = view_in self.now in w.refused ≡ 0 → IsRecovered (stubs_of (setting_in self.now)) w.history w.run (unanswered w) }
         ensures stopped { let run = (view_in self.now).run in struck_in run ≡ up_to run.points (world_in self.now).plan }
     {
-        match self {
-            Member::Locks(world) => tell(world),
-            Member::Events(world) => tell(world),
-            Member::Pages(world) => tell(world),
-            Member::Files(world) => tell(world),
-            Member::Threads(world) => tell(world),
-            Member::Timers(world) => tell(world),
-        }
+        at_world!(self, world => tell(world))
     }
 
     /// A client offers a call of this service, under its next number there. After `NoMemory` only events are counted.
@@ -187,14 +152,7 @@ impl Member {
         ensures plan { (world_in self.new).plan ≡ (world_in self.old).plan }
         ensures kind { kind_in self.new ≡ kind_in self.old }
     {
-        match self {
-            Member::Locks(world) => world.offer(alloc, client, fun, desc, args),
-            Member::Events(world) => world.offer(alloc, client, fun, desc, args),
-            Member::Pages(world) => world.offer(alloc, client, fun, desc, args),
-            Member::Files(world) => world.offer(alloc, client, fun, desc, args),
-            Member::Threads(world) => world.offer(alloc, client, fun, desc, args),
-            Member::Timers(world) => world.offer(alloc, client, fun, desc, args),
-        }
+        at_world!(self, world => world.offer(alloc, client, fun, desc, args))
     }
 
     /// One step of a client, in this world alone.
@@ -208,14 +166,7 @@ impl Member {
         ensures plan { (world_in self.new).plan ≡ (world_in self.old).plan }
         ensures kind { kind_in self.new ≡ kind_in self.old }
     {
-        match self {
-            Member::Locks(world) => world.step(alloc, client),
-            Member::Events(world) => world.step(alloc, client),
-            Member::Pages(world) => world.step(alloc, client),
-            Member::Files(world) => world.step(alloc, client),
-            Member::Threads(world) => world.step(alloc, client),
-            Member::Timers(world) => world.step(alloc, client),
-        }
+        at_world!(self, world => world.step(alloc, client))
     }
 
     /// A client that has no call of this service under way leaves. It takes no memory.
@@ -227,14 +178,7 @@ impl Member {
         ensures plan { (world_in self.new).plan ≡ (world_in self.old).plan }
         ensures kind { kind_in self.new ≡ kind_in self.old }
     {
-        match self {
-            Member::Locks(world) => world.leave(client),
-            Member::Events(world) => world.leave(client),
-            Member::Pages(world) => world.leave(client),
-            Member::Files(world) => world.leave(client),
-            Member::Threads(world) => world.leave(client),
-            Member::Timers(world) => world.leave(client),
-        }
+        at_world!(self, world => world.leave(client))
     }
 }
 
@@ -266,12 +210,5 @@ fn tell<S: Service, T: Stops>(world: &World<S, T>)
 
 /// Ends the world of a member where it stands.
 pub fn discard_member(member: Member) {
-    match member {
-        Member::Locks(world) => discard(world),
-        Member::Events(world) => discard(world),
-        Member::Pages(world) => discard(world),
-        Member::Files(world) => discard(world),
-        Member::Threads(world) => discard(world),
-        Member::Timers(world) => discard(world),
-    }
+    at_world!(member, world => discard(world))
 }

@@ -1,3 +1,4 @@
+pub mod Answering
 pub mod Calls
 pub mod Ending
 pub mod Inside

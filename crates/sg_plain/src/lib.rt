@@ -6,5 +6,5 @@
 //! plays, written out.
 #![tactic(auto)]
 
-pub use sg_script::{Arg, ArgList, CallList, ClientList, Script, ScriptCall, TurnList, text_of};
 pub use sg_clients::{End, EndList, Ended, Phase};
+pub use sg_script::{Arg, ArgList, CallList, ClientList, Script, ScriptCall, TurnList, text_of};

@@ -12,7 +12,8 @@ use Rattle.sg_facts.specs.declared.tables.WalkLine.{WalkLine}
 use Rattle.sg_sim.specs.sg_plain.sg_hist.declared.ended.Ended.{Ended}
 use Rattle.sg_sim.specs.sg_plain.sg_script.declared.script.Script.{Script}
 use Rattle.sg_shared.specs.Inside.Played.{IsPlayedOn}
-use Rattle.sg_shared.specs.Runs.{Answering, IsRunInOrder, IsRunOf}
+use Rattle.sg_shared.specs.Runs.{IsRunInOrder, IsRunOf}
+use Rattle.sg_sim.specs.sg_plain.Answering.{Answering}
 use Rattle.sg_sim.specs.Played.{FollowsSchedule, IsPlayed}
 
 -- stops that ascend are the listed ones up to a point

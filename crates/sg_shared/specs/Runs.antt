@@ -1,23 +1,17 @@
 -- What a play of a script on a service promises, whichever the service is.
-use Rattle.std.specs.Prelude.{ℕ, List}
-use Rattle.sg_facts.specs.Facts.{Facts}
+use Rattle.std.specs.Prelude.{List}
 use Rattle.sg_facts.specs.Interface.{Declared}
-use Rattle.sg_facts.specs.Legal.{IsLegal, Table}
+use Rattle.sg_facts.specs.Legal.{IsLegal}
 use Rattle.sg_facts.specs.Tables.{AreTables}
 use Rattle.sg_facts.specs.Trace.{run_of}
 use Rattle.sg_facts.specs.declared.tables.WalkLine.{WalkLine}
+use Rattle.sg_sim.specs.sg_plain.Answering.{Answering}
 use Rattle.sg_sim.specs.sg_plain.Calls.{AreEnds}
 use Rattle.sg_sim.specs.sg_plain.Promises.{AreScriptsCalls, AreScriptsStops, AreWoken, IsSetupFirst}
 use Rattle.sg_sim.specs.sg_plain.sg_hist.Ending.{HasRecovered}
 use Rattle.sg_sim.specs.sg_plain.sg_hist.declared.ended.Ended.{Ended}
 use Rattle.sg_sim.specs.sg_plain.sg_script.declared.script.Script.{Script}
 use Rattle.sg_sim.specs.Played.{FollowsSchedule}
-
--- a service: its shape, what it answers, and how many parts an Ok of each of its functions has, before each of which it may stop
-pub record Answering : Type 0 where
-  pub facts : Facts
-  pub ask : Table
-  pub parts : ℕ → ℕ
 
 -- a play of a script on a service, under an interface of it, came to this end, with its clients' turns in any order
 pub record IsRunOf (i : Declared) (service : Answering) (script : Script) (ended : Ended) : Type 0 where

@@ -3,7 +3,7 @@ ghost use Rattle.std.specs.Prelude.{◌≡◌, [], true, IfOk};
 ghost use Rattle.sg_edge.specs.Stops.{AscendsAbove, struck_of};
 ghost use Rattle.sg_sim.specs.sg_plain.Playing.Playable.{IsPlayable};
 ghost use Rattle.sg_shared.specs.Runs.{IsRunInOrder, IsRunOf};
-ghost use Rattle.sg_sim.specs.sg_play.Waking.Waking.{no_query_waits};
+ghost use Rattle.sg_sim.specs.sg_plain.Answering.{no_query_waits};
 
 use crate::runs::run;
 use sg_edge::{AtPoints, Gate};

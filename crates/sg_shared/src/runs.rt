@@ -8,7 +8,7 @@ ghost use Rattle.sg_shared.specs.Inside.Seats.{AllFree};
 ghost use Rattle.sg_shared.specs.Reached.{IsReachedEnd};
 ghost use Rattle.sg_sim.specs.Playing.{ComesTo, new_of};
 ghost use Rattle.sg_sim.specs.sg_plain.Playing.Callers.{is_setting_up};
-ghost use Rattle.sg_sim.specs.sg_play.Waking.Waking.{no_query_waits};
+ghost use Rattle.sg_sim.specs.sg_plain.Answering.{no_query_waits};
 ghost use Rattle.sg_sim.specs.sg_world.Worlded.{setting_of};
 
 use crate::naming::Naming;

@@ -9,7 +9,7 @@ ghost use Rattle.sg_shared.specs.Reached.{ComesByEvents};
 ghost use Rattle.sg_sim.specs.Playing.{new_of};
 ghost use Rattle.sg_sim.specs.sg_plain.Calls.{most_client};
 ghost use Rattle.sg_sim.specs.sg_play.GoingOn.{MayGoOn};
-ghost use Rattle.sg_sim.specs.sg_play.Waking.Waking.{no_query_waits};
+ghost use Rattle.sg_sim.specs.sg_plain.Answering.{no_query_waits};
 ghost use Rattle.sg_sim.specs.sg_world.Worlded.{setting_of};
 
 use crate::naming::Naming;

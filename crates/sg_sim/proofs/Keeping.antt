@@ -30,7 +30,8 @@ use Rattle.sg_sim.proofs.Beginning.{playing_new}
 use Rattle.sg_sim.specs.Inside.Keeps.{KeepsPlay}
 use Rattle.sg_sim.specs.Inside.Taken.{MissesTurn, TakesTurn, behind_offer}
 use Rattle.sg_play.proofs.Waking.Waking.{waking_happened, waking_new, waking_offer, waking_turn, waking_wanted}
-use Rattle.sg_play.specs.Waking.Waking.{IsWaking, no_query_waits}
+use Rattle.sg_play.specs.sg_plain.Answering.{no_query_waits}
+use Rattle.sg_play.specs.Waking.Waking.{IsWaking}
 use Rattle.sg_play.specs.sg_world.declared.did.Did.{Did}
 use Rattle.sg_play.specs.sg_world.declared.did.Did.TheVariants.{Answered, Blocked as Waits, Booted, Loaded, Lost, Replayed, Served, Skipped, Struck}
 use Rattle.sg_play.specs.sg_world.Steps.{WantsMemory}

@@ -15,7 +15,7 @@ ghost use Rattle.sg_sim.specs.Inside.Next.{IsFirstBehind, NoneBehind, NoneSchedu
 ghost use Rattle.sg_play.specs.sg_clients.WorldView.{is_blocked_phase, seat_of};
 ghost use Rattle.sg_sim.specs.Played.{FollowsSchedule, IsOfWorld, IsPlayed};
 ghost use Rattle.sg_sim.specs.Playing.{ComesTo, EndsAs, HasMissed, IsTurnOf, can_step, new_of};
-ghost use Rattle.sg_play.specs.Waking.Waking.{no_query_waits};
+ghost use Rattle.sg_play.specs.sg_plain.Answering.{no_query_waits};
 ghost use Rattle.sg_play.specs.sg_world.Worlded.{setting_of};
 ghost use Rattle.sg_play.specs.sg_world_laws.Setting.{stubs_of};
 

@@ -5,7 +5,7 @@ ghost use Rattle.sg_play.specs.sg_plain.Playing.Playable.{IsPlayable};
 ghost use Rattle.sg_play.specs.sg_world.Worlded.{setting_of};
 ghost use Rattle.sg_sim.specs.Played.{FollowsSchedule, IsPlayed};
 ghost use Rattle.sg_sim.specs.Playing.{EndsAs, new_of};
-ghost use Rattle.sg_play.specs.Waking.Waking.{no_query_waits};
+ghost use Rattle.sg_play.specs.sg_plain.Answering.{no_query_waits};
 
 use crate::{Play, Played};
 use sg_facts::{NoMemory, Service, Stops, Tables};

@@ -8,13 +8,12 @@ use Rattle.sg_facts.specs.Allowed.{is_allowed}
 use Rattle.sg_facts.specs.Facts.{Facts, Fun}
 use Rattle.sg_facts.specs.sg_base.Lists.{Each}
 use Rattle.sg_explain.specs.sg_input.sg_entries.Inside.Classes.{IsName}
-use Rattle.sg_load.specs.Services.{facts_by, standard}
+use Rattle.sg_load.specs.Services.{answering, facts_by, played_services, standard}
 use Rattle.sg_load.specs.declared.kind.ServiceKind.{ServiceKind}
 use Rattle.sg_load.specs.declared.kind.ServiceKind.TheVariants.{Locks, Events, Pages, Files, Threads, Timers}
 use Rattle.sg_load.specs.sg_check.Shapes.{all_differ}
-use Rattle.sg_explore.specs.sg_shared.Runs.{Answering}
+use Rattle.sg_load.specs.sg_plain.Answering.{Answering}
 use Rattle.sg_top.specs.Answer.{services}
-use Rattle.sg_top.specs.Headline.{answering, played_services}
 use Rattle.sg_top.specs.Inside.Plays.{IsPlayed}
 
 -- ---- by cases on the kind: a further service has a line in each
@@ -40,12 +39,7 @@ called Timers = refl
 
 -- the facts of a kind are those of its service
 pub its_facts : (kind : ServiceKind) → facts_by kind ≡ (answering kind).facts
-its_facts Locks = refl
-its_facts Events = refl
-its_facts Pages = refl
-its_facts Files = refl
-its_facts Threads = refl
-its_facts Timers = refl
+its_facts kind = refl
 
 -- its service is among those that are played
 pub is_served : (kind : ServiceKind) → Contains played_services (answering kind)

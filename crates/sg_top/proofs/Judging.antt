@@ -18,11 +18,10 @@ use Rattle.sg_explain.proofs.sg_input.OneRun.{never_ready, one_ready}
 use Rattle.sg_verify.proofs.Verdicts.{one_said as one_verdict}
 use Rattle.sg_top.proofs.Fitting.{interface_service}
 use Rattle.sg_top.proofs.EachKind.{its_facts, same_name}
-use Rattle.sg_load.specs.Services.{facts_by}
+use Rattle.sg_load.specs.Services.{answering, facts_by}
 use Rattle.sg_load.specs.declared.kind.ServiceKind.{ServiceKind}
 use Rattle.sg_top.specs.Answer.{IsJudgedAs, IsOutput, services}
 use Rattle.sg_top.specs.Inside.Pieces.{IsIllegal, IsVerified, verdict_status}
-use Rattle.sg_top.specs.Headline.{answering}
 use Rattle.sg_top.specs.Inside.Plays.{IsPlayed}
 use Rattle.sg_top.specs.declared.command.Command.{Command}
 use Rattle.sg_top.specs.declared.command.Command.TheVariants.{Verify}

@@ -14,7 +14,8 @@ use Rattle.sg_explain.specs.sg_input.declared.multi_input.MultiInput.TheVariants
 use Rattle.sg_explain.proofs.sg_input.OneMulti.{one_multi_input}
 use Rattle.sg_explain.proofs.sg_input.OneInput.{never_ready, not_refused}
 use Rattle.sg_explain.proofs.sg_input.OneRun.{never_ready as never_printed}
-use Rattle.sg_top.specs.Headline.{IsRunOfInput, played_services}
+use Rattle.sg_top.specs.Headline.{IsRunOfInput}
+use Rattle.sg_load.specs.Services.{played_services}
 use Rattle.sg_top.specs.declared.command.Command.{Command}
 use Rattle.sg_top.specs.declared.command.Shows.{Shows}
 use Rattle.sg_top.specs.declared.command.Command.TheVariants.{Play, Check, Compile, Upgrade, Explain, Explore, Verify, Multi, Load}

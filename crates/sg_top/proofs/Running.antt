@@ -9,7 +9,7 @@ use Rattle.sg_explain.specs.sg_input.sg_script.declared.script.Script.{Script}
 use Rattle.sg_explore.specs.sg_shared.sg_sim.Played.{FollowsSchedule}
 use Rattle.sg_explain.specs.sg_input.Inputs.{IsReady}
 use Rattle.sg_load.specs.Generated.{generated}
-use Rattle.sg_load.specs.Services.{facts_by, standard}
+use Rattle.sg_load.specs.Services.{answering, facts_by, played_services, standard}
 use Rattle.sg_load.specs.declared.kind.ServiceKind.{ServiceKind}
 use Rattle.sg_load.specs.sg_plain.Playing.Playable.{IsPlayable}
 use Rattle.sg_verify.specs.sg_report.Report.{load_line_of}
@@ -23,7 +23,7 @@ use Rattle.sg_top.specs.declared.output.Ran.{Ran}
 use Rattle.sg_top.specs.declared.output.Ran.TheVariants.{One}
 use Rattle.sg_top.specs.declared.status.Status.{Status}
 use Rattle.sg_explore.specs.sg_shared.Runs.{IsRunInOrder, IsRunOf}
-use Rattle.sg_top.specs.Headline.{IsRunOfInput, IsShown, answering, played_services}
+use Rattle.sg_top.specs.Headline.{IsRunOfInput, IsShown}
 
 -- what a fact of an outcome makes
 pub of_one : {A E : Type 0} (r : Result A E) (P Q : A → Type 0) → ((a : A) → P a → Q a) → IfOk r P → IfOk r Q

@@ -15,9 +15,8 @@ use Rattle.sg_explain.specs.sg_input.declared.multi_input.MultiInput.{MultiInput
 use Rattle.sg_explain.specs.sg_input.declared.multi_input.MultiInput.TheVariants.{Ready, Refused}
 use Rattle.sg_explain.specs.sg_input.sg_script.declared.multi.MultiScript.{MultiScript}
 use Rattle.sg_explain.proofs.sg_input.Gathering.{few_members}
-use Rattle.sg_load.specs.Services.{facts_by}
+use Rattle.sg_load.specs.Services.{answering, facts_by, played_services}
 use Rattle.sg_load.specs.declared.kind.ServiceKind.{ServiceKind}
-use Rattle.sg_load.specs.declared.kind.ServiceKind.TheVariants.{Locks, Events, Pages, Files, Threads, Timers}
 use Rattle.sg_load.specs.sg_check.Shapes.{IsSmall}
 use Rattle.sg_multi.specs.Members.{setting_by}
 use Rattle.sg_multi.specs.sg_sim.sg_world_laws.Setting.{stubs_of}
@@ -27,7 +26,7 @@ use Rattle.sg_multi.specs.Report.{multi_text_of}
 use Rattle.sg_multi.specs.declared.play.MemberTables.{MemberTables}
 use Rattle.sg_multi.proofs.Flawless.{multi_playable}
 use Rattle.sg_top.specs.Answer.{IsMultiOutput, multi_status, services}
-use Rattle.sg_top.specs.Headline.{IsMember, answering, played_services}
+use Rattle.sg_top.specs.Headline.{IsMember}
 use Rattle.sg_top.specs.Inside.Plays.{IsPlayed}
 use Rattle.sg_top.specs.Inside.Several.{AreMembersOf, IsMemberOf}
 use Rattle.sg_top.specs.declared.output.Ran.{Ran}
@@ -121,12 +120,7 @@ each_at P (i ∷ interfaces) (suc k) d (one, all) within = each_at P interfaces 
 -- by what the run of a member is judged
 stubs_by_kind : (kind : ServiceKind) (tables : Compiled)
     → stubs_of (setting_by kind tables) ≡ record { interface = tables.iface; ask = (answering kind).ask; parts = (answering kind).parts; walks = tables.walks }
-stubs_by_kind Locks tables = refl
-stubs_by_kind Events tables = refl
-stubs_by_kind Pages tables = refl
-stubs_by_kind Files tables = refl
-stubs_by_kind Threads tables = refl
-stubs_by_kind Timers tables = refl
+stubs_by_kind kind tables = refl
 
 is_member : (i : Declared) (t : MemberTables) → IsMemberOf i t → IsMember played_services i (stubs_by t)
 is_member i t is = record {

@@ -27,7 +27,7 @@ use Rattle.sg_multi.specs.declared.ended.MultiEnd.{MultiEnd}
 use Rattle.sg_multi.specs.declared.ended.MultiEnd.TheVariants.{Done as MultiDone, Blocked as MultiBlocked}
 use Rattle.sg_explain.specs.sg_input.Lines.{too_long_line}
 use Rattle.sg_explain.specs.sg_input.sg_lex.Table.{IsNumber}
-use Rattle.sg_load.specs.Services.{facts_by}
+use Rattle.sg_load.specs.Services.{answering, facts_by, played_services}
 use Rattle.sg_verify.specs.sg_report.sg_hist.Recovered.{is_blocked}
 use Rattle.sg_facts.specs.sg_base.Counts.{last_count}
 use Rattle.sg_explain.specs.sg_input.sg_script.Numbers.{value_of_digits}
@@ -39,7 +39,7 @@ use Rattle.sg_verify.specs.Lines.{verdict_line_of}
 use Rattle.sg_verify.specs.Verdicts.{IsVerdictOf}
 use Rattle.sg_verify.specs.declared.verdict.Verdict.{Verdict as Judgement}
 use Rattle.sg_verify.specs.declared.verdict.Verdict.TheVariants.{Legal}
-use Rattle.sg_top.specs.Headline.{IsPlayOfMembers, IsRunOfLoad, IsRunOfInput, answering, played_services}
+use Rattle.sg_top.specs.Headline.{IsPlayOfMembers, IsRunOfLoad, IsRunOfInput}
 use Rattle.sg_top.specs.declared.command.Command.{Command}
 use Rattle.sg_top.specs.declared.command.Command.TheVariants.{Play, Check, Compile, Upgrade, Explain, Explore, Verify, Multi, Load}
 use Rattle.sg_top.specs.declared.output.Ran.{Ran}

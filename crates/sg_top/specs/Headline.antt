@@ -1,8 +1,6 @@
--- Which services are played, and what is promised of a run of an input, over one service or over several, and of a load.
+-- What is promised of a run of an input, over one service or over several, and of a load.
 use Rattle.std.specs.Prelude.{ℕ, ◌≡◌, Bool, true, false, List, [], ◌∷◌, ◌++◌, map}
 use Rattle.std.specs.List.{AllZip, Contains}
-use Rattle.sg_load.specs.Services.sg_event.EventFacts.{event_facts}
-use Rattle.sg_load.specs.Services.sg_event.EventTable.{event_parts, event_table}
 use Rattle.sg_cost.specs.Costs.{AreFew, costs_at}
 use Rattle.sg_cost.specs.Lines.{cost_text_of}
 use Rattle.sg_draw.specs.Pictures.{AreColumnsOf, IsPictureOf}
@@ -14,44 +12,19 @@ use Rattle.sg_verify.specs.sg_report.sg_hist.Recovered.{Stubs}
 use Rattle.sg_verify.specs.sg_report.sg_hist.declared.ended.Ended.{Ended}
 use Rattle.sg_explain.specs.sg_input.Inputs.{IsReady}
 use Rattle.sg_load.specs.Generated.{generated}
-use Rattle.sg_load.specs.Services.{facts_by, standard}
+use Rattle.sg_load.specs.Services.{answering, facts_by, standard}
 use Rattle.sg_load.specs.declared.kind.ServiceKind.{ServiceKind}
-use Rattle.sg_load.specs.declared.kind.ServiceKind.TheVariants.{Locks, Events, Pages, Files, Threads, Timers}
-use Rattle.sg_load.specs.Services.sg_lock.LockFacts.{lock_facts}
-use Rattle.sg_load.specs.Services.sg_lock.LockTable.{lock_parts, lock_table}
-use Rattle.sg_load.specs.Services.sg_mm.MmFacts.{mm_facts}
-use Rattle.sg_load.specs.Services.sg_mm.MmTable.{mm_parts, mm_table}
-use Rattle.sg_load.specs.Services.sg_ramfs.RamfsFacts.{ramfs_facts}
-use Rattle.sg_load.specs.Services.sg_ramfs.RamfsTable.{ramfs_parts, ramfs_table}
 use Rattle.sg_verify.specs.sg_report.Report.{load_line_of, report_of}
-use Rattle.sg_load.specs.Services.sg_sched.SchedFacts.{sched_facts}
-use Rattle.sg_load.specs.Services.sg_sched.SchedTable.{sched_parts, sched_table}
-use Rattle.sg_load.specs.Services.sg_timer.TimerFacts.{timer_facts}
-use Rattle.sg_load.specs.Services.sg_timer.TimerTable.{timer_parts, timer_table}
 use Rattle.sg_explain.specs.sg_input.MultiInputs.{IsMultiReady}
 use Rattle.sg_explain.specs.sg_input.sg_script.declared.multi.MultiScript.{MultiScript}
 use Rattle.sg_explain.specs.sg_input.sg_script.declared.script.Script.{Script}
 use Rattle.sg_multi.specs.Played.{IsMultiPlayed, MultiCame}
 use Rattle.sg_multi.specs.Report.{multi_text_of}
-use Rattle.sg_explore.specs.sg_shared.Runs.{Answering, IsRunOf}
+use Rattle.sg_explore.specs.sg_shared.Runs.{IsRunOf}
+use Rattle.sg_load.specs.sg_plain.Answering.{Answering}
 use Rattle.sg_explore.specs.sg_shared.sg_sim.Played.{FollowsSchedule}
 use Rattle.sg_top.specs.declared.command.Shows.{Shows}
 use Rattle.sg_top.specs.declared.command.Shows.TheVariants.{Run, Trace, Costs, Picture, Columns}
-
--- ---- services
-
--- the service of a kind
-abbrev pub answering : ServiceKind → Answering
-answering Locks = record { facts = lock_facts; ask = lock_table; parts = lock_parts }
-answering Events = record { facts = event_facts; ask = event_table; parts = event_parts }
-answering Pages = record { facts = mm_facts; ask = mm_table; parts = mm_parts }
-answering Files = record { facts = ramfs_facts; ask = ramfs_table; parts = ramfs_parts }
-answering Threads = record { facts = sched_facts; ask = sched_table; parts = sched_parts }
-answering Timers = record { facts = timer_facts; ask = timer_table; parts = timer_parts }
-
--- the services that are played
-abbrev pub played_services : List Answering
-played_services = map answering (Locks ∷ Events ∷ Pages ∷ Files ∷ Threads ∷ Timers ∷ [])
 
 -- ---- what is printed
 

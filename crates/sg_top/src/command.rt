@@ -6,7 +6,6 @@ ghost use Rattle.std.specs.Prelude.{codes};
 ghost use Rattle.sg_top.specs.declared.command.Command.{Command as Asked};
 ghost use Rattle.sg_top.specs.Inside.Words.{AreDigitsOf, IsPairOf};
 
-use crate::services::kind_named;
 use sg_explain::TOO_LONG_EXPLAINED;
 use sg_explain::inputs::{MOST_INPUT, MOST_INTERFACE, MOST_MULTI_INPUT, MOST_RUN_INPUT, TOO_LONG};
 use sg_explore::MOST_PAIRED;
@@ -148,7 +147,7 @@ impl Command {
         if word != "load" {
             return None;
         }
-        let service = kind_named(name.as_bytes())?;
+        let service = ServiceKind::named(name.as_bytes())?;
         let number = number_of(digits)?;
         Some(Command::Load { service, number })
     }

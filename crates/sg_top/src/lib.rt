@@ -9,12 +9,14 @@
 //! - `output`: what a command makes of its input, and what was run for it (`Ran`)
 //! - `members`: the members of a play over several services, and the play over them
 //! - `laws`: what a run prints is read to its history (`printed_runs_are_read`)
-//! - `services`: the services, their shapes and names, and the runs of scripts on them
+//! - `dispatch`: what is done with the service of a kind (`Job`, `at_service`)
+//! - `services`: the services' shapes, and the runs of scripts on them
 //!
 //! `specs/Headline.antt` says what a play promises, and `specs/Answer.antt` what an answer promises, status by status.
 #![tactic(auto)]
 
 mod command;
+mod dispatch;
 mod laws;
 mod members;
 mod output;

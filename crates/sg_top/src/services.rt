@@ -1,6 +1,6 @@
-// The services: their shapes, which of them an interface or a name is of, and runs of scripts on them in one thread or with a thread for
-// each client, the judgement of their histories, what their runs cost, and what is found by runs with other stops.
-ghost use Rattle.std.specs.Prelude.{◌≡◌, ◌≤◌, true, map, length, IfOk, MatchOption};
+// The services: which of them an interface is of, and what is done with the service of a kind: runs of scripts in one thread or with a thread
+// for each client, the judgement of their histories, what their runs cost, and what is found by runs with other stops.
+ghost use Rattle.std.specs.Prelude.{◌≡◌, ◌≤◌, true, map, length, IfOk};
 ghost use Rattle.sg_cost.specs.Costs.{costs_at};
 ghost use Rattle.sg_edge.specs.Stops.{AscendsAbove};
 ghost use Rattle.sg_explore.specs.Explored.{IsExplored};
@@ -9,24 +9,20 @@ ghost use Rattle.sg_facts.specs.Facts.{facts_of};
 ghost use Rattle.sg_facts.specs.Limits.{most_script_calls};
 ghost use Rattle.sg_facts.specs.Trace.{run_of};
 ghost use Rattle.sg_facts.specs.sg_base.Lists.{Each};
-ghost use Rattle.sg_load.specs.Services.{facts_by};
-ghost use Rattle.sg_load.specs.declared.kind.ServiceKind.{ServiceKind as Kind};
+ghost use Rattle.sg_load.specs.Services.{answering, facts_by};
 ghost use Rattle.sg_load.specs.sg_check.Shapes.{are_shapes};
 ghost use Rattle.sg_load.specs.sg_plain.Playing.Playable.{IsPlayable};
 ghost use Rattle.sg_verify.specs.sg_report.sg_hist.Clients.{MayBeMade};
 ghost use Rattle.sg_explore.specs.sg_shared.Runs.{IsRunInOrder, IsRunOf};
 ghost use Rattle.sg_top.specs.Answer.{services};
-ghost use Rattle.sg_top.specs.Headline.{answering};
-ghost use Rattle.sg_top.specs.Inside.Plays.{IsPlayOf, IsPlayed, IsVerdictBy};
+ghost use Rattle.sg_top.specs.Inside.Plays.{IsPlayOf, IsPlayed, IsVerdictBy, MayBeJudged, MayBePlayed};
 
+use crate::dispatch::{Job, at_service};
 use sg_cost::{Costs, costs_of};
 use sg_edge::Gate;
 use sg_explain::inputs::{History, Script};
 use sg_explore::{Explored, Played, Progress, explore, share, simulate};
 use sg_facts::{Interface, NoMemory, Service, Shape, Tables};
-use sg_load::kind::{
-    EventService, LockService, MmService, RamfsService, SchedService, TimerService,
-};
 use sg_load::{Accepted, ServiceKind};
 use sg_verify::{Ended, Verdict, verify};
 use std::alloc::Global;
@@ -38,14 +34,7 @@ pub fn shapes() -> [Shape; 6]
     ensures facts { map facts_of result ≡ services }
     ensures shapes { are_shapes (map facts_of result) ≡ true }
 {
-    [
-        LockService::shape(),
-        EventService::shape(),
-        MmService::shape(),
-        RamfsService::shape(),
-        SchedService::shape(),
-        TimerService::shape(),
-    ]
+    ServiceKind::shapes()
 }
 
 /// Which service an interface is of, by its name.
@@ -53,30 +42,34 @@ pub fn kind_of(iface: &Interface) -> ServiceKind
     requires { IsPlayed iface.now.facts }
     ensures { facts_by result ≡ iface.now.facts }
 {
-    match kind_named(iface.shape.name) {
+    match ServiceKind::named(iface.shape.name) {
         Some(kind) => kind,
         None => unreachable!(),
     }
 }
 
-/// The service of a name; None where none has it.
-pub fn kind_named(name: &[u8]) -> Option<ServiceKind>
-    ensures { MatchOption result ((kind : Kind) → name.now ≡ (facts_by kind).name → ⊥) (λ kind. name.now ≡ (facts_by kind).name) }
-{
-    if name == LockService::shape().name {
-        Some(ServiceKind::Locks)
-    } else if name == EventService::shape().name {
-        Some(ServiceKind::Events)
-    } else if name == MmService::shape().name {
-        Some(ServiceKind::Pages)
-    } else if name == RamfsService::shape().name {
-        Some(ServiceKind::Files)
-    } else if name == SchedService::shape().name {
-        Some(ServiceKind::Threads)
-    } else if name == TimerService::shape().name {
-        Some(ServiceKind::Timers)
-    } else {
-        None
+// ---- in one thread
+
+// A run of a script in one thread.
+#[derive(Drop)]
+struct Simulate<'a> {
+    alloc: Global,
+    accepted: &'a Accepted,
+    script: Script,
+}
+
+impl Job for Simulate<'_> {
+    type Output = Result<Played, NoMemory>;
+
+    ghost asks = { λ job service. MayBePlayed job.accepted.now service job.script };
+
+    ghost gives = { λ job service result. IfOk result (IsRunInOrder job.accepted.now service job.script) };
+
+    fn run<S: Service + Send>(self, image: S::Image) -> Result<Played, NoMemory>
+    where
+        S::Image: Send + Sync,
+    {
+        simulate::<S>(self.alloc, image, self.accepted, self.script)
     }
 }
 
@@ -92,13 +85,45 @@ pub fn simulate_kind(
     requires stops { AscendsAbove 0 script.stops }
     ensures { IfOk result (IsRunInOrder accepted.now (answering kind) script) }
 {
-    match kind {
-        ServiceKind::Locks => simulate::<LockService>(alloc, (), accepted, script),
-        ServiceKind::Events => simulate::<EventService>(alloc, (), accepted, script),
-        ServiceKind::Pages => simulate::<MmService>(alloc, (), accepted, script),
-        ServiceKind::Files => simulate::<RamfsService>(alloc, (), accepted, script),
-        ServiceKind::Threads => simulate::<SchedService>(alloc, (), accepted, script),
-        ServiceKind::Timers => simulate::<TimerService>(alloc, (), accepted, script),
+    let job = Simulate {
+        alloc,
+        accepted,
+        script,
+    };
+    at_service(kind, job)
+}
+
+// ---- in threads
+
+// A run of a script with a thread for each client.
+#[derive(Drop)]
+struct Share<'a, R, G> {
+    rt: &'a R,
+    alloc: Global,
+    accepted: &'a Accepted,
+    script: Script,
+    gate: &'a G,
+}
+
+impl<R: Threads + Wait + Sync, G: Gate> Job for Share<'_, R, G> {
+    type Output = Result<Played, NoMemory>;
+
+    ghost asks = { λ job service. MayBePlayed job.accepted.now service job.script };
+
+    ghost gives = { λ job service result. IfOk result (IsRunOf job.accepted.now service job.script) };
+
+    fn run<S: Service + Send>(self, image: S::Image) -> Result<Played, NoMemory>
+    where
+        S::Image: Send + Sync,
+    {
+        share::<R, S, G>(
+            self.rt,
+            self.alloc,
+            image,
+            self.accepted,
+            self.script,
+            self.gate,
+        )
     }
 }
 
@@ -117,13 +142,49 @@ pub fn share_kind<R: Threads + Wait + Sync, G: Gate>(
     requires stops { AscendsAbove 0 script.stops }
     ensures { IfOk result (IsRunOf accepted.now (answering kind) script) }
 {
-    match kind {
-        ServiceKind::Locks => share::<R, LockService, G>(rt, alloc, (), accepted, script, gate),
-        ServiceKind::Events => share::<R, EventService, G>(rt, alloc, (), accepted, script, gate),
-        ServiceKind::Pages => share::<R, MmService, G>(rt, alloc, (), accepted, script, gate),
-        ServiceKind::Files => share::<R, RamfsService, G>(rt, alloc, (), accepted, script, gate),
-        ServiceKind::Threads => share::<R, SchedService, G>(rt, alloc, (), accepted, script, gate),
-        ServiceKind::Timers => share::<R, TimerService, G>(rt, alloc, (), accepted, script, gate),
+    let job = Share {
+        rt,
+        alloc,
+        accepted,
+        script,
+        gate,
+    };
+    at_service(kind, job)
+}
+
+// ---- with other stops
+
+// Runs of a script with other stops.
+#[derive(Drop)]
+struct Explore<'a, R, P> {
+    rt: &'a R,
+    alloc: Global,
+    accepted: &'a Accepted,
+    script: &'a Script,
+    most: u64,
+    progress: &'a P,
+}
+
+impl<R: Threads + Sync, P: Progress> Job for Explore<'_, R, P> {
+    type Output = Result<Explored, NoMemory>;
+
+    ghost asks = { λ job service. (job.accepted.now.facts ≡ service.facts) × IsPlayable job.accepted.now job.script.now × (job.most ≤ most_paired) };
+
+    ghost gives = { λ job service result. IfOk result (IsExplored job.accepted.now service job.script.now job.most) };
+
+    fn run<S: Service + Send>(self, image: S::Image) -> Result<Explored, NoMemory>
+    where
+        S::Image: Send + Sync,
+    {
+        explore::<R, S, P>(
+            self.rt,
+            self.alloc,
+            image,
+            self.accepted,
+            self.script,
+            self.most,
+            self.progress,
+        )
     }
 }
 
@@ -143,25 +204,39 @@ pub fn explore_kind<R: Threads + Sync, P: Progress>(
     requires most { most ≤ most_paired }
     ensures { IfOk result (IsExplored accepted.now (answering kind) script.now most) }
 {
-    match kind {
-        ServiceKind::Locks => {
-            explore::<R, LockService, P>(rt, alloc, (), accepted, script, most, progress)
-        }
-        ServiceKind::Events => {
-            explore::<R, EventService, P>(rt, alloc, (), accepted, script, most, progress)
-        }
-        ServiceKind::Pages => {
-            explore::<R, MmService, P>(rt, alloc, (), accepted, script, most, progress)
-        }
-        ServiceKind::Files => {
-            explore::<R, RamfsService, P>(rt, alloc, (), accepted, script, most, progress)
-        }
-        ServiceKind::Threads => {
-            explore::<R, SchedService, P>(rt, alloc, (), accepted, script, most, progress)
-        }
-        ServiceKind::Timers => {
-            explore::<R, TimerService, P>(rt, alloc, (), accepted, script, most, progress)
-        }
+    let job = Explore {
+        rt,
+        alloc,
+        accepted,
+        script,
+        most,
+        progress,
+    };
+    at_service(kind, job)
+}
+
+// ---- a history
+
+// What is said of a history.
+#[derive(Drop)]
+struct Verify<'a> {
+    alloc: Global,
+    tables: &'a Tables,
+    history: &'a History,
+}
+
+impl Job for Verify<'_> {
+    type Output = Result<Verdict, NoMemory>;
+
+    ghost asks = { λ job service. MayBeJudged job.tables.now.iface service job.history.now.items };
+
+    ghost gives = { λ job service result. IfOk result (IsVerdictBy job.tables.now.iface service job.history.now.items) };
+
+    fn run<S: Service + Send>(self, image: S::Image) -> Result<Verdict, NoMemory>
+    where
+        S::Image: Send + Sync,
+    {
+        verify_run::<S>(self.alloc, image, self.tables, self.history)
     }
 }
 
@@ -178,14 +253,12 @@ pub fn verify_kind(
     requires few { length history.now.items ≤ most_script_calls }
     ensures { IfOk result (IsVerdictBy tables.now.iface (answering kind) history.now.items) }
 {
-    match kind {
-        ServiceKind::Locks => verify_run::<LockService>(alloc, (), tables, history),
-        ServiceKind::Events => verify_run::<EventService>(alloc, (), tables, history),
-        ServiceKind::Pages => verify_run::<MmService>(alloc, (), tables, history),
-        ServiceKind::Files => verify_run::<RamfsService>(alloc, (), tables, history),
-        ServiceKind::Threads => verify_run::<SchedService>(alloc, (), tables, history),
-        ServiceKind::Timers => verify_run::<TimerService>(alloc, (), tables, history),
-    }
+    let job = Verify {
+        alloc,
+        tables,
+        history,
+    };
+    at_service(kind, job)
 }
 
 // What is said of a history of one service's interface.
@@ -203,6 +276,32 @@ fn verify_run<S: Service>(
     verify::<S>(alloc, image, tables, history)
 }
 
+// ---- costs
+
+// What the calls of a run could cost.
+#[derive(Drop)]
+struct Cost<'a> {
+    alloc: Global,
+    tables: &'a Tables,
+    ended: &'a Ended,
+}
+
+impl Job for Cost<'_> {
+    type Output = Result<Costs, NoMemory>;
+
+    ghost asks = { λ job service. (job.tables.now.iface.facts ≡ service.facts) × IsPlayOf job.tables.now.iface service job.ended.now };
+
+    ghost gives = { λ job service result.
+        IfOk result (λ costs. costs ≡ costs_at job.tables.now.iface job.tables.now.walks job.ended.now.history.items (run_of job.ended.now.trace)) };
+
+    fn run<S: Service + Send>(self, _image: S::Image) -> Result<Costs, NoMemory>
+    where
+        S::Image: Send + Sync,
+    {
+        cost_run::<S>(self.alloc, self.tables, self.ended)
+    }
+}
+
 /// What the calls of a run of a service could cost after one more stop.
 pub fn cost_kind(
     alloc: Global,
@@ -214,14 +313,12 @@ pub fn cost_kind(
     requires run { IsPlayOf tables.now.iface (answering kind) ended.now }
     ensures { IfOk result (λ costs. costs ≡ costs_at tables.now.iface tables.now.walks ended.now.history.items (run_of ended.now.trace)) }
 {
-    match kind {
-        ServiceKind::Locks => cost_run::<LockService>(alloc, tables, ended),
-        ServiceKind::Events => cost_run::<EventService>(alloc, tables, ended),
-        ServiceKind::Pages => cost_run::<MmService>(alloc, tables, ended),
-        ServiceKind::Files => cost_run::<RamfsService>(alloc, tables, ended),
-        ServiceKind::Threads => cost_run::<SchedService>(alloc, tables, ended),
-        ServiceKind::Timers => cost_run::<TimerService>(alloc, tables, ended),
-    }
+    let job = Cost {
+        alloc,
+        tables,
+        ended,
+    };
+    at_service(kind, job)
 }
 
 // What the calls of a run of one service could cost.

@@ -2,7 +2,8 @@
 use Rattle.std.specs.Prelude.{ℕ, ◌≡◌, true, List, [], length, map}
 use Rattle.sg_multi.specs.sg_sim.sg_plain.Calls.{ascending_from}
 use Rattle.sg_multi.specs.sg_sim.sg_plain.Playing.Plays.{IsPlaying}
-use Rattle.sg_multi.specs.sg_sim.sg_play.Waking.Waking.{IsWaking, no_query_waits}
+use Rattle.sg_multi.specs.sg_sim.sg_plain.Answering.{no_query_waits}
+use Rattle.sg_multi.specs.sg_sim.sg_play.Waking.Waking.{IsWaking}
 use Rattle.sg_multi.specs.sg_sim.sg_play.sg_hist.Clients.{AreNumbered}
 use Rattle.sg_multi.specs.sg_sim.sg_script.declared.script.Script.{Script}
 use Rattle.sg_multi.specs.sg_sim.sg_clients.WorldView.{WorldView}

@@ -24,7 +24,7 @@ use Rattle.sg_world.proofs.sg_recovery_laws.Objects.Guarded.{ActsOnOne, acts, ea
 use Rattle.sg_world.proofs.sg_recovery_laws.Objects.Left.{stays}
 use Rattle.sg_world.specs.sg_recovery_laws.Objects.Serving.{IsService}
 use Rattle.sg_plain.specs.sg_clients.WorldView.{wakes_seat}
-use Rattle.sg_play.specs.Waking.Waking.{no_query_waits}
+use Rattle.sg_plain.specs.Answering.{no_query_waits}
 use Rattle.sg_facts.proofs.Replaying.Found.{from_left, from_map, from_more, other_test}
 use Rattle.sg_world.proofs.sg_world_laws.Waits.{block_keeps, waits_both}
 

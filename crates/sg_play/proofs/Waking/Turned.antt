@@ -22,7 +22,8 @@ use Rattle.sg_play.proofs.Waking.Shapes.{call_is_own}
 use Rattle.sg_world.proofs.sg_world_laws.Ending.Shapes.{answered_seats, entry_with, given_seats, seat_behind, woken}
 use Rattle.sg_play.proofs.Waking.Waiting.{legal_last, line_committed, line_noted, line_refused, line_returned, line_stopped, line_stub, woken_booted, woken_set, woken_struck}
 use Rattle.sg_play.proofs.Waking.Woken.{moves_free, moves_to, replied_goes, stopped_goes}
-use Rattle.sg_play.specs.Waking.Waking.{AreWokenSoFar, IsWaking, is_asking, no_query_waits}
+use Rattle.sg_plain.specs.Answering.{no_query_waits}
+use Rattle.sg_play.specs.Waking.Waking.{AreWokenSoFar, IsWaking, is_asking}
 use Rattle.sg_world.specs.declared.did.Did.{Did}
 use Rattle.sg_world.specs.declared.did.Did.TheVariants.{Answered, Blocked as Waits, Booted, Loaded, Lost, Replayed, Served, Skipped, Struck}
 use Rattle.sg_world.specs.Steps.{Commits, Steps}

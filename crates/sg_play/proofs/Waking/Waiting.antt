@@ -42,7 +42,8 @@ use Rattle.sg_play.proofs.Waking.Shapes.{call_is_next, call_is_own}
 use Rattle.sg_world.proofs.sg_world_laws.Ending.Shapes.{entry_with, seat_behind, woken}
 use Rattle.sg_world.proofs.sg_world_laws.Ending.Wakers.{wakes_entered, wakes_last, wakes_noted, wakes_refused}
 use Rattle.sg_play.proofs.Waking.Woken.{Moves, all_noted, goes_on_waits, moves_free, moves_same, other_made, other_waits, seat_booted, seat_moved, seat_noted, seat_struck, seat_woken_by, stub_made, stub_waits}
-use Rattle.sg_play.specs.Waking.Waking.{AreWokenSoFar, IsMadeSoFar, IsWokenSeat, IsWokenSince, is_asking, no_query_waits}
+use Rattle.sg_plain.specs.Answering.{no_query_waits}
+use Rattle.sg_play.specs.Waking.Waking.{AreWokenSoFar, IsMadeSoFar, IsWokenSeat, IsWokenSince, is_asking}
 use Rattle.sg_world.specs.sg_world_laws.Ending.{EachSeat}
 use Rattle.sg_plain.specs.sg_hist.Inside.Parts.{waking_entries}
 use Rattle.sg_world.proofs.sg_world_laws.Refusing.{by_the_guard}

@@ -27,7 +27,8 @@ use Rattle.sg_plain.specs.sg_clients.declared.phase.Phase.TheVariants.{Idle, Ask
 use Rattle.sg_play.proofs.Waking.Between.{between_none}
 use Rattle.sg_world.proofs.sg_world_laws.Ending.Seats.{each_set}
 use Rattle.sg_play.proofs.Waking.Woken.{seat_offered}
-use Rattle.sg_play.specs.Waking.Waking.{IsWaking, IsWokenSeat, no_query_waits}
+use Rattle.sg_plain.specs.Answering.{no_query_waits}
+use Rattle.sg_play.specs.Waking.Waking.{IsWaking, IsWokenSeat}
 use Rattle.sg_world.specs.declared.did.Did.{Did}
 use Rattle.sg_world.specs.declared.did.Did.TheVariants.{Answered, Blocked as Waits, Booted, Loaded, Lost, Replayed, Served, Skipped, Struck}
 use Rattle.sg_world.specs.Steps.{Steps, WantsMemory}

@@ -1,6 +1,6 @@
 -- What a play keeps of its waits: who waits is woken before it waits again.
-use Rattle.std.specs.Prelude.{ℕ, ◌≡◌, ◌⊎◌, ◌≤◌, Bool, true, false, ◌&&◌, ◌||◌, not, List, [], ◌∷◌, ◌++◌}
-use Rattle.std.specs.List.{list_all, list_any}
+use Rattle.std.specs.Prelude.{ℕ, ◌≡◌, ◌⊎◌, ◌≤◌, Bool, true, false, ◌&&◌, List, [], ◌∷◌, ◌++◌}
+use Rattle.std.specs.List.{list_any}
 use Rattle.sg_facts.specs.sg_base.Lists.{Each}
 use Rattle.sg_facts.specs.sg_base.declared.call.Call.{Call}
 use Rattle.sg_facts.specs.declared.entry.Entry.{Entry}
@@ -17,11 +17,6 @@ use Rattle.sg_plain.specs.sg_clients.declared.phase.Phase.{Phase}
 use Rattle.sg_plain.specs.sg_clients.declared.phase.Phase.TheVariants.{Idle, Asked, Held, Receipted, Blocked, Left}
 use Rattle.sg_world.specs.sg_world_laws.Ending.{EachSeat}
 use Rattle.sg_world.specs.sg_world_laws.Setting.{Setting}
-
--- in a private service no query waits. It is on no descriptor, so that a reply of another client that is on none would wake it, also
--- one that was held and whose item stands before the wait
-abbrev pub no_query_waits : Facts → Bool
-no_query_waits facts = facts.global || list_all (λ f. not (f.query && f.block)) facts.funs
 
 -- whether the call of a number of a client had to wait at a place
 abbrev pub waits_at : ℕ → ℕ → Position → Bool

@@ -3,7 +3,7 @@ use Rattle.std.specs.Prelude.{◌≡◌, [], true}
 use Rattle.sg_shared.specs.Reached.{ComesByEvents}
 use Rattle.sg_sim.specs.Playing.{new_of}
 use Rattle.sg_sim.specs.sg_play.GoingOn.{MayGoOn}
-use Rattle.sg_sim.specs.sg_play.Waking.Waking.{no_query_waits}
+use Rattle.sg_sim.specs.sg_plain.Answering.{no_query_waits}
 use Rattle.sg_sim.specs.sg_plain.sg_script.declared.script.Script.{Script}
 use Rattle.sg_sim.specs.sg_clients.WorldView.{WorldView}
 use Rattle.sg_sim.specs.sg_world_laws.Setting.{Setting}

@@ -6,7 +6,7 @@ use Rattle.sg_facts.specs.Tables.{AreTables}
 use Rattle.sg_facts.specs.declared.tables.WalkLine.{WalkLine}
 use Rattle.sg_sim.specs.sg_plain.sg_hist.declared.ended.Ended.{Ended}
 use Rattle.sg_sim.specs.sg_plain.sg_script.declared.script.Script.{Script}
-use Rattle.sg_shared.specs.Runs.{Answering}
+use Rattle.sg_sim.specs.sg_plain.Answering.{Answering}
 use Rattle.sg_sim.specs.Played.{IsPlayed}
 
 -- the play of a script on a service, by the tables of an interface and with the script's stops, came to this end

@@ -5,7 +5,8 @@ use Rattle.sg_play.specs.SettingUp.{IsSettingUpFirst}
 use Rattle.sg_play.specs.sg_plain.Playing.Plays.{IsPlaying}
 use Rattle.sg_play.specs.sg_script.declared.script.Script.{Script}
 use Rattle.sg_play.specs.sg_clients.WorldView.{WorldView}
-use Rattle.sg_play.specs.Waking.Waking.{IsWaking, no_query_waits}
+use Rattle.sg_play.specs.sg_plain.Answering.{no_query_waits}
+use Rattle.sg_play.specs.Waking.Waking.{IsWaking}
 use Rattle.sg_play.specs.sg_world_laws.Setting.{Setting}
 
 -- the clients make the script's calls, none is withdrawn, the client of the last turn is one of the world, the play without

@@ -1,13 +1,18 @@
 -- Services that are played, runs of scripts that may be played, and what is said of a history.
-use Rattle.std.specs.Prelude.{List}
+use Rattle.std.specs.Prelude.{◌≡◌, ◌≤◌, List, length}
 use Rattle.std.specs.List.{Contains}
 use Rattle.sg_facts.specs.Facts.{Facts}
+use Rattle.sg_edge.specs.Stops.{AscendsAbove}
 use Rattle.sg_facts.specs.Interface.{Declared}
+use Rattle.sg_facts.specs.Limits.{most_script_calls}
+use Rattle.sg_facts.specs.sg_base.Lists.{Each}
 use Rattle.sg_facts.specs.declared.entry.Entry.{Entry}
 use Rattle.sg_explain.specs.sg_input.sg_script.declared.script.Script.{Script}
 use Rattle.sg_load.specs.sg_plain.Playing.Playable.{IsPlayable}
+use Rattle.sg_verify.specs.sg_report.sg_hist.Clients.{MayBeMade}
 use Rattle.sg_verify.specs.sg_report.sg_hist.declared.ended.Ended.{Ended}
-use Rattle.sg_explore.specs.sg_shared.Runs.{Answering, IsRunOf}
+use Rattle.sg_explore.specs.sg_shared.Runs.{IsRunOf}
+use Rattle.sg_load.specs.sg_plain.Answering.{Answering}
 use Rattle.sg_top.specs.Answer.{services}
 use Rattle.sg_verify.specs.Verdicts.{IsVerdictOf}
 use Rattle.sg_verify.specs.declared.verdict.Verdict.{Verdict}
@@ -23,3 +28,11 @@ IsPlayOf i service ended = (script : Script) × IsPlayable i script × IsRunOf i
 -- this is said of a history, by what a service answers
 pub record IsVerdictBy (i : Declared) (service : Answering) (history : List Entry) (said : Verdict) : Type 0 where
   pub is : IsVerdictOf i service.ask history said
+
+-- a script may be played under an interface, on this service
+abbrev pub MayBePlayed : Declared → Answering → Script → Type 0
+MayBePlayed i service script = (i.facts ≡ service.facts) × IsPlayable i script × AscendsAbove 0 script.stops
+
+-- a history may be judged under an interface, by this service
+abbrev pub MayBeJudged : Declared → Answering → List Entry → Type 0
+MayBeJudged i service history = (i.facts ≡ service.facts) × Each (λ e. MayBeMade i e.call) history × (length history ≤ most_script_calls)

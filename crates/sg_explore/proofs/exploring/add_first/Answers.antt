@@ -1,5 +1,5 @@
 -- The play is counted, with all of it.
-use Rattle.sg_shared.specs.Runs.{Answering}
+use Rattle.sg_shared.specs.sg_sim.sg_plain.Answering.{Answering}
 use Rattle.sg_explore.proofs.Trying.{adds_first}
 use Rattle.sg_explore.specs.Inside.Stopping.{points_of}
 use Rattle.sg_explore.specs.Inside.Sums.{sums_of}

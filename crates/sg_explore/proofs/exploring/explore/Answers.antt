@@ -2,7 +2,8 @@
 use Rattle.std.proofs.Common.{[], ap, nat_lt, refl, subst, sym, ◌∙◌}
 use Rattle.sg_facts.specs.Interface.{Declared}
 use Rattle.sg_report.specs.sg_hist.declared.ended.Ended.{Ended}
-use Rattle.sg_shared.specs.Runs.{Answering, IsRunInOrder}
+use Rattle.sg_shared.specs.Runs.{IsRunInOrder}
+use Rattle.sg_shared.specs.sg_sim.sg_plain.Answering.{Answering}
 use Rattle.sg_explore.proofs.Trying.{explored_so}
 use Rattle.sg_explore.specs.Inside.Sums.{sums_of, sums_text}
 use Rattle.sg_explore.proofs.exploring.explore.Goals as goal

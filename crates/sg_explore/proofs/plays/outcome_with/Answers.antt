@@ -1,5 +1,5 @@
 -- What is kept is kept of the run that was made.
-use Rattle.sg_shared.specs.Runs.{Answering}
+use Rattle.sg_shared.specs.sg_sim.sg_plain.Answering.{Answering}
 use Rattle.sg_explore.specs.Inside.Stopping.{points_of}
 use Rattle.sg_explore.proofs.Trying.{kept_of}
 use Rattle.sg_explore.proofs.plays.outcome_with.Goals as goal

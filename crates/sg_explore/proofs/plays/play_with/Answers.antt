@@ -1,7 +1,8 @@
 -- The script with other stops is played.
 use Rattle.std.proofs.Common.{subst, sym}
 use Rattle.std.specs.Result.{IfOk}
-use Rattle.sg_shared.specs.Runs.{Answering, IsRunInOrder}
+use Rattle.sg_shared.specs.Runs.{IsRunInOrder}
+use Rattle.sg_shared.specs.sg_sim.sg_plain.Answering.{Answering}
 use Rattle.sg_shared.specs.sg_sim.sg_plain.Playing.Playable.{IsPlayable}
 use Rattle.sg_shared.specs.sg_sim.sg_plain.sg_edge.Stops.{AscendsAbove}
 use Rattle.sg_shared.specs.sg_sim.sg_script.declared.script.Script.{Script}

@@ -1,6 +1,6 @@
 -- What was played with a thread for each client keeps all that a run promises.
 use Rattle.sg_shared.proofs.Running.{by_tables, is_run}
-use Rattle.sg_shared.specs.Runs.{Answering}
+use Rattle.sg_sim.specs.sg_plain.Answering.{Answering}
 use Rattle.sg_shared.proofs.plays.share.Goals as goal
 
 pub returns : goal.returns

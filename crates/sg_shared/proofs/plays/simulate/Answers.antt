@@ -5,7 +5,7 @@ use Rattle.sg_edge.specs.Stops.{up_to}
 use Rattle.sg_facts.specs.Interface.{Declared}
 use Rattle.sg_facts.specs.Trace.{run_of}
 use Rattle.sg_shared.proofs.Running.{by_tables, in_order}
-use Rattle.sg_shared.specs.Runs.{Answering}
+use Rattle.sg_sim.specs.sg_plain.Answering.{Answering}
 use Rattle.sg_sim.specs.Played.{FollowsSchedule, IsPlayed}
 use Rattle.sg_shared.proofs.plays.simulate.Goals as goal
 

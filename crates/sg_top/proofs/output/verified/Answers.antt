@@ -8,7 +8,7 @@ use Rattle.sg_verify.specs.Lines.{verdict_line_of}
 use Rattle.sg_verify.specs.Verdicts.{IsVerdictOf}
 use Rattle.sg_verify.specs.sg_report.sg_hist.Clients.{MayBeMade}
 use Rattle.sg_top.specs.Answer.{services}
-use Rattle.sg_top.specs.Headline.{answering}
+use Rattle.sg_load.specs.Services.{answering}
 use Rattle.sg_top.specs.Inside.Plays.{IsPlayed}
 use Rattle.sg_top.proofs.Judging.{judged_output, may_be, printed_for, printed_service, refused_for}
 use Rattle.sg_top.proofs.Running.{of_three}
