@@ -18,7 +18,6 @@ use Rattle.sg_multi.proofs.sg_sim.sg_play.Ends.{IsOver, over_by}
 use Rattle.sg_multi.proofs.sg_sim.sg_play.Waking.Waking.{waking_woken}
 use Rattle.sg_multi.proofs.sg_sim.sg_play.sg_world.sg_world_laws.sg_recovery_laws.Lists.{each_append}
 use Rattle.sg_multi.specs.Members.{kind_in, setting_by, setting_in, view_in, world_in}
-use Rattle.sg_multi.specs.sg_load.declared.kind.ServiceKind.{ServiceKind}
 use Rattle.sg_multi.specs.declared.member.Member.{Member}
 use Rattle.sg_multi.specs.sg_sim.Played.{IsOfWorld}
 use Rattle.sg_multi.specs.sg_sim.sg_plain.Calls.{ascending_from, most_client}
