@@ -7,7 +7,7 @@
 //!   service is asked); `waking`: who is asked again
 //! - `world`: these as one (`World`)
 //!
-//! `sg_clients` has the clients, `sg_seat` the world as plain data and its small changes; `sg_world_laws` what a world keeps after
+//! `sg_clients` has the clients, and the world as plain data with its small changes; `sg_world_laws` what a world keeps after
 //! every event.
 #![tactic(auto)]
 
