@@ -3,8 +3,8 @@ ghost use Rattle.std.specs.Prelude.{◌≡◌, None};
 ghost use Rattle.sg_facts.specs.Laws.{whole};
 ghost use Rattle.sg_facts.specs.Legal.{answer, IsLegal};
 ghost use Rattle.sg_facts.specs.Object.{object_of};
-ghost use Rattle.sg_event.specs.EventFacts.{event_facts};
-ghost use Rattle.sg_event.specs.EventTable.{event_table};
+ghost use Rattle.sg_load.specs.Services.sg_event.EventFacts.{event_facts};
+ghost use Rattle.sg_load.specs.Services.sg_event.EventTable.{event_table};
 ghost use Rattle.test_histories.specs.Written.{ok, with_reply};
 ghost use Rattle.test_histories.specs.EventRows.{overflow, one_waits, waits_again, both_waits};
 

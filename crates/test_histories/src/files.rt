@@ -2,8 +2,8 @@
 ghost use Rattle.std.specs.Prelude.{[]};
 ghost use Rattle.sg_facts.specs.Laws.{whole};
 ghost use Rattle.sg_facts.specs.Legal.{IsLegal};
-ghost use Rattle.sg_ramfs.specs.RamfsFacts.{ramfs_facts};
-ghost use Rattle.sg_ramfs.specs.RamfsTable.{ramfs_table};
+ghost use Rattle.sg_load.specs.Services.sg_ramfs.RamfsFacts.{ramfs_facts};
+ghost use Rattle.sg_load.specs.Services.sg_ramfs.RamfsTable.{ramfs_table};
 ghost use Rattle.test_histories.specs.Written.{ok_with, ok_bytes, with_reply};
 ghost use Rattle.test_histories.specs.RamfsRows.{file_refusals, one_file, own_alone};
 

@@ -3,8 +3,8 @@ ghost use Rattle.std.specs.Prelude.{◌≡◌, None};
 ghost use Rattle.sg_facts.specs.Laws.{whole};
 ghost use Rattle.sg_facts.specs.Legal.{answer, IsLegal};
 ghost use Rattle.sg_facts.specs.Object.{object_of};
-ghost use Rattle.sg_lock.specs.LockFacts.{lock_facts};
-ghost use Rattle.sg_lock.specs.LockTable.{lock_table};
+ghost use Rattle.sg_load.specs.Services.sg_lock.LockFacts.{lock_facts};
+ghost use Rattle.sg_load.specs.Services.sg_lock.LockTable.{lock_table};
 ghost use Rattle.test_histories.specs.Written.{ok, ok_at, with_reply};
 ghost use Rattle.test_histories.specs.LockRows.{four_calls, one_takes, other_takes, release_wakes, both_own, lock_refusals, owner_alone};
 

@@ -2,8 +2,8 @@
 ghost use Rattle.sg_facts.specs.sg_base.declared.reply.Code.TheVariants.{NoParent};
 ghost use Rattle.sg_facts.specs.Laws.{whole};
 ghost use Rattle.sg_facts.specs.Legal.{IsLegal};
-ghost use Rattle.sg_mm.specs.MmFacts.{mm_facts};
-ghost use Rattle.sg_mm.specs.MmTable.{mm_table};
+ghost use Rattle.sg_load.specs.Services.sg_mm.MmFacts.{mm_facts};
+ghost use Rattle.sg_load.specs.Services.sg_mm.MmTable.{mm_table};
 ghost use Rattle.test_histories.specs.Written.{ok, ok_at, refused, with_reply};
 ghost use Rattle.test_histories.specs.MmRows.{occupied, subtree_goes, page_refusals, alias_released};
 

@@ -3,8 +3,8 @@ ghost use Rattle.std.specs.Prelude.{◌≡◌, None};
 ghost use Rattle.sg_facts.specs.Laws.{whole};
 ghost use Rattle.sg_facts.specs.Legal.{answer, IsLegal};
 ghost use Rattle.sg_facts.specs.Object.{object_of};
-ghost use Rattle.sg_sched.specs.SchedFacts.{sched_facts};
-ghost use Rattle.sg_sched.specs.SchedTable.{sched_table};
+ghost use Rattle.sg_load.specs.Services.sg_sched.SchedFacts.{sched_facts};
+ghost use Rattle.sg_load.specs.Services.sg_sched.SchedTable.{sched_table};
 ghost use Rattle.test_histories.specs.Written.{ok, ok_at, with_reply};
 ghost use Rattle.test_histories.specs.SchedRows.{thread_refusals, queue, one_sleeps, waits_for_it, woken, not_woken};
 

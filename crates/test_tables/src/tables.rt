@@ -2,22 +2,21 @@
 ghost use Rattle.std.specs.Prelude.{◌≡◌, true, IfOk};
 ghost use Rattle.sg_facts.specs.Facts.{facts_of};
 ghost use Rattle.sg_stub.specs.sg_check.Shapes.{is_shape};
-ghost use Rattle.sg_lock.specs.LockFacts.{lock_facts};
-ghost use Rattle.sg_event.specs.EventFacts.{event_facts};
-ghost use Rattle.sg_mm.specs.MmFacts.{mm_facts};
-ghost use Rattle.sg_ramfs.specs.RamfsFacts.{ramfs_facts};
-ghost use Rattle.sg_sched.specs.SchedFacts.{sched_facts};
+ghost use Rattle.sg_load.specs.Services.sg_lock.LockFacts.{lock_facts};
+ghost use Rattle.sg_load.specs.Services.sg_event.EventFacts.{event_facts};
+ghost use Rattle.sg_load.specs.Services.sg_mm.MmFacts.{mm_facts};
+ghost use Rattle.sg_load.specs.Services.sg_ramfs.RamfsFacts.{ramfs_facts};
+ghost use Rattle.sg_load.specs.Services.sg_sched.SchedFacts.{sched_facts};
+ghost use Rattle.sg_load.specs.Services.sg_timer.TimerFacts.{timer_facts};
 
-use sg_event::event_shape;
 use sg_facts::{Shape, Tables};
-use sg_lock::LockService;
-use sg_mm::mm_shape;
-use sg_ramfs::ramfs_shape;
-use sg_sched::sched_shape;
+use sg_load::kind::{
+    EventService, LockService, MmService, RamfsService, SchedService, TimerService,
+};
 use sg_stub::{check, compile, parse};
 use std::alloc::Global;
 use std::test::Fail;
-use test_interfaces::{EVENT, LOCK, MM, RAMFS, SCHED};
+use test_interfaces::{EVENT, LOCK, MM, RAMFS, SCHED, TIMER};
 
 /// The tables of locks.
 pub fn lock_tables(alloc: Global) -> Result<Tables, Fail>
@@ -30,28 +29,35 @@ pub fn lock_tables(alloc: Global) -> Result<Tables, Fail>
 pub fn event_tables(alloc: Global) -> Result<Tables, Fail>
     ensures { IfOk result (λ tables. tables.iface.facts ≡ event_facts) }
 {
-    tables_of(alloc, EVENT, event_shape())
+    tables_of(alloc, EVENT, EventService::shape())
 }
 
 /// The tables of mappings.
 pub fn mm_tables(alloc: Global) -> Result<Tables, Fail>
     ensures { IfOk result (λ tables. tables.iface.facts ≡ mm_facts) }
 {
-    tables_of(alloc, MM, mm_shape())
+    tables_of(alloc, MM, MmService::shape())
 }
 
 /// The tables of files.
 pub fn ramfs_tables(alloc: Global) -> Result<Tables, Fail>
     ensures { IfOk result (λ tables. tables.iface.facts ≡ ramfs_facts) }
 {
-    tables_of(alloc, RAMFS, ramfs_shape())
+    tables_of(alloc, RAMFS, RamfsService::shape())
 }
 
 /// The tables of threads.
 pub fn sched_tables(alloc: Global) -> Result<Tables, Fail>
     ensures { IfOk result (λ tables. tables.iface.facts ≡ sched_facts) }
 {
-    tables_of(alloc, SCHED, sched_shape())
+    tables_of(alloc, SCHED, SchedService::shape())
+}
+
+/// The tables of timers.
+pub fn timer_tables(alloc: Global) -> Result<Tables, Fail>
+    ensures { IfOk result (λ tables. tables.iface.facts ≡ timer_facts) }
+{
+    tables_of(alloc, TIMER, TimerService::shape())
 }
 
 // The tables of an interface text for a shape. A text that is refused fails, as want of memory does.

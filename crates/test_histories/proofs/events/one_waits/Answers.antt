@@ -1,8 +1,8 @@
 -- The replies compute, and the other one doesn't.
 use Rattle.std.proofs.Common.{refl}
 use Rattle.sg_facts.specs.Laws.{whole}
-use Rattle.sg_event.specs.EventFacts.{event_facts}
-use Rattle.sg_event.specs.EventTable.{event_table}
+use Rattle.sg_load.specs.Services.sg_event.EventFacts.{event_facts}
+use Rattle.sg_load.specs.Services.sg_event.EventTable.{event_table}
 use Rattle.test_histories.specs.EventRows.{one_waits, both_waits}
 use Rattle.sg_facts.proofs.Legality.{IsLegal-from, LegalFrom-is}
 use Rattle.test_histories.proofs.events.one_waits.Goals as goal

@@ -1,8 +1,8 @@
 -- The replies compute, and the other one doesn't.
 use Rattle.std.proofs.Common.{refl}
 use Rattle.sg_facts.specs.Laws.{whole}
-use Rattle.sg_ramfs.specs.RamfsFacts.{ramfs_facts}
-use Rattle.sg_ramfs.specs.RamfsTable.{ramfs_table}
+use Rattle.sg_load.specs.Services.sg_ramfs.RamfsFacts.{ramfs_facts}
+use Rattle.sg_load.specs.Services.sg_ramfs.RamfsTable.{ramfs_table}
 use Rattle.test_histories.specs.Written.{ok_with, with_reply}
 use Rattle.test_histories.specs.RamfsRows.{file_refusals}
 use Rattle.sg_facts.proofs.Legality.{IsLegal-from, LegalFrom-is}

@@ -2,8 +2,8 @@
 use Rattle.std.proofs.Common.{◌≡◌, Some, refl, ap}
 use Rattle.std.specs.Prelude.{[], codes}
 use Rattle.sg_facts.specs.Laws.{whole}
-use Rattle.sg_ramfs.specs.RamfsFacts.{ramfs_facts}
-use Rattle.sg_ramfs.specs.RamfsTable.{ramfs_table}
+use Rattle.sg_load.specs.Services.sg_ramfs.RamfsFacts.{ramfs_facts}
+use Rattle.sg_load.specs.Services.sg_ramfs.RamfsTable.{ramfs_table}
 use Rattle.test_histories.specs.Written.{ok_bytes, ok_with, with_reply}
 use Rattle.test_histories.specs.RamfsRows.{one_file}
 use Rattle.sg_facts.proofs.Legality.{IsLegal-from, LegalFrom-is}

@@ -1,8 +1,8 @@
 -- The replies compute, and the other one doesn't.
 use Rattle.std.proofs.Common.{◌≡◌, Some, refl, ap}
 use Rattle.sg_facts.specs.Laws.{whole}
-use Rattle.sg_lock.specs.LockFacts.{lock_facts}
-use Rattle.sg_lock.specs.LockTable.{lock_table}
+use Rattle.sg_load.specs.Services.sg_lock.LockFacts.{lock_facts}
+use Rattle.sg_load.specs.Services.sg_lock.LockTable.{lock_table}
 use Rattle.test_histories.specs.Written.{ok_at, with_reply}
 use Rattle.test_histories.specs.LockRows.{four_calls}
 use Rattle.sg_facts.proofs.Legality.{IsLegal-from, LegalFrom-is}

@@ -1,8 +1,8 @@
 -- The replies compute, and the other one doesn't.
 use Rattle.std.proofs.Common.{refl}
 use Rattle.sg_facts.specs.Laws.{whole}
-use Rattle.sg_lock.specs.LockFacts.{lock_facts}
-use Rattle.sg_lock.specs.LockTable.{lock_table}
+use Rattle.sg_load.specs.Services.sg_lock.LockFacts.{lock_facts}
+use Rattle.sg_load.specs.Services.sg_lock.LockTable.{lock_table}
 use Rattle.test_histories.specs.LockRows.{release_wakes, both_own}
 use Rattle.sg_facts.proofs.Legality.{IsLegal-from, LegalFrom-is}
 use Rattle.test_histories.proofs.locks.release_wakes.Goals as goal

@@ -2,8 +2,8 @@
 use Rattle.std.proofs.Common.{refl}
 use Rattle.sg_facts.specs.sg_base.declared.reply.Code.TheVariants.{NoParent}
 use Rattle.sg_facts.specs.Laws.{whole}
-use Rattle.sg_mm.specs.MmFacts.{mm_facts}
-use Rattle.sg_mm.specs.MmTable.{mm_table}
+use Rattle.sg_load.specs.Services.sg_mm.MmFacts.{mm_facts}
+use Rattle.sg_load.specs.Services.sg_mm.MmTable.{mm_table}
 use Rattle.test_histories.specs.Written.{refused, with_reply}
 use Rattle.test_histories.specs.MmRows.{alias_released}
 use Rattle.sg_facts.proofs.Legality.{IsLegal-from, LegalFrom-is}

@@ -1,8 +1,8 @@
 -- The replies compute, and the other one doesn't.
 use Rattle.std.proofs.Common.{refl}
 use Rattle.sg_facts.specs.Laws.{whole}
-use Rattle.sg_mm.specs.MmFacts.{mm_facts}
-use Rattle.sg_mm.specs.MmTable.{mm_table}
+use Rattle.sg_load.specs.Services.sg_mm.MmFacts.{mm_facts}
+use Rattle.sg_load.specs.Services.sg_mm.MmTable.{mm_table}
 use Rattle.test_histories.specs.Written.{ok, with_reply}
 use Rattle.test_histories.specs.MmRows.{page_refusals}
 use Rattle.sg_facts.proofs.Legality.{IsLegal-from, LegalFrom-is}

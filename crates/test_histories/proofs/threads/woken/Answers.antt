@@ -1,8 +1,8 @@
 -- The replies compute, and the other one doesn't.
 use Rattle.std.proofs.Common.{refl}
 use Rattle.sg_facts.specs.Laws.{whole}
-use Rattle.sg_sched.specs.SchedFacts.{sched_facts}
-use Rattle.sg_sched.specs.SchedTable.{sched_table}
+use Rattle.sg_load.specs.Services.sg_sched.SchedFacts.{sched_facts}
+use Rattle.sg_load.specs.Services.sg_sched.SchedTable.{sched_table}
 use Rattle.test_histories.specs.SchedRows.{woken, not_woken}
 use Rattle.sg_facts.proofs.Legality.{IsLegal-from, LegalFrom-is}
 use Rattle.test_histories.proofs.threads.woken.Goals as goal
