@@ -9,8 +9,8 @@ use std::test::Fail;
 use test_asking::call;
 use test_tables::facts::{Call, NoMemory, Service, Tables};
 use test_tables::{
-    EventService, LockService, MmService, RamfsService, SchedService, event_tables, lock_tables,
-    mm_tables, ramfs_tables, sched_tables,
+    EventService, LockService, MmService, RamfsService, SchedService, TimerService, event_tables,
+    lock_tables, mm_tables, ramfs_tables, sched_tables, timer_tables,
 };
 
 // Whether an engine is up in a boot, after so many points, with nothing of the first descriptor and the first client.
@@ -114,4 +114,10 @@ fn files_stop_and_boot(rt: HostRuntime) -> Result<(), Fail> {
 fn threads_stop_and_boot(rt: HostRuntime) -> Result<(), Fail> {
     let tables = sched_tables(rt.alloc())?;
     stops_and_boots::<SchedService>(&rt, rt.alloc(), (), tables)
+}
+
+#[test]
+fn timers_stop_and_boot(rt: HostRuntime) -> Result<(), Fail> {
+    let tables = timer_tables(rt.alloc())?;
+    stops_and_boots::<TimerService>(&rt, rt.alloc(), (), tables)
 }

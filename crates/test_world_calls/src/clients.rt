@@ -3,8 +3,8 @@ use std::alloc::Global;
 use std::process::Abort;
 use std::test::Fail;
 use test_world::tables::{
-    EventService, LockService, MmService, RamfsService, SchedService, event_tables, lock_tables,
-    mm_tables, ramfs_tables, sched_tables,
+    EventService, LockService, MmService, RamfsService, SchedService, TimerService, event_tables,
+    lock_tables, mm_tables, ramfs_tables, sched_tables, timer_tables,
 };
 use test_world::{Judge, Never, Phase, Run, Service, Stops, World, judged};
 
@@ -55,5 +55,6 @@ fn clients_leave(rt: HostRuntime) -> Result<(), Fail> {
     judged::<EventService, _, _>(alloc, (), event_tables(alloc)?, 2, Never::new(), &leaving)??;
     judged::<MmService, _, _>(alloc, (), mm_tables(alloc)?, 2, Never::new(), &leaving)??;
     judged::<RamfsService, _, _>(alloc, (), ramfs_tables(alloc)?, 2, Never::new(), &leaving)??;
-    judged::<SchedService, _, _>(alloc, (), sched_tables(alloc)?, 2, Never::new(), &leaving)?
+    judged::<SchedService, _, _>(alloc, (), sched_tables(alloc)?, 2, Never::new(), &leaving)??;
+    judged::<TimerService, _, _>(alloc, (), timer_tables(alloc)?, 2, Never::new(), &leaving)?
 }

@@ -2,8 +2,8 @@
 use std::test::Fail;
 use test_world::answered;
 use test_world::tables::{
-    EventService, LockService, MmService, RamfsService, SchedService, event_tables, lock_tables,
-    mm_tables, ramfs_tables, sched_tables,
+    EventService, LockService, MmService, RamfsService, SchedService, TimerService, event_tables,
+    lock_tables, mm_tables, ramfs_tables, sched_tables, timer_tables,
 };
 
 /// The last point at which a service stops here. Each run asks as many at least.
@@ -83,6 +83,22 @@ sched_wait 1 = ok
 sched_exit 2 = ok
 sched_next 0 = ok #1
 sched_sleep 1 = ok
+";
+
+// Timers.
+const TIMERS: &str = "tmr_create 0 3 7 = ok #1 3
+tmr_create 0 5 8 = ok #2 5
+tmr_create 0 5 7 = refused Occupied
+tmr_first 0 = ok #1
+tmr_tick 1 3 = ok
+tmr_wait 1 = ok 3
+tmr_first 0 = ok #1
+tmr_tick 1 10 = ok
+tmr_skip 1 = ok 9
+tmr_tick 2 4 = ok
+tmr_first 0 = ok #2
+tmr_free 1 = ok
+tmr_first 0 = ok #2
 ";
 
 #[test]
@@ -167,6 +183,26 @@ fn threads_stop_anywhere(rt: HostRuntime) -> Result<(), Fail> {
             sched_tables(alloc)?,
             &[FIRST, point],
             THREADS,
+        );
+        assert_eq!(rt; made, Ok(()), "at {point}");
+    }
+    Ok(())
+}
+
+#[test]
+fn timers_stop_anywhere(rt: HostRuntime) -> Result<(), Fail> {
+    let alloc = rt.alloc();
+    for point in 1..=LAST {
+        let made = answered::<TimerService>(alloc, (), timer_tables(alloc)?, &[point], TIMERS);
+        assert_eq!(rt; made, Ok(()), "at {point}");
+    }
+    for point in FIRST + 1..=LAST {
+        let made = answered::<TimerService>(
+            alloc,
+            (),
+            timer_tables(alloc)?,
+            &[FIRST, point],
+            TIMERS,
         );
         assert_eq!(rt; made, Ok(()), "at {point}");
     }
