@@ -6,7 +6,7 @@ ghost use Rattle.sg_cost.specs.Inside.Fronts.{AreInRun, IsFront, MayBeTracked};
 ghost use Rattle.sg_facts.specs.Interface.{HasFewFields};
 ghost use Rattle.sg_facts.specs.Trace.{run_of};
 
-use crate::front::Front;
+use crate::front::FirstRows;
 use crate::last_boots::last_boots;
 use crate::rows::all_walks;
 use crate::{BootCost, BootCostList};
@@ -21,7 +21,7 @@ pub(crate) fn boot_costs(
     tables: &Tables,
     history: &History,
     trace: &Trace,
-    front: &mut Front,
+    front: &mut FirstRows,
 ) -> Result<BootCostList, NoMemory>
     requires fields { HasFewFields tables.now.iface }
     requires few { length history.now.items ≤ most_entries }

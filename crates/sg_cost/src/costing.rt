@@ -11,7 +11,7 @@ ghost use Rattle.sg_report.specs.sg_hist.Ending.{HasRecovered};
 ghost use Rattle.sg_report.specs.sg_hist.Clients.{AreNumbered};
 
 use crate::boots::boot_costs;
-use crate::front::Front;
+use crate::front::FirstRows;
 use crate::funs::fun_costs;
 use crate::rows::{row_costs, total};
 use crate::words::read_words;
@@ -58,7 +58,7 @@ fn costs_in(
     requires run { AreInRun tables.now.iface.facts history.now.items (run_of trace.now) }
     ensures { IfOk result (λ costs. costs ≡ costs_at tables.now.iface tables.now.walks history.now.items (run_of trace.now)) }
 {
-    let mut front = Front::new(alloc);
+    let mut front = FirstRows::new(alloc);
     let boots = boot_costs(alloc, tables, history, trace, &mut front)?;
     front.finish(alloc, tables, history)?;
     costs_with(alloc, tables, &front.rows, boots)

@@ -15,18 +15,18 @@ use std::alloc::Global;
 
 /// The rows that the first entries of a history come to, and how many entries these are.
 #[derive(Debug, Drop)]
-pub(crate) struct Front {
+pub(crate) struct FirstRows {
     pub(crate) rows: Tracker,
     pub(crate) place: usize,
 }
 
-impl Front {
+impl FirstRows {
     /// No entry.
-    pub(crate) fn new(alloc: Global) -> Front
+    pub(crate) fn new(alloc: Global) -> FirstRows
         ensures place { result.place ≡ 0 }
         ensures front { (facts : _) (history : _) → IsFront facts history 0 result.rows }
     {
-        Front {
+        FirstRows {
             rows: Tracker::new(alloc),
             place: 0,
         }

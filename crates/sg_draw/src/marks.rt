@@ -5,7 +5,7 @@ ghost use Rattle.sg_draw.specs.Inside.Drawing.{Draws};
 ghost use Rattle.sg_draw.specs.Inside.Rows.{shown_labels};
 
 use crate::lanes::{Lane, LaneList, lane_of, take_turn};
-use crate::rows::{Asked, Event, Row, Turn};
+use crate::rows::{Asked, Event, Row, ShownItem};
 use crate::sheet::{Sheet, above, base, below};
 use crate::svg::{Hand, Look, Reach, push_line, push_words};
 use sg_facts::{Bytes, NoMemory};
@@ -80,7 +80,7 @@ fn push_turn(
     sheet: &Sheet,
     lanes: &mut LaneList,
     at: usize,
-    turn: Turn,
+    turn: ShownItem,
 ) -> Result<(), NoMemory>
     ensures { OnOk result (Draws out.old out.new []) }
 {

@@ -28,7 +28,7 @@ pub(crate) enum Asked {
 
 /// An item, as a picture shows it.
 #[derive(Debug, Clone, Copy, PartialEq, Eq)]
-pub(crate) struct Turn {
+pub(crate) struct ShownItem {
     pub asked: Asked,
     /// The client in whose turn it was made.
     pub client: u8,
@@ -40,7 +40,7 @@ pub(crate) struct Turn {
 #[derive(Debug, Clone, Copy, PartialEq, Eq)]
 pub(crate) enum Event {
     Boot,
-    Item(Turn),
+    Item(ShownItem),
     Stop,
     /// The number of points asked, which is of no lane.
     Points,
@@ -151,13 +151,13 @@ fn add_stop(alloc: Global, rows: &mut RowList, stop: Option<u64>) -> Result<(), 
 }
 
 // An item, as a picture shows it.
-fn turn_of(item: &LentItem) -> Turn {
+fn turn_of(item: &LentItem) -> ShownItem {
     let (asked, client) = match item.tag {
         LentTag::Client { client, .. } => (Asked::Call, client),
         LentTag::Walk { client, .. } => (Asked::Walk, client),
         LentTag::Load { client, .. } => (Asked::Load, client),
     };
-    Turn {
+    ShownItem {
         asked,
         client,
         waits: matches!(item.outcome, LentOutcome::Blocks),

@@ -10,14 +10,14 @@ use sg_script::MultiScript;
 
 /// A turn that is to be taken: its client, and how many turns of the schedule are after it.
 #[derive(Clone, Copy, Debug)]
-pub(crate) struct Turn {
+pub(crate) struct NextTurn {
     pub(crate) client: u8,
     pub(crate) passed: usize,
 }
 
 /// Whose turn it is: client 1's until the setup is done, then who the schedule says and can, then who is next and can; None only where
 /// nobody can.
-pub(crate) fn next_turn(running: &Running, script: &MultiScript) -> Option<Turn>
+pub(crate) fn next_turn(running: &Running, script: &MultiScript) -> Option<NextTurn>
     requires keeps { KeepsRunning script.now running.now }
     ensures first { IfSome result (λ turn. 1 ≤ turn.client) }
     ensures last { IfSome result (λ turn. turn.client ≤ most_client script.now.clients) }
@@ -26,7 +26,7 @@ pub(crate) fn next_turn(running: &Running, script: &MultiScript) -> Option<Turn>
     ensures over { result ≡ None → IsOverNow script.now running.now }
 {
     if running.is_setting_up(script) {
-        return Some(Turn {
+        return Some(NextTurn {
             client: FIRST_CLIENT,
             passed: running.passed,
         });
@@ -38,7 +38,7 @@ pub(crate) fn next_turn(running: &Running, script: &MultiScript) -> Option<Turn>
 }
 
 // The next turn of the schedule whose client can take it.
-fn next_scheduled(running: &Running, script: &MultiScript) -> Option<Turn>
+fn next_scheduled(running: &Running, script: &MultiScript) -> Option<NextTurn>
     requires settled { is_at_setup script.now running.now ≡ false }
     requires keeps { KeepsRunning script.now running.now }
     ensures first { IfSome result (λ turn. 1 ≤ turn.client) }
@@ -51,7 +51,7 @@ fn next_scheduled(running: &Running, script: &MultiScript) -> Option<Turn>
     'turns: for at in running.passed..schedule.len() {
         let client = schedule[at];
         if client >= FIRST_CLIENT && client <= clients && running.can_go(script, client) {
-            return Some(Turn {
+            return Some(NextTurn {
                 client,
                 passed: at + 1,
             });
@@ -62,7 +62,7 @@ fn next_scheduled(running: &Running, script: &MultiScript) -> Option<Turn>
 
 // The turn of the next client that can take one: in ascending numbers after the client of the last turn, and then from 1 on. The schedule
 // is over then.
-fn next_in_circle(running: &Running, script: &MultiScript) -> Option<Turn>
+fn next_in_circle(running: &Running, script: &MultiScript) -> Option<NextTurn>
     requires settled { is_at_setup script.now running.now ≡ false }
     requires none { NoneScheduled script.now running.now (length script.now.schedule) }
     requires keeps { KeepsRunning script.now running.now }
@@ -74,10 +74,10 @@ fn next_in_circle(running: &Running, script: &MultiScript) -> Option<Turn>
     let passed = script.schedule.len();
     let clients = most_client(script.clients.as_slice());
     if let Some(client) = next_behind(running, script, running.last, clients) {
-        return Some(Turn { client, passed });
+        return Some(NextTurn { client, passed });
     }
     match next_behind(running, script, 0, running.last) {
-        Some(client) => Some(Turn { client, passed }),
+        Some(client) => Some(NextTurn { client, passed }),
         None => None,
     }
 }

@@ -61,7 +61,7 @@ impl<S: Service, T: Stops> Model for Play<S, T> {
 
 // A turn that is to be taken: its client, and how many turns of the schedule are after it.
 #[derive(Clone, Copy, Debug)]
-struct Turn {
+struct NextTurn {
     client: u8,
     passed: usize,
 }
@@ -302,7 +302,7 @@ impl<S: Service, T: Stops> Play<S, T> {
     }
 
     // A client takes its turn, which is the next. After `NoMemory` it has still to take it.
-    fn take(&mut self, alloc: Global, turn: Turn) -> Result<(), NoMemory>
+    fn take(&mut self, alloc: Global, turn: NextTurn) -> Result<(), NoMemory>
         requires client { IsClient (length self.old.view.seats) turn.client }
         requires setup { is_setting_up self.old.script self.old.view.seats ≡ true → turn.client ≡ 1 }
         requires next { IsNextTurn self.old.script (stage_now self.old) turn.client turn.passed }
@@ -336,7 +336,7 @@ impl<S: Service, T: Stops> Play<S, T> {
 
     // Whose turn it is: client 1's until the setup is done, then who the schedule says and can, then who is next and can; None exactly
     // where nobody can.
-    fn next_turn(&self) -> Option<Turn>
+    fn next_turn(&self) -> Option<NextTurn>
         ensures first { IfSome result (λ turn. 1 ≤ turn.client) }
         ensures last { IfSome result (λ turn. turn.client ≤ length self.now.view.seats) }
         ensures setup { IfSome result (λ turn. is_setting_up self.now.script self.now.view.seats ≡ true → turn.client ≡ 1) }
@@ -354,20 +354,20 @@ impl<S: Service, T: Stops> Play<S, T> {
     }
 
     // The turn of client 1 while it is at the calls of the setup.
-    fn setup_turn(&self) -> Turn
+    fn setup_turn(&self) -> NextTurn
         requires { is_setting_up self.now.script self.now.view.seats ≡ true }
         ensures client { result.client ≡ 1 }
         ensures last { result.client ≤ length self.now.view.seats }
         ensures next { IsNextTurn self.now.script (stage_now self.now) result.client result.passed }
     {
-        Turn {
+        NextTurn {
             client: FIRST_CLIENT,
             passed: self.passed,
         }
     }
 
     // The next turn of the schedule whose client can take it, after the setup.
-    fn next_scheduled(&self) -> Option<Turn>
+    fn next_scheduled(&self) -> Option<NextTurn>
         requires settled { is_setting_up self.now.script self.now.view.seats ≡ false }
         ensures first { IfSome result (λ turn. 1 ≤ turn.client) }
         ensures last { IfSome result (λ turn. turn.client ≤ length self.now.view.seats) }
@@ -378,7 +378,7 @@ impl<S: Service, T: Stops> Play<S, T> {
         'turns: for at in self.passed..schedule.len() {
             let client = schedule[at];
             if self.can_go(client) {
-                return Some(Turn {
+                return Some(NextTurn {
                     client,
                     passed: at + 1,
                 });
@@ -389,7 +389,7 @@ impl<S: Service, T: Stops> Play<S, T> {
 
     // The turn of the next client that can take one, where the schedule gives none: in ascending numbers after the client of the last
     // turn, and then from 1 on.
-    fn next_in_circle(&self) -> Option<Turn>
+    fn next_in_circle(&self) -> Option<NextTurn>
         requires settled { is_setting_up self.now.script self.now.view.seats ≡ false }
         requires unscheduled { NoneScheduled self.now (length self.now.script.schedule) }
         ensures first { IfSome result (λ turn. 1 ≤ turn.client) }
@@ -399,10 +399,10 @@ impl<S: Service, T: Stops> Play<S, T> {
     {
         let passed = self.script.schedule.len();
         if let Some(client) = self.next_behind(self.last, self.clients()) {
-            return Some(Turn { client, passed });
+            return Some(NextTurn { client, passed });
         }
         match self.next_behind(0, self.last) {
-            Some(client) => Some(Turn { client, passed }),
+            Some(client) => Some(NextTurn { client, passed }),
             None => None,
         }
     }

@@ -5,7 +5,7 @@ use Rattle.std.proofs.lemmas.Option.{get_or_from_slice_get, slice_get_within}
 use Rattle.sg_cost.proofs.Indexed.{all_more, none_past, one_more}
 use Rattle.sg_cost.proofs.Tracking.{front_next, may_next}
 use Rattle.sg_cost.specs.Inside.LastBoots.{is_over}
-use Rattle.sg_cost.proofs.front.Front.advance.Goals as goal
+use Rattle.sg_cost.proofs.front.FirstRows.advance.Goals as goal
 
 pub track-requires-clause-may : goal.track-requires-clause-may
 track-requires-clause-may c =

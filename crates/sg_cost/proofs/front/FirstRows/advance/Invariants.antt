@@ -3,7 +3,7 @@ use Rattle.std.proofs.Common.{◌≡◌, true, take}
 use Rattle.std.specs.List.{list_all}
 use Rattle.sg_cost.specs.Inside.Fronts.{IsFront}
 use Rattle.sg_cost.specs.Inside.LastBoots.{is_over}
-use Rattle.sg_cost.proofs.front.Front.advance.Given as goal
+use Rattle.sg_cost.proofs.front.FirstRows.advance.Given as goal
 
 abbrev pub invariant-entries : goal.invariant-entries
 invariant-entries l = record {

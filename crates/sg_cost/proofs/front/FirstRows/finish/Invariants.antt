@@ -1,7 +1,7 @@
 -- So many entries are tracked.
 use Rattle.std.proofs.Common.{◌≡◌}
 use Rattle.sg_cost.specs.Inside.Fronts.{IsFront}
-use Rattle.sg_cost.proofs.front.Front.finish.Given as goal
+use Rattle.sg_cost.proofs.front.FirstRows.finish.Given as goal
 
 abbrev pub invariant-entries : goal.invariant-entries
 invariant-entries l = record {

@@ -2,7 +2,7 @@
 use Rattle.std.proofs.Common.{◌+◌, sym, ◌∙◌, ap}
 use Rattle.std.proofs.lemmas.Option.{get_or_from_slice_get, slice_get_within}
 use Rattle.sg_cost.proofs.Tracking.{front_next, may_next}
-use Rattle.sg_cost.proofs.front.Front.finish.Goals as goal
+use Rattle.sg_cost.proofs.front.FirstRows.finish.Goals as goal
 
 pub track-requires-clause-may : goal.track-requires-clause-may
 track-requires-clause-may c =
