@@ -11,4 +11,3 @@ pub use Rattle.sg_plain.specs.sg_script
 pub use Rattle.sg_plain.specs.sg_clients
 pub use Rattle.sg_world.specs as sg_world
 pub use Rattle.sg_world.specs.sg_world_laws
-pub use Rattle.sg_world.specs.sg_clients

@@ -5,4 +5,4 @@ pub mod SchedObject
 pub mod SchedRow
 pub mod SchedSound
 pub mod SchedTable
-pub use Rattle.sg_slots.specs
+pub use Rattle.sg_slots.specs as sg_slots
