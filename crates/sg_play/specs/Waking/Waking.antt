@@ -8,6 +8,7 @@ use Rattle.sg_facts.specs.declared.trace.Tag.{Tag}
 use Rattle.sg_facts.specs.declared.trace.Tag.TheVariants.{Walk, Load, Client}
 use Rattle.sg_facts.specs.Facts.{Facts}
 use Rattle.sg_facts.specs.Trace.{Boot}
+use Rattle.sg_plain.specs.Answering.{no_query_waits}
 use Rattle.sg_plain.specs.sg_hist.Reading.{last_places, Position, is_tagged, last_items, places_from, places_in}
 use Rattle.sg_plain.specs.sg_hist.Inside.Parts.{waking_entries}
 use Rattle.sg_plain.specs.Inside.Kept.{IsWokenBetween}
