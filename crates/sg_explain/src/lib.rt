@@ -7,13 +7,11 @@
 //! - `places`: a place in a text as it is shown
 //! - `rebuilt`: how what descriptors come to is rebuilt, and the counts of a script
 //! - `parts`: texts in a row
-//! - `inputs`: inputs, and what is read of them, passed on
 //!
 //! `specs/Explained.antt` says what is explained of an input, and `specs/Words.antt` has the sentences.
 #![tactic(auto)]
 
 mod explaining;
-pub mod inputs;
 mod parts;
 mod places;
 mod reasons;

@@ -6,14 +6,14 @@ use Rattle.sg_facts.specs.Limits.{most_script_calls}
 use Rattle.sg_facts.specs.declared.entry.Entry.{Entry}
 use Rattle.sg_facts.specs.sg_base.Lists.{Each}
 use Rattle.sg_facts.specs.sg_base.Room.{Roomy}
-use Rattle.sg_explain.specs.sg_input.declared.run_input.RunInput.{RunInput}
-use Rattle.sg_explain.specs.sg_input.declared.run_input.RunInput.TheVariants.{Ready, Refused}
-use Rattle.sg_explain.specs.sg_input.Inputs.{IsRunInputOf, IsRunReady}
-use Rattle.sg_explain.specs.sg_input.Judged.{MayBeJudged}
+use Rattle.sg_input.specs.declared.run_input.RunInput.{RunInput}
+use Rattle.sg_input.specs.declared.run_input.RunInput.TheVariants.{Ready, Refused}
+use Rattle.sg_input.specs.Inputs.{IsRunInputOf, IsRunReady}
+use Rattle.sg_input.specs.Judged.{MayBeJudged}
 use Rattle.sg_verify.specs.Lines.{verdict_line_of}
 use Rattle.sg_verify.specs.Verdicts.{IsVerdictOf}
 use Rattle.sg_verify.specs.declared.verdict.Verdict.{Verdict}
-use Rattle.sg_verify.specs.sg_report.sg_hist.Clients.{MayBeMade}
+use Rattle.sg_report.specs.sg_hist.Clients.{MayBeMade}
 use Rattle.sg_explain.proofs.sg_input.OneRun.{never_ready, one_ready}
 use Rattle.sg_verify.proofs.Verdicts.{one_said as one_verdict}
 use Rattle.sg_top.proofs.Fitting.{interface_service}

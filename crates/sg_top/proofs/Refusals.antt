@@ -1,16 +1,16 @@
 -- An output that isn't a refusal refuses nothing: a text has one verdict, and an input is one thing.
 use Rattle.std.proofs.Common.{◌≡◌, ℕ, ◌≤◌, inl, inr, Bool, false, List, arith, length}
-use Rattle.sg_verify.specs.sg_report.sg_hist.declared.ended.Ended.{Ended}
+use Rattle.sg_report.specs.sg_hist.declared.ended.Ended.{Ended}
 use Rattle.sg_explain.proofs.Alone.{explained_alone}
-use Rattle.sg_explain.specs.sg_input.declared.outcome.Verdict.{Verdict}
-use Rattle.sg_explain.specs.sg_input.declared.outcome.Verdict.TheVariants.{Accepted as accepted, Refused as refused}
-use Rattle.sg_explain.specs.sg_input.Verdicts.{IsCompiled, IsUpgraded, IsVerdict}
+use Rattle.sg_input.specs.declared.outcome.Verdict.{Verdict}
+use Rattle.sg_input.specs.declared.outcome.Verdict.TheVariants.{Accepted as accepted, Refused as refused}
+use Rattle.sg_input.specs.Verdicts.{IsCompiled, IsUpgraded, IsVerdict}
 use Rattle.sg_explain.proofs.sg_input.OneVerdict.{one_verdict}
-use Rattle.sg_explain.specs.sg_input.declared.input.Input.TheVariants.{Refused as refused_input}
-use Rattle.sg_explain.specs.sg_input.Inputs.{IsInputOf}
-use Rattle.sg_explain.specs.sg_input.MultiInputs.{IsMultiInputOf}
-use Rattle.sg_explain.specs.sg_input.declared.multi_input.MultiInput.{MultiInput}
-use Rattle.sg_explain.specs.sg_input.declared.multi_input.MultiInput.TheVariants.{Ready as ready_multi, Refused as refused_multi}
+use Rattle.sg_input.specs.declared.input.Input.TheVariants.{Refused as refused_input}
+use Rattle.sg_input.specs.Inputs.{IsInputOf}
+use Rattle.sg_input.specs.MultiInputs.{IsMultiInputOf}
+use Rattle.sg_input.specs.declared.multi_input.MultiInput.{MultiInput}
+use Rattle.sg_input.specs.declared.multi_input.MultiInput.TheVariants.{Ready as ready_multi, Refused as refused_multi}
 use Rattle.sg_explain.proofs.sg_input.OneMulti.{one_multi_input}
 use Rattle.sg_explain.proofs.sg_input.OneInput.{never_ready, not_refused}
 use Rattle.sg_explain.proofs.sg_input.OneRun.{never_ready as never_printed}

@@ -4,15 +4,15 @@ use Rattle.std.specs.Result.{IfOk}
 use Rattle.std.specs.declared.result.Result.{Result}
 use Rattle.sg_facts.specs.Interface.{Declared}
 use Rattle.sg_facts.specs.Trace.{run_of}
-use Rattle.sg_verify.specs.sg_report.sg_hist.declared.ended.Ended.{Ended}
-use Rattle.sg_explain.specs.sg_input.sg_script.declared.script.Script.{Script}
+use Rattle.sg_report.specs.sg_hist.declared.ended.Ended.{Ended}
+use Rattle.sg_input.specs.sg_script.declared.script.Script.{Script}
 use Rattle.sg_explore.specs.sg_shared.sg_sim.Played.{FollowsSchedule}
-use Rattle.sg_explain.specs.sg_input.Inputs.{IsReady}
+use Rattle.sg_input.specs.Inputs.{IsReady}
 use Rattle.sg_load.specs.Generated.{generated}
 use Rattle.sg_load.specs.Services.{answering, facts_by, played_services, standard}
 use Rattle.sg_load.specs.declared.kind.ServiceKind.{ServiceKind}
 use Rattle.sg_load.specs.sg_plain.Playing.Playable.{IsPlayable}
-use Rattle.sg_verify.specs.sg_report.Report.{load_line_of}
+use Rattle.sg_report.specs.Report.{load_line_of}
 use Rattle.sg_top.proofs.Costing.{few_of_load, few_replays}
 use Rattle.sg_top.proofs.Fitting.{ready_playable}
 use Rattle.sg_top.proofs.EachKind.{is_served, its_facts}

@@ -11,8 +11,8 @@ ghost use Rattle.sg_top.specs.Inside.Plays.{IsPlayed};
 ghost use Rattle.sg_top.specs.Inside.Several.{AreMembersOf, IsMemberOf};
 
 use crate::services::kind_of;
-use sg_explain::inputs::{MultiScript, compile};
 use sg_facts::{Interface, ListOf, NoMemory, TryCopy};
+use sg_input::{MultiScript, compile};
 use sg_load::Accepted;
 use sg_multi::{MemberTables, MultiEnded, MultiPlay};
 use std::alloc::Global;

@@ -1,10 +1,10 @@
 // What a command makes of its input.
 ghost use Rattle.std.specs.Prelude.{◌≡◌, ◌≤◌, ℕ, List, true, false, if◌then◌else◌, IfOk};
 ghost use Rattle.sg_explain.specs.Explained.{IsExplained};
-ghost use Rattle.sg_verify.specs.sg_report.sg_hist.Recovered.{is_blocked};
+ghost use Rattle.sg_report.specs.sg_hist.Recovered.{is_blocked};
 ghost use Rattle.sg_load.specs.sg_plain.Playing.Playable.{IsPlayable};
 ghost use Rattle.sg_load.specs.sg_plain.Inside.Kept.{somebody_waits};
-ghost use Rattle.sg_explain.specs.sg_input.Verdicts.{IsCompiled, IsUpgraded, IsVerdict};
+ghost use Rattle.sg_input.specs.Verdicts.{IsCompiled, IsUpgraded, IsVerdict};
 ghost use Rattle.sg_load.specs.Generated.{generated};
 ghost use Rattle.sg_load.specs.Services.{answering, facts_by, standard};
 ghost use Rattle.sg_top.specs.Answer.{IsOfText, IsOutput, IsMultiOutput, IsOwnOutput, ended_status, has_input, is_in_threads, multi_status, services, IsPlayOutput};
@@ -31,15 +31,16 @@ use sg_cost::cost_text;
 use sg_draw::{columns, picture};
 use sg_edge::Gate;
 use sg_explain::explain;
-use sg_explain::inputs::{
+use sg_explore::{Explored, Played, Progress};
+use sg_facts::{Bytes, Interface, NoMemory};
+use sg_input::{
     History, Input, MultiInput, RunInput, Script, Verdict, compile, compiled, read_input,
     read_multi_input, read_run, upgraded, verdict,
 };
-use sg_explore::{Explored, Played, Progress};
-use sg_facts::{Bytes, Interface, NoMemory};
 use sg_load::{Accepted, ServiceKind, generate, standard};
 use sg_multi::{MultiEnd, MultiEnded, multi_text};
-use sg_verify::{End, Verdict as Judgement, load_line, text, verdict_line};
+use sg_report::{End, load_line, text};
+use sg_verify::{Verdict as Judgement, verdict_line};
 use std::alloc::Global;
 use std::sync::Wait;
 use std::thread::Threads;

@@ -1,7 +1,6 @@
 // What commands answer: tables of inputs, statuses and outputs. No clause says that an input is played where there is memory.
-use sg_facts::NoMemory;
 use sg_top::Status::{Done, ReadFault, Refused, Waits, WriteFault};
-use sg_top::{Answer, Ended, MemSink, MemSource, Status, serial};
+use sg_top::{Answer, Ended, MemSink, MemSource, NoMemory, Status, serial};
 use std::alloc::{AllocError, Global};
 use std::process::Abort;
 use std::test::Fail;

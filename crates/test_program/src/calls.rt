@@ -1,7 +1,8 @@
 // Other words, a run as it is given, and the numbers of statuses.
 use crate::answers::{REPORT, SCRIPT, Sizes, input_of, said, words_of};
-use sg_facts::NoMemory;
-use sg_top::{Command, MemSink, MemSource, NoProgress, OpenGate, Status, serial, superglue};
+use sg_top::{
+    Command, MemSink, MemSource, NoMemory, NoProgress, OpenGate, Status, serial, superglue,
+};
 use std::alloc::Global;
 use std::io::ErrorKind;
 use std::sync::Wait;

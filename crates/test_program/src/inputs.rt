@@ -1,6 +1,5 @@
 // Where inputs are divided, and in which order they are refused.
-use sg_facts::NoMemory;
-use sg_top::{Input, cut, one_cut, one_input, read_input};
+use sg_top::{Input, NoMemory, cut, one_cut, one_input, read_input};
 use std::alloc::Global;
 use std::test::Fail;
 

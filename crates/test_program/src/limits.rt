@@ -1,8 +1,9 @@
 // The longest inputs, texts and scripts, and longer ones.
 use crate::answers::{NOTHING, answers, input_of, joined};
-use sg_facts::NoMemory;
 use sg_top::Status::{Done, Refused};
-use sg_top::{Command, MOST_DIVIDER, MOST_INPUT, MOST_INTERFACE, MOST_SCRIPT, Shows, Status};
+use sg_top::{
+    Command, MOST_DIVIDER, MOST_INPUT, MOST_INTERFACE, MOST_SCRIPT, NoMemory, Shows, Status,
+};
 use std::alloc::{AllocError, Global};
 use std::fmt::Write;
 use std::test::Fail;

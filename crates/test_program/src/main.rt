@@ -5,7 +5,6 @@
 //! - `limits`: the longest inputs and scripts, and longer ones
 //! - `calls`: other words, a run as it is given, and the numbers of statuses
 //! - `inputs`: where inputs are divided, and in which order they are refused
-//! - `reports`: printed runs
 //! - `versions`: texts of both versions, what they are upgraded to, and plays under them
 #![tactic(auto)]
 
@@ -17,8 +16,6 @@ mod calls;
 mod inputs;
 #[cfg(test)]
 mod limits;
-#[cfg(test)]
-mod reports;
 #[cfg(test)]
 mod versions;
 

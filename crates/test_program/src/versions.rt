@@ -1,8 +1,7 @@
 // Texts of both versions: what they are upgraded to, and plays under them. No clause says that a text is upgraded where there is memory.
 use crate::answers::{answers, input_of, joined, said, words_of};
-use sg_facts::NoMemory;
 use sg_top::Status::{self, Done, Refused};
-use sg_top::{MemSink, MemSource, serial};
+use sg_top::{MemSink, MemSource, NoMemory, serial};
 use std::alloc::{AllocError, Global};
 use std::process::Abort;
 use std::test::Fail;

@@ -7,6 +7,7 @@
 //! - `again`: a play goes on after a step that wanted memory
 //! - `by_hand`: a script is played at once, and by hand in another order
 //! - `in_threads`: a thread whose call wants memory gives it up, and the run ends in want of memory
+//! - `reports`: printed runs
 #![tactic(auto)]
 
 #[cfg(test)]
@@ -17,5 +18,7 @@ mod by_hand;
 mod in_threads;
 #[cfg(test)]
 mod ready;
+#[cfg(test)]
+mod reports;
 #[cfg(test)]
 mod scarce;

@@ -2,8 +2,8 @@
 use Rattle.std.specs.Prelude.{ℕ, ◌≡◌, ◌<◌, ◌⊎◌, List, length, take}
 use Rattle.std.specs.Io.KnownBytes.{Appends}
 use Rattle.sg_edge.specs.Edge.{Rose}
-use Rattle.sg_explain.specs.sg_input.declared.outcome.Verdict.{Verdict}
-use Rattle.sg_explain.specs.sg_input.declared.outcome.Verdict.TheVariants.{Accepted as accepted, Refused as refused}
+use Rattle.sg_input.specs.declared.outcome.Verdict.{Verdict}
+use Rattle.sg_input.specs.declared.outcome.Verdict.TheVariants.{Accepted as accepted, Refused as refused}
 use Rattle.sg_top.specs.declared.output.Ran.{Ran}
 use Rattle.sg_top.specs.declared.output.Ran.TheVariants.{Nothing}
 use Rattle.sg_top.specs.declared.status.Status.{Status}

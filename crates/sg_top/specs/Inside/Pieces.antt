@@ -1,13 +1,13 @@
 -- The parts of what a command makes, by themselves.
 use Rattle.std.specs.Prelude.{ℕ, ◌≡◌, ◌≤◌, ◌⊎◌, List, length}
-use Rattle.sg_explain.specs.sg_input.declared.input.Input.TheVariants.{Refused as refused_input}
-use Rattle.sg_explain.specs.sg_input.declared.multi_input.MultiInput.TheVariants.{Refused as refused_multi}
-use Rattle.sg_explain.specs.sg_input.declared.outcome.Verdict.TheVariants.{Refused as refused}
-use Rattle.sg_explain.specs.sg_input.declared.run_input.RunInput.TheVariants.{Refused as refused_run}
-use Rattle.sg_explain.specs.sg_input.Inputs.{IsInputOf, IsRunInputOf}
-use Rattle.sg_explain.specs.sg_input.MultiInputs.{IsMultiInputOf}
+use Rattle.sg_input.specs.declared.input.Input.TheVariants.{Refused as refused_input}
+use Rattle.sg_input.specs.declared.multi_input.MultiInput.TheVariants.{Refused as refused_multi}
+use Rattle.sg_input.specs.declared.outcome.Verdict.TheVariants.{Refused as refused}
+use Rattle.sg_input.specs.declared.run_input.RunInput.TheVariants.{Refused as refused_run}
+use Rattle.sg_input.specs.Inputs.{IsInputOf, IsRunInputOf}
+use Rattle.sg_input.specs.MultiInputs.{IsMultiInputOf}
 use Rattle.sg_explain.specs.Explained.{IsExplained}
-use Rattle.sg_explain.specs.sg_input.Verdicts.{IsVerdict}
+use Rattle.sg_input.specs.Verdicts.{IsVerdict}
 use Rattle.sg_verify.specs.declared.verdict.Verdict.{Verdict as Judgement}
 use Rattle.sg_verify.specs.declared.verdict.Verdict.TheVariants.{Legal}
 use Rattle.sg_top.specs.Answer.{IsExploredAs, IsJudgedAs, IsRefusal, services, most_bytes}

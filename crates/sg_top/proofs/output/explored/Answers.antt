@@ -2,8 +2,8 @@
 use Rattle.std.proofs.Common.{◌∙◌, ap, map, refl, subst, sym, inl, inr}
 use Rattle.sg_facts.specs.Facts.{facts_of}
 use Rattle.sg_facts.specs.Interface.{Declared}
-use Rattle.sg_explain.specs.sg_input.Inputs.{IsInputOf}
-use Rattle.sg_explain.specs.sg_input.declared.input.Input.TheVariants.{Refused as refused_input}
+use Rattle.sg_input.specs.Inputs.{IsInputOf}
+use Rattle.sg_input.specs.declared.input.Input.TheVariants.{Refused as refused_input}
 use Rattle.sg_top.specs.Answer.{services}
 use Rattle.sg_top.specs.Inside.Plays.{IsPlayed}
 use Rattle.sg_top.proofs.EachKind.{its_facts}

@@ -2,8 +2,8 @@
 use Rattle.std.proofs.Common.{◌∙◌, ap, map, refl, subst, sym, true}
 use Rattle.sg_facts.specs.Facts.{facts_of}
 use Rattle.sg_facts.specs.Interface.{Declared}
-use Rattle.sg_explain.specs.sg_input.Inputs.{IsInputOf, IsReady}
-use Rattle.sg_explain.specs.sg_input.declared.input.Input.TheVariants.{Refused as refused_input}
+use Rattle.sg_input.specs.Inputs.{IsInputOf, IsReady}
+use Rattle.sg_input.specs.declared.input.Input.TheVariants.{Refused as refused_input}
 use Rattle.sg_top.specs.Answer.{IsPlayOutput, services}
 use Rattle.sg_top.specs.Inside.Plays.{IsPlayed}
 use Rattle.sg_top.proofs.Fitting.{ready_for, ready_playable, ready_service, ready_stops}

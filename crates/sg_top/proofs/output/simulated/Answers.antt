@@ -2,7 +2,7 @@
 use Rattle.std.proofs.Common.{◌∙◌, ap, map, refl, subst, sym}
 use Rattle.sg_facts.specs.Facts.{facts_of}
 use Rattle.sg_facts.specs.Interface.{Declared}
-use Rattle.sg_explain.specs.sg_input.Inputs.{IsReady}
+use Rattle.sg_input.specs.Inputs.{IsReady}
 use Rattle.sg_top.specs.Answer.{services}
 use Rattle.sg_top.specs.Inside.Plays.{IsPlayed}
 use Rattle.sg_top.proofs.Fitting.{ready_for, ready_playable, ready_service, ready_stops}

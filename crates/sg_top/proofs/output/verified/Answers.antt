@@ -3,10 +3,10 @@ use Rattle.std.proofs.Common.{◌∙◌, ap, inr, map, sym, subst}
 use Rattle.sg_facts.specs.Facts.{facts_of}
 use Rattle.sg_facts.specs.Interface.{Declared}
 use Rattle.sg_facts.specs.sg_base.Lists.{Each}
-use Rattle.sg_explain.specs.sg_input.Inputs.{IsRunReady}
+use Rattle.sg_input.specs.Inputs.{IsRunReady}
 use Rattle.sg_verify.specs.Lines.{verdict_line_of}
 use Rattle.sg_verify.specs.Verdicts.{IsVerdictOf}
-use Rattle.sg_verify.specs.sg_report.sg_hist.Clients.{MayBeMade}
+use Rattle.sg_report.specs.sg_hist.Clients.{MayBeMade}
 use Rattle.sg_top.specs.Answer.{services}
 use Rattle.sg_load.specs.Services.{answering}
 use Rattle.sg_top.specs.Inside.Plays.{IsPlayed}

@@ -4,7 +4,7 @@ use sg_facts::{
     Kind, Leaves, NoMemory, Outcome, PairList, Parents, Path, Reply, Shape, Tag, Text, Trace,
     Value, Words,
 };
-use sg_top::{End, EndList, Ended, History, text};
+use sg_report::{End, EndList, Ended, History, text};
 use std::alloc::Global;
 use std::test::Fail;
 
