@@ -40,7 +40,7 @@ use Rattle.sg_multi.specs.sg_sim.sg_clients.WorldView.{Seat, WorldView, is_block
 use Rattle.sg_multi.specs.sg_sim.sg_clients.declared.phase.Phase.{Phase}
 use Rattle.sg_multi.specs.sg_sim.sg_clients.declared.phase.Phase.TheVariants.{Idle, Asked, Held, Receipted, Blocked as Waits, Left}
 use Rattle.sg_multi.specs.sg_sim.sg_world_laws.Setting.{Setting, stubs_of}
-use Rattle.sg_multi.specs.Calls.{AreFirstMultiCalls, AreMultiCalls, IsCallOf, has_multi_calls, multi_callers, multi_calls}
+use Rattle.sg_multi.specs.Calls.{AreFirstMultiCalls, AreMultiCalls, has_multi_calls, multi_callers, multi_calls}
 use Rattle.sg_multi.specs.Ends.{AreMultiEnds, IsMultiEnd, IsWaiting, end_at, ends_at}
 use Rattle.sg_multi.specs.Inside.Callers.{IsSeatOf}
 use Rattle.sg_multi.specs.Inside.Ended.{AreEndedMembers}
@@ -50,11 +50,12 @@ use Rattle.sg_multi.specs.Inside.Turns.{end_of_client, ends_up_to}
 use Rattle.sg_multi.specs.Inside.Whose.{NobodyGoesOn, next_of, seat_at}
 use Rattle.sg_multi.specs.Merged.{Merges, MultiEntry, entries_at, own_in}
 use Rattle.sg_multi.specs.Played.{IsMemberPlayed, IsMultiPlayed, stubs_in}
-use Rattle.sg_multi.specs.SeveralServices.{multi_workload, several_services}
+use Rattle.sg_multi.specs.SeveralServices.{MemberCall, multi_call_after, multi_workload, several_services}
 use Rattle.sg_multi.specs.declared.ended.MultiEnd.{MultiEnd}
 use Rattle.sg_multi.specs.declared.ended.MultiEnd.TheVariants.{Done, Blocked}
 use Rattle.sg_multi.proofs.Calling.{fits_at, no_more}
 use Rattle.sg_multi.proofs.Merging.{at_mapped, length_mapped, mapped_at, shown_alike, there_is, there_within}
+use Rattle.sg_multi.proofs.Stages.{next_call_is}
 use Rattle.sg_multi.proofs.Own.{calls_alone, empty_script, nothing_of}
 
 -- ---- phases
@@ -354,6 +355,9 @@ module _ (members : List Member) (script : MultiScript) (given : List (List ℕ)
 
   -- ---- the ends of all clients
 
+  abbrev called : ℕ → Call → MemberCall
+  called member call = record { member = member; call = call }
+
   pub multi_end : ((q : ℕ) (x : Member) → slice_get members q ≡ Some x → RecoversSoFar (setting_in x) (view_in x)) → (c : ℕ) → 1 ≤ c → c ≤ most_client script.clients
       → IsMultiEnd (map stubs_in members) is.merged script c (end_of_client members script given c)
   multi_end told c first last = by (next_of script given c) refl
@@ -385,14 +389,11 @@ module _ (members : List Member) (script : MultiScript) (given : List (List ℕ)
               let same = seat_there_is q x c there in
               let phase : (seat_of (view_in x) c).phase ≡ Waits = ap (λ (t : Seat). t.phase) (sym same) ∙ next_waits c first last written next in
               let o = (caller.seats q x there).offers (ap is_offered phase) in
-              let both : Some o.written ≡ Some written = sym o.next ∙ next in
-              let its : o.written ≡ written = cc both in
               record {
-                written = written;
-                next = ap (slice_get (multi_calls script c)) o.all_given ∙ next;
-                its = subst (λ i. IsCallOf i is.merged c written written.member (seat_at members q c).call) (sym (stubs_interfaces members))
-                    (subst (λ n. IsCallOf (interfaces_of members) is.merged c written n (seat_at members q c).call) number
-                    (subst (λ (t : Seat). IsCallOf (interfaces_of members) is.merged c written (q + 1) t.call) (sym same) (subst (λ y. IsCallOf (interfaces_of members) is.merged c y (q + 1) (seat_of (view_in x) c).call) its o.its)));
+                next = ap (multi_call_after (map stubs_in members) script is.merged c) o.all_given
+                    ∙ next_call_is members script given order is c first last written next q number x there (ap is_offered phase)
+                    ∙ ap (λ (k : ℕ). Some (called k (seat_of (view_in x) c).call)) number
+                    ∙ ap (λ (t : Seat). Some (called written.member t.call)) (sym same);
                 stubs = stubs_in x;
                 there = mapped_at stubs_in members q x there;
                 none =

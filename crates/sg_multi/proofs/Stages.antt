@@ -133,7 +133,7 @@ module _ (members : List Member) (script : MultiScript) (given : List (List ℕ)
   seat_there_is q x d there = ap (λ o. option_map_or (λ m. seat_of (view_in m) d) o no_seat) there
 
   -- the call that a client has under way is its next there
-  next_call_is : (d : ℕ) → 1 ≤ d → d ≤ n → (written : MultiCall) → next_of script given d ≡ Some written → (q : ℕ) → q + 1 ≡ written.member → (x : Member) → slice_get members q ≡ Some x
+  pub next_call_is : (d : ℕ) → 1 ≤ d → d ≤ n → (written : MultiCall) → next_of script given d ≡ Some written → (q : ℕ) → q + 1 ≡ written.member → (x : Member) → slice_get members q ≡ Some x
       → is_offered (seat_of (view_in x) d).phase ≡ true → sys.next is.merged d (length (given_in given d)) ≡ Some (record { member = q + 1; call = (seat_of (view_in x) d).call })
   next_call_is d first last written next q number x there offers =
       ap (λ o. option_map_or (λ (c : MultiCall). option_map (made_of is.merged d c) (member_at (map stubs_in members) c.member)) o None) next

@@ -7,18 +7,16 @@ use Rattle.sg_facts.specs.sg_base.declared.call.Call.{Call}
 use Rattle.sg_multi.specs.sg_sim.sg_play.sg_hist.Recovered.{Stubs}
 use Rattle.sg_multi.specs.sg_sim.sg_play.sg_hist.declared.ended.End.{End}
 use Rattle.sg_multi.specs.sg_sim.sg_play.sg_hist.declared.ended.End.TheVariants.{Done as done, Blocked as blocked}
-use Rattle.sg_multi.specs.sg_sim.sg_script.declared.multi.MultiCall.{MultiCall}
 use Rattle.sg_multi.specs.sg_sim.sg_script.declared.multi.MultiScript.{MultiScript}
-use Rattle.sg_multi.specs.Calls.{IsCallOf, multi_callers, multi_calls}
+use Rattle.sg_multi.specs.Calls.{multi_callers, multi_calls}
 use Rattle.sg_multi.specs.Merged.{MultiEntry, entries_at, own_in}
+use Rattle.sg_multi.specs.SeveralServices.{multi_call_after}
 use Rattle.sg_multi.specs.declared.ended.MultiEnd.{MultiEnd}
 use Rattle.sg_multi.specs.declared.ended.MultiEnd.TheVariants.{Done, Blocked}
 
 -- a client waits in its next call, which its member can't answer yet
 pub record IsWaiting (members : List Stubs) (merged : List MultiEntry) (script : MultiScript) (client member : ℕ) (call : Call) : Type 0 where
-  pub written : MultiCall
-  pub next : slice_get (multi_calls script client) (length (own_in client merged)) ≡ Some written
-  pub its : IsCallOf (map (λ s. s.interface) members) merged client written member call
+  pub next : multi_call_after members script merged client (length (own_in client merged)) ≡ Some (record { member = member; call = call })
   pub stubs : Stubs
   pub there : slice_get members (member - 1) ≡ Some stubs
   pub none : answer stubs.interface stubs.ask (object_of stubs.interface.facts (entries_at member merged)) call ≡ None
