@@ -1,3 +1,4 @@
 pub mod FilePlays
 pub mod LockPlays
+pub mod SeveralPlays
 pub mod StopPlays

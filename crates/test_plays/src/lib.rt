@@ -4,14 +4,17 @@
 //! - `locks`: plays of locks
 //! - `files`: plays of files
 //! - `stops`: what plays with stops promise
+//! - `several`: plays over several services
 #![tactic(auto)]
 
 mod files;
 mod locks;
+mod several;
 mod stops;
 
 pub use files::held_reply;
 pub use locks::{four_lock_calls, own_backs, second_first, stays_blocked, wait_and_wake};
+pub use several::waits_by_number;
 pub use stops::{
     blocked_redone, setup_first, stop_after_take, stop_before_storage, stop_in_walk,
     taken_by_another, trigger_not_twice, turn_in_setup, wrong_plays,
