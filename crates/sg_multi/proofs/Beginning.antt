@@ -27,7 +27,7 @@ use Rattle.sg_multi.specs.declared.play.MemberTables.{MemberTables}
 use Rattle.sg_multi.proofs.Calling.{seat_free}
 use Rattle.sg_multi.proofs.Ending.{each_at}
 use Rattle.sg_multi.proofs.Keeping.{stubs_alike}
-use Rattle.sg_multi.proofs.Member.{member_new}
+use Rattle.sg_multi.proofs.MemberLaws.{member_new}
 use Rattle.sg_multi.proofs.Merging.{at_mapped, shown_alike, there_is, there_within}
 
 -- there is a first client, and no more than there may be

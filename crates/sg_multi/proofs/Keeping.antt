@@ -39,7 +39,7 @@ use Rattle.sg_multi.specs.sg_sim.sg_world_laws.Setting.{stubs_of}
 use Rattle.sg_multi.specs.Playable.{IsMultiPlayable}
 use Rattle.sg_multi.specs.Played.{stubs_in}
 use Rattle.sg_multi.proofs.Calling.{call_grown, few_given, first_grown, first_more, first_same, fits_at, gave_front, gave_last, gave_same, last_member, offers_alone, receipt_alone, seat_free, seat_goes_on}
-use Rattle.sg_multi.proofs.Member.{member_happened, member_stepped, member_wanted}
+use Rattle.sg_multi.proofs.MemberLaws.{member_happened, member_stepped, member_wanted}
 use Rattle.sg_multi.proofs.Merging.{last_at, length_kept, map_kept, map_set, mapped_at, merges_push, merges_same, own_more, own_same, set_cases, set_elsewhere, set_there, there_is}
 use Rattle.sg_multi.proofs.Stepping.{Answers, Enters, GoesOn, GoesQuietly, HandsOver, IsQuiet, clients_kept, goes_quietly, goes_same, is_answered}
 

@@ -6,7 +6,7 @@ pub mod Flawless
 pub mod Following
 pub mod Growing
 pub mod Keeping
-pub mod Member
+pub mod MemberLaws
 pub mod Merging
 pub mod NextTurn
 pub mod NumberingCalls

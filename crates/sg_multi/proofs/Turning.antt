@@ -54,7 +54,7 @@ use Rattle.sg_multi.proofs.Beginning.{first_client, its_interface}
 use Rattle.sg_multi.proofs.Calling.{fits_at}
 use Rattle.sg_multi.proofs.Following.{StillKeeps, follows_idle, follows_turn, happened_back, happened_never, happened_stays, offer_back, offer_never, offer_stays, still, wanted_back, wanted_never, wanted_stays}
 use Rattle.sg_multi.proofs.Keeping.{all_handed, kept_happened, kept_offered, kept_step, kept_wanted, same_members, seats_stay}
-use Rattle.sg_multi.proofs.Member.{MayBeOffered, may_be_offered}
+use Rattle.sg_multi.proofs.MemberLaws.{MayBeOffered, may_be_offered}
 use Rattle.sg_multi.proofs.Merging.{at_mapped, calls_at, calls_in, length_mapped, mapped_at, set_there, there_within}
 use Rattle.sg_multi.proofs.Stages.{seat_now}
 use Rattle.sg_multi.proofs.Own.{call_literal, desc_literal, literal_call, values_literal}
