@@ -118,7 +118,9 @@ where
         from: 1,
         count: points as usize,
     };
-    explore_row::<R, S, P>(rt, alloc, image, accepted, script, plain, alone, meter, &mut tally)?;
+    explore_row::<R, S, P>(
+        rt, alloc, image, accepted, script, plain, alone, meter, &mut tally,
+    )?;
     explore_pairs::<R, S, P>(
         rt,
         alloc,
@@ -235,7 +237,9 @@ fn add_outcomes<S: Service + Send>(
     'plays: for at in 0..row.count {
         let outcome = outcomes[at]?;
         let points = row.stops(at);
-        add_outcome::<S>(alloc, image, accepted, script, plain, points, outcome, tally)?;
+        add_outcome::<S>(
+            alloc, image, accepted, script, plain, points, outcome, tally,
+        )?;
     }
     Ok(())
 }

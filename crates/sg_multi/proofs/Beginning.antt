@@ -7,11 +7,10 @@ use Rattle.sg_facts.specs.Interface.{Declared}
 use Rattle.sg_facts.specs.Limits.{last_client}
 use Rattle.sg_facts.specs.Tables.{Compiled}
 use Rattle.sg_multi.proofs.sg_sim.Beginning.{new_seat}
-use Rattle.sg_multi.specs.Members.{kind_in, setting_by, setting_in, view_in, world_in}
+use Rattle.sg_multi.specs.Members.{kind_in, setting_in, view_in, world_in}
 use Rattle.sg_multi.specs.declared.member.Member.{Member}
 use Rattle.sg_load.proofs.Services.{none_waits}
 use Rattle.sg_multi.specs.sg_load.Services.{facts_by}
-use Rattle.sg_multi.specs.sg_load.declared.kind.ServiceKind.{ServiceKind}
 use Rattle.sg_multi.specs.sg_sim.sg_plain.Calls.{most_client}
 use Rattle.sg_multi.specs.sg_sim.sg_plain.Playing.Callers.{is_receipted}
 use Rattle.sg_multi.specs.sg_sim.sg_plain.Playing.Playable.{AreClients}
@@ -29,6 +28,7 @@ use Rattle.sg_multi.proofs.Ending.{each_at}
 use Rattle.sg_multi.proofs.Keeping.{stubs_alike}
 use Rattle.sg_multi.proofs.MemberLaws.{member_new}
 use Rattle.sg_multi.proofs.Merging.{at_mapped, shown_alike, there_is, there_within}
+use Rattle.sg_multi.proofs.Stages.{its_interface}
 
 -- there is a first client, and no more than there may be
 pub first_client : (above : ℕ) (clients : List (ℕ × List MultiCall)) → AreClients above clients → 1 ≤ most_client clients
@@ -40,11 +40,6 @@ pub last_within : (above : ℕ) (clients : List (ℕ × List MultiCall)) → Are
 last_within above [] are = omega arith
 last_within above (c ∷ []) are = are.1
 last_within above (c ∷ d ∷ clients) are = last_within c.0 (d ∷ clients) are.2
-
--- ---- services
-
-pub its_interface : (k : ServiceKind) (t : Compiled) → (setting_by k t).iface ≡ t.iface
-its_interface k t = refl
 
 -- ---- nothing given
 

@@ -4,6 +4,7 @@ use Rattle.std.specs.Prelude.{◌==◌, ◌&&◌, nat_lt, option_map, slice_get,
 use Rattle.std.specs.Option.{option_map_or}
 use Rattle.std.specs.declared.option.Option.{Option}
 use Rattle.std.proofs.lemmas.Bool.Decides.{nat_tests}
+use Rattle.sg_facts.specs.Tables.{Compiled}
 use Rattle.sg_facts.specs.sg_base.declared.call.Call.{Call}
 use Rattle.sg_facts.specs.sg_base.declared.reply.Reply.{Reply}
 use Rattle.sg_facts.specs.sg_base.declared.reply.Reply.TheVariants.{Ok, Refused}
@@ -17,7 +18,8 @@ use Rattle.sg_facts.proofs.Replaying.Found.{other_test, same_test}
 use Rattle.sg_multi.proofs.sg_sim.sg_play.Waking.Shapes.{call_is_next}
 use Rattle.sg_multi.proofs.sg_sim.sg_play.sg_plain.sg_clients.Lines.{length_map, same_or_other, seat_here, seat_there, seat_woken}
 use Rattle.sg_multi.proofs.sg_sim.sg_play.sg_world.sg_world_laws.Ending.Shapes.{seat_behind, woken}
-use Rattle.sg_multi.specs.Members.{ChangesAt, kind_in, setting_in, view_in, world_in}
+use Rattle.sg_multi.specs.Members.{ChangesAt, kind_in, setting_by, setting_in, view_in, world_in}
+use Rattle.sg_multi.specs.sg_load.declared.kind.ServiceKind.{ServiceKind}
 use Rattle.sg_multi.specs.declared.member.Member.{Member}
 use Rattle.sg_multi.specs.sg_sim.sg_plain.Calls.{ascending_from, most_client, resolved_by}
 use Rattle.sg_multi.specs.sg_sim.sg_plain.Inside.Turns.{after_call, after_guard, handed_over, served}
@@ -45,7 +47,6 @@ use Rattle.sg_multi.specs.Inside.Whose.{next_of, seat_at}
 use Rattle.sg_multi.specs.Merged.{Merges, MultiEntry, entries_at, entries_in}
 use Rattle.sg_multi.specs.Played.{stubs_in}
 use Rattle.sg_multi.specs.SeveralServices.{MemberCall, made_of, member_at, multi_workload, object_at, several_services}
-use Rattle.sg_multi.proofs.Beginning.{its_interface}
 use Rattle.sg_multi.proofs.Calling.{fits_at, offers_alone, receipt_alone}
 use Rattle.sg_multi.proofs.Keeping.{given_here, given_there, never_less, one_less}
 use Rattle.sg_multi.proofs.Merging.{at_mapped, map_kept, map_set, mapped_at, merges_push, merges_same, set_elsewhere, set_there}
@@ -110,6 +111,11 @@ is_blocked Left is = absurd (cc is)
 is_blocked Asked is = absurd (cc is)
 is_blocked Held is = absurd (cc is)
 is_blocked Receipted is = absurd (cc is)
+
+-- ---- the interface of a member
+
+pub its_interface : (k : ServiceKind) (t : Compiled) → (setting_by k t).iface ≡ t.iface
+its_interface k t = refl
 
 -- ---- what is played
 

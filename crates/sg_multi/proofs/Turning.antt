@@ -50,13 +50,13 @@ use Rattle.sg_multi.specs.declared.ended.MultiEnd.{MultiEnd}
 use Rattle.sg_multi.specs.sg_sim.sg_script.Scripts.{most_members}
 use Rattle.sg_multi.specs.sg_sim.sg_play.sg_hist.declared.ended.Ended.{Ended}
 use Rattle.sg_multi.specs.declared.running.Running.{Running}
-use Rattle.sg_multi.proofs.Beginning.{first_client, its_interface}
+use Rattle.sg_multi.proofs.Beginning.{first_client}
 use Rattle.sg_multi.proofs.Calling.{fits_at}
 use Rattle.sg_multi.proofs.Following.{StillKeeps, follows_idle, follows_turn, happened_back, happened_never, happened_stays, offer_back, offer_never, offer_stays, still, wanted_back, wanted_never, wanted_stays}
 use Rattle.sg_multi.proofs.Keeping.{all_handed, kept_happened, kept_offered, kept_step, kept_wanted, same_members, seats_stay}
 use Rattle.sg_multi.proofs.MemberLaws.{MayBeOffered, may_be_offered}
 use Rattle.sg_multi.proofs.Merging.{at_mapped, calls_at, calls_in, length_mapped, mapped_at, set_there, there_within}
-use Rattle.sg_multi.proofs.Stages.{seat_now}
+use Rattle.sg_multi.proofs.Stages.{its_interface, seat_now}
 use Rattle.sg_multi.proofs.Own.{call_literal, desc_literal, literal_call, values_literal}
 
 -- ---- lists
