@@ -1,15 +1,26 @@
-// One way to the service of a kind.
-ghost use Rattle.std.specs.Prelude.{◌≡◌, true};
+// The way to the service of a kind: one for what is done in one thread, and one for each of what is done in several.
+ghost use Rattle.std.specs.Prelude.{◌≡◌, ◌≤◌, true, IfOk};
+ghost use Rattle.sg_edge.specs.Stops.{AscendsAbove};
+ghost use Rattle.sg_explore.specs.Explored.{IsExplored};
+ghost use Rattle.sg_explore.specs.Tried.{most_paired};
+ghost use Rattle.sg_explore.specs.sg_shared.Runs.{IsRunOf};
+ghost use Rattle.sg_load.specs.Services.{answering, facts_by};
 ghost use Rattle.sg_load.specs.sg_plain.Answering.{no_query_waits};
-ghost use Rattle.sg_load.specs.Services.{answering};
+ghost use Rattle.sg_load.specs.sg_plain.Playing.Playable.{IsPlayable};
 
-use sg_facts::Service;
-use sg_load::ServiceKind;
+use sg_edge::Gate;
+use sg_explore::{Explored, Played, Progress, explore, share};
+use sg_facts::{NoMemory, Service};
+use sg_input::Script;
 use sg_load::kind::{
     EventService, LockService, MmService, RamfsService, SchedService, TimerService,
 };
+use sg_load::{Accepted, ServiceKind};
+use std::alloc::Global;
+use std::sync::Wait;
+use std::thread::Threads;
 
-/// What can be done with any service: it is written once, for a type, and done by `at_service` with the service of a kind.
+/// What can be done in one thread with any service: it is written once, for a type, and done by `at_service` with the service of a kind.
 pub trait Job: Sized {
     ghost use Rattle.sg_load.specs.sg_plain.Answering.{Answering};
 
@@ -23,9 +34,7 @@ pub trait Job: Sized {
     ghost gives: { Self → Answering → Self.Output → Type 0 };
 
     /// Does it, with the service of this type, which is booted from this image.
-    fn run<S: Service + Send>(self, image: S::Image) -> Self::Output
-    where
-        S::Image: Send + Sync,
+    fn run<S: Service>(self, image: S::Image) -> Self::Output
         requires waits { no_query_waits S.facts ≡ true }
         requires asks { asks self (record { facts = S.facts; ask = S.ask; parts = S.parts }) }
         ensures { gives self (record { facts = S.facts; ask = S.ask; parts = S.parts }) result };
@@ -43,5 +52,70 @@ pub fn at_service<J: Job>(kind: ServiceKind, job: J) -> J::Output
         ServiceKind::Files => job.run::<RamfsService>(()),
         ServiceKind::Threads => job.run::<SchedService>(()),
         ServiceKind::Timers => job.run::<TimerService>(()),
+    }
+}
+
+// ---- in several threads
+
+/// The run of a script under an accepted interface of a service, with a thread for each client, which passes the gate around each of its
+/// calls.
+pub fn share_kind<R: Threads + Wait + Sync, G: Gate>(
+    rt: &R,
+    alloc: Global,
+    kind: ServiceKind,
+    accepted: &Accepted,
+    script: Script,
+    gate: &G,
+) -> Result<Played, NoMemory>
+    requires service { accepted.now.facts ≡ facts_by kind }
+    requires playable { IsPlayable accepted.now script }
+    requires stops { AscendsAbove 0 script.stops }
+    ensures { IfOk result (IsRunOf accepted.now (answering kind) script) }
+{
+    match kind {
+        ServiceKind::Locks => share::<R, LockService, G>(rt, alloc, (), accepted, script, gate),
+        ServiceKind::Events => share::<R, EventService, G>(rt, alloc, (), accepted, script, gate),
+        ServiceKind::Pages => share::<R, MmService, G>(rt, alloc, (), accepted, script, gate),
+        ServiceKind::Files => share::<R, RamfsService, G>(rt, alloc, (), accepted, script, gate),
+        ServiceKind::Threads => share::<R, SchedService, G>(rt, alloc, (), accepted, script, gate),
+        ServiceKind::Timers => share::<R, TimerService, G>(rt, alloc, (), accepted, script, gate),
+    }
+}
+
+/// What is found by runs of a script with other stops, under an accepted interface of a service: with a stop at each point, and with each
+/// two up to a point.
+pub fn explore_kind<R: Threads + Sync, P: Progress>(
+    rt: &R,
+    alloc: Global,
+    kind: ServiceKind,
+    accepted: &Accepted,
+    script: &Script,
+    most: u64,
+    progress: &P,
+) -> Result<Explored, NoMemory>
+    requires service { accepted.now.facts ≡ facts_by kind }
+    requires playable { IsPlayable accepted.now script.now }
+    requires most { most ≤ most_paired }
+    ensures { IfOk result (IsExplored accepted.now (answering kind) script.now most) }
+{
+    match kind {
+        ServiceKind::Locks => {
+            explore::<R, LockService, P>(rt, alloc, (), accepted, script, most, progress)
+        }
+        ServiceKind::Events => {
+            explore::<R, EventService, P>(rt, alloc, (), accepted, script, most, progress)
+        }
+        ServiceKind::Pages => {
+            explore::<R, MmService, P>(rt, alloc, (), accepted, script, most, progress)
+        }
+        ServiceKind::Files => {
+            explore::<R, RamfsService, P>(rt, alloc, (), accepted, script, most, progress)
+        }
+        ServiceKind::Threads => {
+            explore::<R, SchedService, P>(rt, alloc, (), accepted, script, most, progress)
+        }
+        ServiceKind::Timers => {
+            explore::<R, TimerService, P>(rt, alloc, (), accepted, script, most, progress)
+        }
     }
 }

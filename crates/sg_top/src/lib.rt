@@ -9,8 +9,8 @@
 //! - `output`: what a command makes of its input, and what was run for it (`Ran`)
 //! - `members`: the members of a play over several services, and the play over them
 //! - `laws`: what a run prints is read to its history (`printed_runs_are_read`)
-//! - `dispatch`: what is done with the service of a kind (`Job`, `at_service`)
-//! - `services`: the services' shapes, and the runs of scripts on them
+//! - `dispatch`: the way to the service of a kind (`Job`, `at_service`), and runs in several threads
+//! - `services`: the services' shapes, and what is done with them in one thread
 //!
 //! `specs/Headline.antt` says what a play promises, and `specs/Answer.antt` what an answer promises, status by status.
 #![tactic(auto)]

@@ -22,10 +22,9 @@ ghost use Rattle.sg_top.specs.Inside.Plays.{IsPlayOf};
 ghost use Rattle.sg_top.specs.declared.command.Shows.TheVariants.{Costs as shows_costs};
 
 use crate::command::{Command, Shows};
+use crate::dispatch::{explore_kind, share_kind};
 use crate::members::{members_of, play_over};
-use crate::services::{
-    cost_kind, explore_kind, kind_of, shapes, share_kind, simulate_kind, verify_kind,
-};
+use crate::services::{cost_kind, kind_of, shapes, simulate_kind, verify_kind};
 use crate::status::Status;
 use sg_cost::cost_text;
 use sg_draw::{columns, picture};

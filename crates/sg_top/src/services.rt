@@ -1,10 +1,8 @@
-// The services: which of them an interface is of, and what is done with the service of a kind: runs of scripts in one thread or with a thread
-// for each client, the judgement of their histories, what their runs cost, and what is found by runs with other stops.
+// The services: which of them an interface is of, and what is done in one thread with the service of a kind: runs of scripts, the judgement
+// of their histories, and what their runs cost.
 ghost use Rattle.std.specs.Prelude.{◌≡◌, ◌≤◌, true, map, length, IfOk};
 ghost use Rattle.sg_cost.specs.Costs.{costs_at};
 ghost use Rattle.sg_edge.specs.Stops.{AscendsAbove};
-ghost use Rattle.sg_explore.specs.Explored.{IsExplored};
-ghost use Rattle.sg_explore.specs.Tried.{most_paired};
 ghost use Rattle.sg_facts.specs.Facts.{facts_of};
 ghost use Rattle.sg_facts.specs.Limits.{most_script_calls};
 ghost use Rattle.sg_facts.specs.Trace.{run_of};
@@ -13,22 +11,19 @@ ghost use Rattle.sg_load.specs.Services.{answering, facts_by};
 ghost use Rattle.sg_load.specs.sg_check.Shapes.{are_shapes};
 ghost use Rattle.sg_load.specs.sg_plain.Playing.Playable.{IsPlayable};
 ghost use Rattle.sg_report.specs.sg_hist.Clients.{MayBeMade};
-ghost use Rattle.sg_explore.specs.sg_shared.Runs.{IsRunInOrder, IsRunOf};
+ghost use Rattle.sg_explore.specs.sg_shared.Runs.{IsRunInOrder};
 ghost use Rattle.sg_top.specs.Answer.{services};
 ghost use Rattle.sg_top.specs.Inside.Plays.{IsPlayOf, IsPlayed, IsVerdictBy, MayBeJudged, MayBePlayed};
 
 use crate::dispatch::{Job, at_service};
 use sg_cost::{Costs, costs_of};
-use sg_edge::Gate;
-use sg_explore::{Explored, Played, Progress, explore, share, simulate};
+use sg_explore::{Played, simulate};
 use sg_facts::{Interface, NoMemory, Service, Shape, Tables};
 use sg_input::{History, Script};
 use sg_load::{Accepted, ServiceKind};
 use sg_report::Ended;
 use sg_verify::{Verdict, verify};
 use std::alloc::Global;
-use std::sync::Wait;
-use std::thread::Threads;
 
 /// The services whose interfaces may be accepted.
 pub fn shapes() -> [Shape; 6]
@@ -49,7 +44,7 @@ pub fn kind_of(iface: &Interface) -> ServiceKind
     }
 }
 
-// ---- in one thread
+// ---- a run
 
 // A run of a script in one thread.
 #[derive(Drop)]
@@ -66,10 +61,7 @@ impl Job for Simulate<'_> {
 
     ghost gives = { λ job service result. IfOk result (IsRunInOrder job.accepted.now service job.script) };
 
-    fn run<S: Service + Send>(self, image: S::Image) -> Result<Played, NoMemory>
-    where
-        S::Image: Send + Sync,
-    {
+    fn run<S: Service>(self, image: S::Image) -> Result<Played, NoMemory> {
         simulate::<S>(self.alloc, image, self.accepted, self.script)
     }
 }
@@ -94,128 +86,6 @@ pub fn simulate_kind(
     at_service(kind, job)
 }
 
-// ---- in threads
-
-// A run of a script with a thread for each client.
-#[derive(Drop)]
-struct Share<'a, R, G> {
-    rt: &'a R,
-    alloc: Global,
-    accepted: &'a Accepted,
-    script: Script,
-    gate: &'a G,
-}
-
-impl<R: Threads + Wait + Sync, G: Gate> Job for Share<'_, R, G> {
-    type Output = Result<Played, NoMemory>;
-
-    ghost asks = { λ job service. MayBePlayed job.accepted.now service job.script };
-
-    ghost gives = { λ job service result. IfOk result (IsRunOf job.accepted.now service job.script) };
-
-    fn run<S: Service + Send>(self, image: S::Image) -> Result<Played, NoMemory>
-    where
-        S::Image: Send + Sync,
-    {
-        share::<R, S, G>(
-            self.rt,
-            self.alloc,
-            image,
-            self.accepted,
-            self.script,
-            self.gate,
-        )
-    }
-}
-
-/// The run of a script under an accepted interface of a service, with a thread for each client, which passes the gate around each of its
-/// calls.
-pub fn share_kind<R: Threads + Wait + Sync, G: Gate>(
-    rt: &R,
-    alloc: Global,
-    kind: ServiceKind,
-    accepted: &Accepted,
-    script: Script,
-    gate: &G,
-) -> Result<Played, NoMemory>
-    requires service { accepted.now.facts ≡ facts_by kind }
-    requires playable { IsPlayable accepted.now script }
-    requires stops { AscendsAbove 0 script.stops }
-    ensures { IfOk result (IsRunOf accepted.now (answering kind) script) }
-{
-    let job = Share {
-        rt,
-        alloc,
-        accepted,
-        script,
-        gate,
-    };
-    at_service(kind, job)
-}
-
-// ---- with other stops
-
-// Runs of a script with other stops.
-#[derive(Drop)]
-struct Explore<'a, R, P> {
-    rt: &'a R,
-    alloc: Global,
-    accepted: &'a Accepted,
-    script: &'a Script,
-    most: u64,
-    progress: &'a P,
-}
-
-impl<R: Threads + Sync, P: Progress> Job for Explore<'_, R, P> {
-    type Output = Result<Explored, NoMemory>;
-
-    ghost asks = { λ job service. (job.accepted.now.facts ≡ service.facts) × IsPlayable job.accepted.now job.script.now × (job.most ≤ most_paired) };
-
-    ghost gives = { λ job service result. IfOk result (IsExplored job.accepted.now service job.script.now job.most) };
-
-    fn run<S: Service + Send>(self, image: S::Image) -> Result<Explored, NoMemory>
-    where
-        S::Image: Send + Sync,
-    {
-        explore::<R, S, P>(
-            self.rt,
-            self.alloc,
-            image,
-            self.accepted,
-            self.script,
-            self.most,
-            self.progress,
-        )
-    }
-}
-
-/// What is found by runs of a script with other stops, under an accepted interface of a service: with a stop at each point, and with each
-/// two up to a point.
-pub fn explore_kind<R: Threads + Sync, P: Progress>(
-    rt: &R,
-    alloc: Global,
-    kind: ServiceKind,
-    accepted: &Accepted,
-    script: &Script,
-    most: u64,
-    progress: &P,
-) -> Result<Explored, NoMemory>
-    requires service { accepted.now.facts ≡ facts_by kind }
-    requires playable { IsPlayable accepted.now script.now }
-    requires most { most ≤ most_paired }
-    ensures { IfOk result (IsExplored accepted.now (answering kind) script.now most) }
-{
-    let job = Explore {
-        rt,
-        alloc,
-        accepted,
-        script,
-        most,
-        progress,
-    };
-    at_service(kind, job)
-}
-
 // ---- a history
 
 // What is said of a history.
@@ -233,10 +103,7 @@ impl Job for Verify<'_> {
 
     ghost gives = { λ job service result. IfOk result (IsVerdictBy job.tables.now.iface service job.history.now.items) };
 
-    fn run<S: Service + Send>(self, image: S::Image) -> Result<Verdict, NoMemory>
-    where
-        S::Image: Send + Sync,
-    {
+    fn run<S: Service>(self, image: S::Image) -> Result<Verdict, NoMemory> {
         verify_run::<S>(self.alloc, image, self.tables, self.history)
     }
 }
@@ -295,10 +162,7 @@ impl Job for Cost<'_> {
     ghost gives = { λ job service result.
         IfOk result (λ costs. costs ≡ costs_at job.tables.now.iface job.tables.now.walks job.ended.now.history.items (run_of job.ended.now.trace)) };
 
-    fn run<S: Service + Send>(self, _image: S::Image) -> Result<Costs, NoMemory>
-    where
-        S::Image: Send + Sync,
-    {
+    fn run<S: Service>(self, _image: S::Image) -> Result<Costs, NoMemory> {
         cost_run::<S>(self.alloc, self.tables, self.ended)
     }
 }
