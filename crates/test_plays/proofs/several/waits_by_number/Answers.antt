@@ -6,7 +6,7 @@ use Rattle.sg_multi.specs.SeveralServices.{MemberCall}
 use Rattle.test_recovery.specs.LockRuns.{lock_stubs}
 use Rattle.test_plays.proofs.several.waits_by_number.Goals as goal
 
-number_in : Option MemberCall → ℕ
+abbrev number_in : Option MemberCall → ℕ
 number_in call = option_map_or (λ (c : MemberCall). c.call.seq) call 0
 
 pub returns-clause-waits : goal.returns-clause-waits
