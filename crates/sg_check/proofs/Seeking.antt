@@ -10,7 +10,7 @@ use Rattle.sg_facts.specs.declared.shape.Effect.{Effect}
 use Rattle.sg_facts.specs.Facts.{Field, fun_at}
 use Rattle.sg_facts.specs.Fields.{number_of}
 use Rattle.sg_facts.specs.Interface.{Declared}
-use Rattle.sg_facts.specs.Walks.{IsReachable, Mark, Spot, made, marks_after, moved, restores, restores_fields, spot_from, unset}
+use Rattle.sg_facts.specs.Walks.{IsReachable, FieldMark, Spot, made, marks_after, moved, restores, restores_fields, spot_from, unset}
 use Rattle.sg_facts.specs.Inside.Walking.{first_spot, may_begin, may_go_on, next_spot, none_set, restores_at, restores_field}
 use Rattle.sg_walk.specs.declared.place.Triple.{Triple}
 use Rattle.std.proofs.lemmas.Option.{slice_get-get_or}
@@ -104,7 +104,7 @@ module _ (triples : List Triple) (k : ℕ) (d : Triple) (within : k < length tri
 
 -- ---- sets of fields are as long as rows
 
-length-marked : (effects : List (ℕ × Effect)) (marks : List Mark) → length (marks_after effects marks) ≡ length marks
+length-marked : (effects : List (ℕ × Effect)) (marks : List FieldMark) → length (marks_after effects marks) ≡ length marks
 length-marked [] marks = refl
 length-marked (e ∷ effects) marks = length-marked effects _ ∙ length-set marks e.0 _
 
@@ -116,7 +116,7 @@ length-unset : (fields : List Field) → length (map (λ f. unset) fields) ≡ l
 length-unset [] = refl
 length-unset (f ∷ fields) = ap suc (length-unset fields)
 
-length-restored : (marks : List Mark) (set : List Bool) → restores_fields marks set ≡ true → length set ≡ length marks
+length-restored : (marks : List FieldMark) (set : List Bool) → restores_fields marks set ≡ true → length set ≡ length marks
 length-restored [] [] is = refl
 length-restored [] (b ∷ set) is = absurd (cc is)
 length-restored (m ∷ marks) [] is = absurd (cc is)

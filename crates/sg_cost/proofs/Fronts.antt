@@ -5,8 +5,8 @@ use Rattle.std.specs.List.{list_all, list_any}
 use Rattle.std.proofs.lemmas.Bool.Decides.{nat_tests}
 use Rattle.std.proofs.lemmas.List.{take-append-drop}
 use Rattle.std.proofs.lemmas.List.Elements.{filter-append}
-use Rattle.sg_cost.proofs.Few.Lists.{any_reverse, both_true, find_behind, last_of, none_all}
-use Rattle.sg_cost.proofs.Few.Openings.{none_opens}
+use Rattle.sg_cost.proofs.Few.Lists.{any_reverse, both_true, find_after, last_of, none_all}
+use Rattle.sg_cost.proofs.Few.Openings.{no_earlier, none_opens}
 use Rattle.sg_cost.proofs.Few.Places.{item_at, items_append, last_boot as last_having, none_in, place_at}
 use Rattle.sg_cost.proofs.LastBoots.{StandsLater, counts_stands, stands_later}
 use Rattle.sg_cost.specs.Costs.{opening}
@@ -22,20 +22,20 @@ use Rattle.sg_facts.specs.sg_base.Lists.{Each, When}
 use Rattle.sg_facts.specs.sg_base.declared.reply.Reply.{Reply}
 use Rattle.sg_facts.specs.sg_base.declared.reply.Reply.TheVariants.{Ok, Refused}
 use Rattle.sg_report.specs.sg_hist.Reading.{Position, is_by_guard, is_item_of, item_of, items_of, places_of}
-use Rattle.sg_report.specs.sg_hist.Recovered.{AreInBoots, start_of}
+use Rattle.sg_report.specs.sg_hist.Recovered.{AreInBoots, start_after, start_of}
 use Rattle.sg_report.specs.sg_hist.Inside.Parts.{GivesEntry, HasItem, boot_start}
 use Rattle.sg_world_laws.proofs.sg_recovery_laws.Lists.{each_split}
 
 -- the entries after some others are in boots too
-in_boots_after : (run : Run) (low : ℕ) (xs ys : List Entry) → AreInBoots run low (xs ++ ys) → (from : ℕ) × AreInBoots run from ys
-in_boots_after run low [] ys are = (low, are)
-in_boots_after run low (e ∷ xs) ys are = in_boots_after run (start_of run e low) xs ys are.1
+in_boots_after : (facts : Facts) (run : Run) (low : ℕ) (xs ys : List Entry) → AreInBoots facts run low (xs ++ ys) → (from : ℕ) × AreInBoots facts run from ys
+in_boots_after facts run low [] ys are = (low, are)
+in_boots_after facts run low (e ∷ xs) ys are = in_boots_after facts run (start_after facts run e low) xs ys are.1
 
 -- where no item is an entry's, it has no place
 no_item : (run : Run) (e : Entry) → list_any (is_item_of e) (items_of run.boots) ≡ false → item_of run e ≡ None
 no_item run e none =
     ap (find (λ p. is_item_of e p.item)) (sym (append-nil (reverse (places_of run))))
-    ∙ find_behind (λ p. is_item_of e p.item) (reverse (places_of run)) [] (any_reverse (λ p. is_item_of e p.item) (places_of run) ∙ none_in (is_item_of e) [] run.boots none)
+    ∙ find_after (λ p. is_item_of e p.item) (reverse (places_of run)) [] (any_reverse (λ p. is_item_of e p.item) (places_of run) ∙ none_in (is_item_of e) [] run.boots none)
 
 -- entries of which each counts, or is a refusal
 module _ (facts : Facts) (test : Entry → Bool) (kept : List ((ℕ × ℕ) × ℕ)) (first : ℕ) (stands : (e : Entry) → is_by_guard e.reply ≡ false → is_over kept first e ≡ true → ((code : _) → e.reply ≢ Refused code) → test e ≡ true) where
@@ -117,11 +117,11 @@ module _ (facts : Facts) (history : List Entry) (run : Run) (in_run : AreInRun f
               absurd (subst (GivesEntry facts history e) (no_item run e nothing) gives)
 
   -- after the first that doesn't count none stands before the boot
-  none_after : (low : ℕ) (es : List Entry) → Each (HasItem facts history run) es → AreInBoots run low es → ((e : Entry) (rest : List Entry) → es ≡ e ∷ rest → is_over kept (length before) e ≡ false) → filter opens es ≡ []
+  none_after : (low : ℕ) (es : List Entry) → Each (HasItem facts history run) es → AreInBoots facts run low es → ((e : Entry) (rest : List Entry) → es ≡ e ∷ rest → is_over kept (length before) e ≡ false) → filter opens es ≡ []
   none_after low [] has are next = refl
   none_after low (e ∷ es) has are next =
       let c = comes_after e has.0 (next e es refl) in
-      ap (λ t. cond t (e ∷ filter opens es) (filter opens es)) c.not_before ∙ none_opens run before b later boots (start_of run e low) es (c.starts low) are.1
+      ap (λ t. cond t (e ∷ filter opens es) (filter opens es)) c.not_before ∙ none_opens run before b later boots facts (start_after facts run e low) es (let starts = c.starts low in let more = no_earlier facts run e low in omega (arith, starts, more)) are.1
 
   reads : (xs : List Entry) (n : ℕ) (e : Entry) (rest : List Entry) → drop n xs ≡ e ∷ rest → slice_get xs n ≡ Some e
   reads [] zero e rest is = absurd (cc is)
@@ -134,7 +134,7 @@ module _ (facts : Facts) (history : List Entry) (run : Run) (in_run : AreInRun f
       → opening facts history before (b ∷ later) ≡ object_of facts (take place history)
   front_opens place over next =
       let split : take place history ++ drop place history ≡ history = take-append-drop place history in
-      let rest = in_boots_after run 0 (take place history) (drop place history) (subst (AreInBoots run 0) (sym split) in_run.held) in
+      let rest = in_boots_after facts run 0 (take place history) (drop place history) (subst (AreInBoots facts run 0) (sym split) in_run.held) in
       let has = (each_split (HasItem facts history run) (take place history) (drop place history) (subst (Each (HasItem facts history run)) (sym split) in_run.items)).1 in
       let none : filter opens (drop place history) ≡ [] = none_after rest.0 (drop place history) has rest.1 (λ e es is. next e (reads history place e es is)) in
       ap (λ h. object_of facts (filter opens h)) (sym split)

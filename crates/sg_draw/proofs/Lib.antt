@@ -1,7 +1,6 @@
 -- Lemmas of pictures.
-pub mod Pieces
-pub mod Plain
 pub mod Documents
+pub mod Heads
 pub mod Lines
 pub mod Kept
 pub mod More

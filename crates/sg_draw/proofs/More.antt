@@ -1,5 +1,5 @@
 -- Rows and their labels, one after the other.
-use Rattle.std.proofs.Common.{◌≡◌, ℕ, ◌+◌, ◌<◌, List, [], ◌∷◌, ◌++◌, Some, length, map, sym, ◌∙◌, ap, append_assoc, take, arith}
+use Rattle.std.proofs.Common.{◌≡◌, ℕ, ◌+◌, ◌<◌, List, [], ◌∷◌, ◌++◌, Some, length, map, sym, ◌∙◌, ap, append-nil, append_assoc, take, arith}
 use Rattle.std.specs.Prelude.{codes, slice_get, slice_index_or}
 use Rattle.std.specs.Fmt.{decimal}
 use Rattle.std.proofs.lemmas.List.{map-append, take_more}
@@ -7,7 +7,6 @@ use Rattle.sg_facts.proofs.Places.{take_next}
 use Rattle.sg_facts.specs.Facts.{Facts}
 use Rattle.sg_facts.specs.Trace.{Boot}
 use Rattle.sg_facts.specs.declared.entry.Entry.{Entry}
-use Rattle.sg_draw.proofs.Pieces.{append_nil}
 use Rattle.sg_draw.specs.Labels.{label_of, labels_from}
 use Rattle.sg_draw.specs.Inside.Rows.{labels_in, stop_labels}
 use Rattle.sg_draw.specs.declared.rows.Row.{Row}
@@ -35,7 +34,7 @@ boot_labels facts history number b = (codes "boot " ++ decimal number) ∷ map (
 -- the labels of one boot more
 pub labels_more : (facts : Facts) (history : List Entry) (number : ℕ) (bs : List Boot) (b : Boot)
     → labels_from facts history number (bs ++ b ∷ []) ≡ labels_from facts history number bs ++ boot_labels facts history (number + length bs) b
-labels_more facts history number [] b = append_nil (boot_labels facts history number b) ∙ ap (λ n. boot_labels facts history n b) (let same : number ≡ number + 0 = omega arith in same)
+labels_more facts history number [] b = append-nil (boot_labels facts history number b) ∙ ap (λ n. boot_labels facts history n b) (let same : number ≡ number + 0 = omega arith in same)
 labels_more facts history number (x ∷ bs) b =
     let same : number + 1 + length bs ≡ number + length (x ∷ bs) = omega arith in
     ap (λ v. boot_labels facts history number x ++ v) (labels_more facts history (number + 1) bs b ∙ ap (λ n. labels_from facts history (number + 1) bs ++ boot_labels facts history n b) same)

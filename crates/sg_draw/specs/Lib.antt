@@ -1,3 +1,4 @@
+pub mod Documents
 pub mod Inside
 pub mod Labels
 pub mod Pictures

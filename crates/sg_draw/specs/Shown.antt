@@ -1,8 +1,7 @@
--- How texts stand in a picture, and what a document shows.
-use Rattle.std.specs.Prelude.{ℕ, ◌/◌, ◌%◌, ◌==◌, Bool, false, ◌&&◌, if◌then◌else◌, nat_eq, nat_le, List, [], ◌∷◌, None, Some, codes}
+-- How texts stand in a picture.
+use Rattle.std.specs.Prelude.{ℕ, ◌/◌, ◌%◌, ◌==◌, Bool, false, ◌&&◌, if◌then◌else◌, nat_le, List, [], ◌∷◌, codes}
 use Rattle.std.specs.Fmt.{digit_glyph}
-use Rattle.std.specs.List.{after_first, filter_map, flat_map, slice_split, starts_with}
-use Rattle.std.specs.declared.option.Option.{Option}
+use Rattle.std.specs.List.{flat_map, list_any}
 
 -- whether a byte is printable ASCII
 abbrev pub is_printable : ℕ → Bool
@@ -25,10 +24,6 @@ escaped_byte b =
 abbrev pub escaped : List ℕ → List ℕ
 escaped bytes = flat_map escaped_byte bytes
 
--- what a piece of a document between two `<` shows: where it begins with `text`, what stands after its first `>`, and else nothing
-abbrev pub shown_in : List ℕ → Option (List ℕ)
-shown_in piece = if starts_with nat_eq piece (codes "text") then Some (after_first (λ b. b == 62) piece) else None
-
--- the texts that a document shows, in order
-abbrev pub shown_texts : List ℕ → List (List ℕ)
-shown_texts document = filter_map shown_in (slice_split (λ b. b == 60) document)
+-- whether a byte is one of these
+abbrev pub is_one_of : List ℕ → ℕ → Bool
+is_one_of bytes b = list_any (λ other. other == b) bytes

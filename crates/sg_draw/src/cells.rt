@@ -1,6 +1,6 @@
 // The marks of lines in columns.
-ghost use Rattle.std.specs.Prelude.{◌≡◌, ◌*◌, ◌∷◌, [], IfOk, OnOk, length};
-ghost use Rattle.sg_draw.specs.Pictures.{marks_width};
+ghost use Rattle.std.specs.Prelude.{◌≡◌, ◌*◌, ◌++◌, IfOk, OnOk, codes, length, slice_index_or, take};
+ghost use Rattle.sg_draw.specs.Pictures.{client_name, column_heads, marks_width};
 ghost use Rattle.sg_draw.specs.Inside.Columns.{AddsMarks, IsMarks};
 
 use crate::labels::client_label;
@@ -58,7 +58,7 @@ pub(crate) fn marks_of(
 
 /// The marks of the line of heads: the names of the lanes.
 pub(crate) fn heads(alloc: Global, ends: &[(u8, End)]) -> Result<Bytes, NoMemory>
-    ensures { IfOk result (IsMarks (marks_width (length ends.now))) }
+    ensures { IfOk result (λ lanes. lanes ≡ column_heads ends.now) }
 {
     let mut out = Bytes::new(alloc);
     'ends: for (client, _) in ends {
@@ -135,7 +135,7 @@ fn left_alone(waits: bool) -> Cell {
 
 // The name of a client in the width of a lane.
 fn push_name(alloc: Global, out: &mut Bytes, client: u8) -> Result<(), NoMemory>
-    ensures { OnOk result (AddsMarks 5 out.old out.new) }
+    ensures { OnOk result (out.new ≡ out.old ++ take 5 (client_name client ++ codes "     ")) }
 {
     let name = client_label(alloc, client)?;
     for at in 0..WIDTH {
@@ -146,11 +146,11 @@ fn push_name(alloc: Global, out: &mut Bytes, client: u8) -> Result<(), NoMemory>
 
 // The letter of a name at a place, or a blank.
 fn letter(name: &[u8], at: usize) -> u8
-    ensures { IsMarks 1 (result ∷ []) }
+    ensures { result ≡ slice_index_or name.now at 32 }
 {
     match name.get(at) {
-        Some(letter) if matches!(letter, b'!'..=b'~') => *letter,
-        _ => b' ',
+        Some(letter) => *letter,
+        None => b' ',
     }
 }
 

@@ -1,6 +1,5 @@
 // The picture of a run as a document.
 ghost use Rattle.std.specs.Prelude.{◌≡◌, ◌∷◌, [], IfOk, OnOk, map};
-ghost use Rattle.sg_draw.specs.Shown.{escaped};
 ghost use Rattle.sg_draw.specs.Pictures.{IsPictureOf, client_name, heads_of, legend, title_of};
 ghost use Rattle.sg_draw.specs.Inside.Drawing.{Begins, Draws};
 
@@ -10,7 +9,7 @@ use crate::marks::{push_rows, push_waiting};
 use crate::rows::rows_of;
 use crate::sheet::{Sheet, base};
 use crate::style::{ABOUT, GROUND, HANDS, LINES, MARKERS};
-use crate::svg::{Hand, Look, Reach, opened, push_line, push_mute, push_words};
+use crate::svg::{Hand, Look, Reach, opened, push_line, push_words};
 use crate::words::{BOOT, CALL, LOAD, STOP, WAIT, WALK};
 use sg_facts::{Bytes, Interface, NoMemory};
 use sg_report::{End, Ended};
@@ -41,11 +40,11 @@ fn begun(alloc: Global, sheet: &Sheet) -> Result<Bytes, NoMemory>
     ensures { IfOk result Begins }
 {
     let mut out = opened(alloc, sheet.width(), sheet.height())?;
-    push_mute(&mut out, ABOUT)?;
-    push_mute(&mut out, HANDS)?;
-    push_mute(&mut out, LINES)?;
-    push_mute(&mut out, MARKERS)?;
-    push_mute(&mut out, GROUND)?;
+    out.extend_from_slice(ABOUT)?;
+    out.extend_from_slice(HANDS)?;
+    out.extend_from_slice(LINES)?;
+    out.extend_from_slice(MARKERS)?;
+    out.extend_from_slice(GROUND)?;
     Ok(out)
 }
 
@@ -56,7 +55,7 @@ fn push_title(
     sheet: &Sheet,
     iface: &Interface,
 ) -> Result<(), NoMemory>
-    ensures { OnOk result (Draws out.old out.new (escaped (title_of iface.now.facts) ∷ [])) }
+    ensures { OnOk result (Draws out.old out.new (title_of iface.now.facts ∷ [])) }
 {
     let text = title(alloc, iface)?;
     push_words(
@@ -75,7 +74,7 @@ fn push_heads(
     sheet: &Sheet,
     ends: &[(u8, End)],
 ) -> Result<(), NoMemory>
-    ensures { OnOk result (Draws out.old out.new (map escaped (heads_of ends.now))) }
+    ensures { OnOk result (Draws out.old out.new (heads_of ends.now)) }
 {
     push_clients(alloc, out, sheet, ends)?;
     push_head(out, sheet, sheet.service(), b"service")
@@ -88,7 +87,7 @@ fn push_clients(
     sheet: &Sheet,
     ends: &[(u8, End)],
 ) -> Result<(), NoMemory>
-    ensures { OnOk result (Draws out.old out.new (map (λ e. escaped (client_name e.0)) ends.now)) }
+    ensures { OnOk result (Draws out.old out.new (map (λ e. client_name e.0) ends.now)) }
 {
     'ends: for (at, end) in ends.iter().enumerate() {
         let name = client_label(alloc, end.0)?;
@@ -99,7 +98,7 @@ fn push_clients(
 
 // The head of a lane, and its line.
 fn push_head(out: &mut Bytes, sheet: &Sheet, x: u64, name: &[u8]) -> Result<(), NoMemory>
-    ensures { OnOk result (Draws out.old out.new (escaped name.now ∷ [])) }
+    ensures { OnOk result (Draws out.old out.new (name.now ∷ [])) }
 {
     push_line(out, Look::Lane, x, sheet.top(), Reach::Down(sheet.bottom()))?;
     push_words(out, Hand::Head, x, base(sheet.heads()), name)
@@ -107,7 +106,7 @@ fn push_head(out: &mut Bytes, sheet: &Sheet, x: u64, name: &[u8]) -> Result<(), 
 
 // The legend: what the marks stand for.
 fn push_legend(out: &mut Bytes, sheet: &Sheet) -> Result<(), NoMemory>
-    ensures { OnOk result (Draws out.old out.new (map escaped legend)) }
+    ensures { OnOk result (Draws out.old out.new legend) }
 {
     push_sample(out, sheet, 0, Look::Call, CALL)?;
     push_sample(out, sheet, 1, Look::Walk, WALK)?;
@@ -125,7 +124,7 @@ fn push_sample(
     look: Look,
     words: &[u8],
 ) -> Result<(), NoMemory>
-    ensures { OnOk result (Draws out.old out.new (escaped words.now ∷ [])) }
+    ensures { OnOk result (Draws out.old out.new (words.now ∷ [])) }
 {
     let y = sheet.legend(at);
     push_line(

@@ -7,7 +7,8 @@
 //! - `lanes`: the clients' lanes, and who waits in them
 //! - `visible`: bytes as they are shown; `words`: what the legend says
 //!
-//! `specs/Labels.antt` says what a picture tells, `specs/Shown.antt` how texts stand in it, and `specs/Pictures.antt` what a picture is.
+//! `specs/Labels.antt` says what a picture tells, `specs/Shown.antt` how texts stand in it, `specs/Documents.antt` what a document has, and
+//! `specs/Pictures.antt` what a picture is.
 #![tactic(auto)]
 
 mod cells;

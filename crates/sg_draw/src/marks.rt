@@ -1,8 +1,7 @@
 // The lanes of a document, row by row.
-ghost use Rattle.std.specs.Prelude.{◌≡◌, ◌∷◌, [], OnOk, length};
-ghost use Rattle.sg_draw.specs.Shown.{escaped};
+ghost use Rattle.std.specs.Prelude.{[], OnOk};
 ghost use Rattle.sg_draw.specs.Inside.Drawing.{Draws};
-ghost use Rattle.sg_draw.specs.Inside.Rows.{shown_labels};
+ghost use Rattle.sg_draw.specs.Inside.Rows.{labels_in};
 
 use crate::lanes::{Lane, LaneList, lane_of, take_turn};
 use crate::rows::{Asked, Event, Row, ShownItem};
@@ -17,7 +16,7 @@ pub(crate) fn push_rows(
     lanes: &mut LaneList,
     rows: &[Row],
 ) -> Result<(), NoMemory>
-    ensures { OnOk result (Draws out.old out.new (shown_labels rows.now)) }
+    ensures { OnOk result (Draws out.old out.new (labels_in rows.now)) }
 {
     'rows: for (at, row) in rows.iter().enumerate() {
         push_event(out, sheet, lanes, at, &row.event)?;

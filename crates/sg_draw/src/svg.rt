@@ -1,10 +1,8 @@
 // The lines and texts of a document.
 ghost use Rattle.std.specs.Prelude.{◌≡◌, ◌++◌, ◌∷◌, [], IsTrue, OnOk, IfOk, codes};
 ghost use Rattle.std.specs.Fmt.{decimal};
-ghost use Rattle.sg_facts.specs.Words.{line_end};
-ghost use Rattle.std.specs.List.{list_all};
-ghost use Rattle.sg_draw.specs.Shown.{escaped};
-ghost use Rattle.sg_draw.specs.Inside.Drawing.{Draws, is_mute, is_plain, opening};
+ghost use Rattle.sg_draw.specs.Shown.{escaped, is_one_of};
+ghost use Rattle.sg_draw.specs.Inside.Drawing.{Draws, opening};
 
 use crate::visible::push_escaped;
 use sg_facts::{Bytes, NoMemory};
@@ -51,14 +49,6 @@ pub(crate) fn opened(alloc: Global, width: u64, height: u64) -> Result<Bytes, No
     Ok(out)
 }
 
-/// A part of the document that shows no text.
-pub(crate) fn push_mute(out: &mut Bytes, part: &[u8]) -> Result<(), NoMemory>
-    requires { IsTrue (is_mute part.now) }
-    ensures { OnOk result (Draws out.old out.new []) }
-{
-    out.extend_from_slice(part)
-}
-
 /// A line from a place, in a look.
 pub(crate) fn push_line(
     out: &mut Bytes,
@@ -70,8 +60,8 @@ pub(crate) fn push_line(
     ensures { OnOk result (Draws out.old out.new []) }
 {
     match reach {
-        Reach::Across(to) => write_line(out, class_of(look), x, y, b"H", to),
-        Reach::Down(to) => write_line(out, class_of(look), x, y, b"V", to),
+        Reach::Across(to) => write_line(out, class_of(look), x, y, b'H', to),
+        Reach::Down(to) => write_line(out, class_of(look), x, y, b'V', to),
     }
 }
 
@@ -83,41 +73,34 @@ pub(crate) fn push_words(
     y: u64,
     text: &[u8],
 ) -> Result<(), NoMemory>
-    ensures { OnOk result (Draws out.old out.new (escaped text.now ∷ [])) }
+    ensures { OnOk result (Draws out.old out.new (text.now ∷ [])) }
 {
     write_words(out, hand_class(hand), x, y, text)
 }
 
 // A line of a class, from a place to the right or down.
-fn write_line(
-    out: &mut Bytes,
-    class: &[u8],
-    x: u64,
-    y: u64,
-    way: &[u8],
-    to: u64,
-) -> Result<(), NoMemory>
-    ensures { OnOk result (out.new ≡ out.old ++ codes "<path class='" ++ class.now ++ codes "' d='M" ++ decimal x ++ codes " " ++ decimal y ++ way.now ++ decimal to
-        ++ codes "'/>" ++ line_end) }
+fn write_line(out: &mut Bytes, class: u8, x: u64, y: u64, way: u8, to: u64) -> Result<(), NoMemory>
+    ensures { OnOk result (out.new ≡ out.old ++ codes "<path class='" ++ class ∷ [] ++ codes "' d='M" ++ decimal x ++ codes " " ++ decimal y ++ way ∷ [] ++ decimal to
+        ++ codes "'/>\n") }
 {
     out.extend_from_slice(b"<path class='")?;
-    out.extend_from_slice(class)?;
+    out.push(class)?;
     out.extend_from_slice(b"' d='M")?;
     push_number(out, x)?;
     out.extend_from_slice(b" ")?;
     push_number(out, y)?;
-    out.extend_from_slice(way)?;
+    out.push(way)?;
     push_number(out, to)?;
     out.extend_from_slice(b"'/>\n")
 }
 
 // A text of a class at a place.
-fn write_words(out: &mut Bytes, class: &[u8], x: u64, y: u64, text: &[u8]) -> Result<(), NoMemory>
-    ensures { OnOk result (out.new ≡ out.old ++ codes "<text class='" ++ class.now ++ codes "' x='" ++ decimal x ++ codes "' y='" ++ decimal y ++ codes "'>"
-        ++ escaped text.now ++ codes "</text>" ++ line_end) }
+fn write_words(out: &mut Bytes, class: u8, x: u64, y: u64, text: &[u8]) -> Result<(), NoMemory>
+    ensures { OnOk result (out.new ≡ out.old ++ codes "<text class='" ++ class ∷ [] ++ codes "' x='" ++ decimal x ++ codes "' y='" ++ decimal y ++ codes "'>"
+        ++ escaped text.now ++ codes "</text>\n") }
 {
     out.extend_from_slice(b"<text class='")?;
-    out.extend_from_slice(class)?;
+    out.push(class)?;
     out.extend_from_slice(b"' x='")?;
     push_number(out, x)?;
     out.extend_from_slice(b"' y='")?;
@@ -128,27 +111,27 @@ fn write_words(out: &mut Bytes, class: &[u8], x: u64, y: u64, text: &[u8]) -> Re
 }
 
 // The class of a look.
-fn class_of(look: Look) -> &'static [u8]
-    ensures { IsTrue (list_all is_plain result.now) }
+fn class_of(look: Look) -> u8
+    ensures { IsTrue (is_one_of (codes "nbckfws") result) }
 {
     match look {
-        Look::Lane => b"n",
-        Look::Boot => b"b",
-        Look::Call => b"c",
-        Look::Walk => b"k",
-        Look::Load => b"f",
-        Look::Wait => b"w",
-        Look::Stop => b"s",
+        Look::Lane => b'n',
+        Look::Boot => b'b',
+        Look::Call => b'c',
+        Look::Walk => b'k',
+        Look::Load => b'f',
+        Look::Wait => b'w',
+        Look::Stop => b's',
     }
 }
 
 // The class of a hand.
-fn hand_class(hand: Hand) -> &'static [u8]
-    ensures { IsTrue (list_all is_plain result.now) }
+fn hand_class(hand: Hand) -> u8
+    ensures { IsTrue (is_one_of (codes "thl") result) }
 {
     match hand {
-        Hand::Title => b"t",
-        Hand::Head => b"h",
-        Hand::Label => b"l",
+        Hand::Title => b't',
+        Hand::Head => b'h',
+        Hand::Label => b'l',
     }
 }

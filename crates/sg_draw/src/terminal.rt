@@ -1,10 +1,8 @@
 // The picture of a run in the columns of a terminal.
-ghost use Rattle.std.specs.Prelude.{◌≡◌, ◌++◌, ◌∷◌, [], IfOk, OnOk, length, map};
-ghost use Rattle.sg_facts.specs.Words.{line_end};
-ghost use Rattle.sg_draw.specs.Shown.{visible};
-ghost use Rattle.sg_draw.specs.Pictures.{AreColumnsOf, legend, marks_width, title_of};
-ghost use Rattle.sg_draw.specs.Inside.Columns.{IsMarks, Prints};
-ghost use Rattle.sg_draw.specs.Inside.Rows.{visible_labels};
+ghost use Rattle.std.specs.Prelude.{◌≡◌, ◌++◌, ◌∷◌, [], IfOk, OnOk, length};
+ghost use Rattle.sg_draw.specs.Pictures.{AreColumnsOf, column_heads, column_line, legend, marks_width, title_of};
+ghost use Rattle.sg_draw.specs.Inside.Columns.{Prints};
+ghost use Rattle.sg_draw.specs.Inside.Rows.{labels_in};
 
 use crate::cells::{Sample, heads, marks_of, sample_marks};
 use crate::labels::title;
@@ -38,7 +36,7 @@ fn push_heading(
     iface: &Interface,
     ends: &[(u8, End)],
 ) -> Result<(), NoMemory>
-    ensures { OnOk result (Prints (marks_width (length ends.now)) out.old out.new (visible (title_of iface.now.facts) ∷ [])) }
+    ensures { OnOk result (out.new ≡ out.old ++ column_line (column_heads ends.now) (title_of iface.now.facts)) }
 {
     let marks = heads(alloc, ends)?;
     let text = title(alloc, iface)?;
@@ -52,7 +50,7 @@ fn push_lines(
     lanes: &mut LaneList,
     rows: &[Row],
 ) -> Result<(), NoMemory>
-    ensures shows { OnOk result (Prints (marks_width (length lanes.old)) out.old out.new (visible_labels rows.now)) }
+    ensures shows { OnOk result (Prints (marks_width (length lanes.old)) out.old out.new (labels_in rows.now)) }
     ensures lanes { length lanes.new ≡ length lanes.old }
 {
     'rows: for (at, row) in rows.iter().enumerate() {
@@ -64,7 +62,7 @@ fn push_lines(
 
 // The legend: what the marks stand for.
 fn push_legend(alloc: Global, out: &mut Bytes, lanes: &[Lane]) -> Result<(), NoMemory>
-    ensures { OnOk result (Prints (marks_width (length lanes.now)) out.old out.new (map visible legend)) }
+    ensures { OnOk result (Prints (marks_width (length lanes.now)) out.old out.new legend) }
 {
     push_sample(alloc, out, lanes, Sample::Asked(Asked::Call), CALL)?;
     push_sample(alloc, out, lanes, Sample::Asked(Asked::Walk), WALK)?;
@@ -82,7 +80,7 @@ fn push_sample(
     sample: Sample,
     words: &[u8],
 ) -> Result<(), NoMemory>
-    ensures { OnOk result (Prints (marks_width (length lanes.now)) out.old out.new (visible words.now ∷ [])) }
+    ensures { OnOk result (Prints (marks_width (length lanes.now)) out.old out.new (words.now ∷ [])) }
 {
     let marks = sample_marks(alloc, lanes, sample)?;
     push_line(out, marks.as_slice(), words)
@@ -90,7 +88,7 @@ fn push_sample(
 
 // A line: its marks, and a text.
 fn push_line(out: &mut Bytes, marks: &[u8], text: &[u8]) -> Result<(), NoMemory>
-    ensures { OnOk result (out.new ≡ out.old ++ marks.now ++ visible text.now ++ line_end) }
+    ensures { OnOk result (out.new ≡ out.old ++ column_line marks.now text.now) }
 {
     out.extend_from_slice(marks)?;
     push_visible(out, text)?;

@@ -7,7 +7,7 @@ use Rattle.std.specs.declared.option.Option.{Option}
 use Rattle.std.proofs.lemmas.Bool.Decides.{nat_tests}
 use Rattle.sg_entries.proofs.Flawless.{flawless_parts}
 use Rattle.sg_entries.proofs.Rewritten.{tree_flawless, tree_of, tree_stands, tree_well_formed}
-use Rattle.sg_entries.proofs.Spelt.{ended, line_printed, written}
+use Rattle.sg_entries.proofs.Spelt.{Tells, ended, line_printed, written}
 use Rattle.sg_entries.proofs.Within.{each_both}
 use Rattle.sg_entries.specs.Flaws.{flaws_from}
 use Rattle.sg_entries.specs.Inside.Flaws.{in_line, too_many_entries}
@@ -156,8 +156,8 @@ answer_fixed (good desc words bytes) = (
 )
 
 -- the line of an entry is without LF
-entry_within : (e : WrittenEntry) → IsWellFormed e → IsWithin (entry_bytes e)
-entry_within e is =
+entry_within : (shows : List ℕ → Bool) (e : WrittenEntry) → IsWellFormed shows e → IsWithin (entry_bytes e)
+entry_within shows e is =
     pieces_within 0 (entry_pieces e) is.0 (
       refl,
       (
@@ -249,30 +249,30 @@ some_left [] rest e = absurd cc
 some_left (x ∷ xs) rest e = absurd cc
 
 -- the entries that lines are those of
-record HasTrees (i : Declared) (nth : ℕ) (lines : List Spelling) (history : List Entry) : Type 0 where
+record HasTrees (shows : List ℕ → Bool) (i : Declared) (nth : ℕ) (lines : List Spelling) (history : List Entry) : Type 0 where
   entries : List WrittenEntry
-  parsed : AreEntries lines entries
+  parsed : AreEntries shows lines entries
   flawless : flaws_from i nth lines entries ≡ []
   is : history ≡ map (entry_of i) entries
 
 small : (nth : ℕ) → nth + 1 ≤ too_many_entries → nth == too_many_entries ≡ false
 small nth le = grind (arith, nat_tests, le)
 
-trees_of : (i : Declared) → HasNames i → (nth : ℕ) (lines : List Spelling) (history : List Entry) → Each IsLine lines → Each (MayBePrinted i) history → nth + length history ≤ too_many_entries
-    → flat_map ended lines ≡ flat_map (entry_line i.facts) history → HasTrees i nth lines history
-trees_of i names nth [] [] are may few e = record { entries = []; parsed = tt; flawless = refl; is = refl }
-trees_of i names nth [] (h ∷ history) are may few e = absurd cc
-trees_of i names nth (l ∷ lines) [] are may few e = absurd (some_left l.bytes (flat_map ended lines) e)
-trees_of i names nth (l ∷ lines) (h ∷ history) are may few e =
+trees_of : (shows : List ℕ → Bool) (i : Declared) → Tells shows i → HasNames i → (nth : ℕ) (lines : List Spelling) (history : List Entry) → Each IsLine lines → Each (MayBePrinted i) history → nth + length history ≤ too_many_entries
+    → flat_map ended lines ≡ flat_map (entry_line i.facts) history → HasTrees shows i nth lines history
+trees_of shows i tells names nth [] [] are may few e = record { entries = []; parsed = tt; flawless = refl; is = refl }
+trees_of shows i tells names nth [] (h ∷ history) are may few e = absurd cc
+trees_of shows i tells names nth (l ∷ lines) [] are may few e = absurd (some_left l.bytes (flat_map ended lines) e)
+trees_of shows i tells names nth (l ∷ lines) (h ∷ history) are may few e =
     let t = tree_of i h in
-    let formed = tree_well_formed i names h may.0 in
+    let formed = tree_well_formed i names h may.0 shows tells in
     let none = tree_flawless i names h may.0 nth (small nth (omega (arith, few))) in
     let stands = tree_stands i names h may.0 in
-    let printed : entry_line i.facts h ≡ entry_bytes t ++ line_end = ap (entry_line i.facts) (sym stands) ∙ line_printed i (entry_bytes t) t (formed, refl) (flawless_parts i nth t none) in
+    let printed : entry_line i.facts h ≡ entry_bytes t ++ line_end = ap (entry_line i.facts) (sym stands) ∙ line_printed shows i tells (entry_bytes t) t (formed, refl) (flawless_parts i nth t none) in
     let same : l.bytes ++ line_feed ∷ flat_map ended lines ≡ entry_bytes t ++ line_feed ∷ flat_map (entry_line i.facts) history =
     sym (append_assoc l.bytes line_end (flat_map ended lines)) ∙ e ∙ ap (λ x. x ++ flat_map (entry_line i.facts) history) printed ∙ append_assoc (entry_bytes t) line_end (flat_map (entry_line i.facts) history) in
-    let parts = cut l.bytes (entry_bytes t) (flat_map ended lines) (flat_map (entry_line i.facts) history) are.0 (entry_within t formed) same in
-    let rest = trees_of i names (nth + 1) lines history are.1 may.1 (omega (arith, few)) parts.1 in
+    let parts = cut l.bytes (entry_bytes t) (flat_map ended lines) (flat_map (entry_line i.facts) history) are.0 (entry_within shows t formed) same in
+    let rest = trees_of shows i tells names (nth + 1) lines history are.1 may.1 (omega (arith, few)) parts.1 in
     record {
       entries = t ∷ rest.entries;
       parsed = ((formed, parts.0), rest.parsed);
@@ -281,8 +281,8 @@ trees_of i names nth (l ∷ lines) (h ∷ history) are may few e =
     }
 
 -- a text that prints a history has it
-pub has_history : (i : Declared) (bytes : List ℕ) (history : List Entry) → HasNames i → PrintsHistory i bytes history → IsHistory i bytes history
-has_history i bytes history names prints =
+pub has_history : (shows : List ℕ → Bool) (i : Declared) (bytes : List ℕ) (history : List Entry) → Tells shows i → HasNames i → PrintsHistory i bytes history → IsHistory shows i bytes history
+has_history shows i bytes history tells names prints =
     let few = prints.few in
-    let trees = trees_of i names 1 (entry_lines_of bytes) history (lines_within bytes) prints.entries (omega (arith, few)) prints.lines in
+    let trees = trees_of shows i tells names 1 (entry_lines_of bytes) history (lines_within bytes) prints.entries (omega (arith, few)) prints.lines in
     (trees.entries, trees.parsed, trees.flawless, trees.is)

@@ -22,7 +22,7 @@ use Rattle.sg_entries.specs.declared.tree.WrittenEntry.{WrittenEntry}
 use Rattle.sg_lex.specs.Lexeme.{Spelling}
 use Rattle.sg_entries.specs.Inside.Classes.{is_first_digit}
 use Rattle.sg_entries.specs.Inside.Forms.{quote_byte}
-use Rattle.sg_entries.specs.Inside.Ahead.{Came, Off, front_of, behind_of, positive_len, number_len, name_len}
+use Rattle.sg_entries.specs.Inside.Ahead.{Came, Off, front_of, after_of, positive_len, number_len, name_len}
 use Rattle.sg_entries.specs.Inside.CodeWords.{code_of, begins_code}
 use Rattle.sg_entries.specs.Inside.States.{EntryState, done, first, orelse, run, listed, coded, byte, bytes, positive, number, name, text_rest, text, argument, bracketed, comma_rest, words, words_and_bytes, spaced_rest, shown_rest, given, answered, step, entry_at}
 use Rattle.sg_entries.specs.Inside.Reads.{Ahead, ended, read_from, read, LeadsOn, Ends}
@@ -190,26 +190,26 @@ number_reads k at (b ∷ bs) =
     along zero e h = e ∙ h
     along (suc n) e h = e ∙ h
 
-came_of : (s : EntryState) (k : Spelling → EntryState) (n m : ℕ) (old : Ahead) → n ≡ m → n ≢ 0 → Read s k old.at old.rest m → read s old ≡ read (k (front_of n old)) (behind_of n old)
+came_of : (s : EntryState) (k : Spelling → EntryState) (n m : ℕ) (old : Ahead) → n ≡ m → n ≢ 0 → Read s k old.at old.rest m → read s old ≡ read (k (front_of n old)) (after_of n old)
 came_of s k zero m old e p h = absurd (p refl)
 came_of s k (suc n) m old e p h = subst (Read s k old.at old.rest) (sym e) h
 
 missing_of : (s : EntryState) (k : Spelling → EntryState) (n m : ℕ) (old : Ahead) → n ≡ m → n ≡ 0 → Read s k old.at old.rest m → read s old ≡ Err (Syntax old.at)
 missing_of s k n m old e p h = subst (Read s k old.at old.rest) (sym e ∙ p) h
 
-pub positive_came : (k : Spelling → EntryState) (n : ℕ) (old : Ahead) → n ≡ positive_len old.rest → n ≢ 0 → read (positive k) old ≡ read (k (front_of n old)) (behind_of n old)
+pub positive_came : (k : Spelling → EntryState) (n : ℕ) (old : Ahead) → n ≡ positive_len old.rest → n ≢ 0 → read (positive k) old ≡ read (k (front_of n old)) (after_of n old)
 positive_came k n old e p = came_of (positive k) k n (positive_len old.rest) old e p (positive_reads k old.at old.rest)
 
 pub positive_missing : (k : Spelling → EntryState) (n : ℕ) (old : Ahead) → n ≡ positive_len old.rest → n ≡ 0 → read (positive k) old ≡ Err (Syntax old.at)
 positive_missing k n old e p = missing_of (positive k) k n (positive_len old.rest) old e p (positive_reads k old.at old.rest)
 
-pub number_came : (k : Spelling → EntryState) (n : ℕ) (old : Ahead) → n ≡ number_len old.rest → n ≢ 0 → read (number k) old ≡ read (k (front_of n old)) (behind_of n old)
+pub number_came : (k : Spelling → EntryState) (n : ℕ) (old : Ahead) → n ≡ number_len old.rest → n ≢ 0 → read (number k) old ≡ read (k (front_of n old)) (after_of n old)
 number_came k n old e p = came_of (number k) k n (number_len old.rest) old e p (number_reads k old.at old.rest)
 
 pub number_missing : (k : Spelling → EntryState) (n : ℕ) (old : Ahead) → n ≡ number_len old.rest → n ≡ 0 → read (number k) old ≡ Err (Syntax old.at)
 number_missing k n old e p = missing_of (number k) k n (number_len old.rest) old e p (number_reads k old.at old.rest)
 
-pub name_came : (k : Spelling → EntryState) (n : ℕ) (old : Ahead) → n ≡ name_len old.rest → n ≢ 0 → read (name k) old ≡ read (k (front_of n old)) (behind_of n old)
+pub name_came : (k : Spelling → EntryState) (n : ℕ) (old : Ahead) → n ≡ name_len old.rest → n ≢ 0 → read (name k) old ≡ read (k (front_of n old)) (after_of n old)
 name_came k n old e p = came_of (name k) k n (name_len old.rest) old e p (name_reads k old.at old.rest)
 
 pub name_missing : (k : Spelling → EntryState) (n : ℕ) (old : Ahead) → n ≡ name_len old.rest → n ≡ 0 → read (name k) old ≡ Err (Syntax old.at)
@@ -219,7 +219,7 @@ name_missing k n old e p = missing_of (name k) k n (name_len old.rest) old e p (
 
 -- the bytes between quotes
 pub text_came : (k : Spelling → EntryState) (n : ℕ) (old : Ahead) → n ≡ prefix_len is_text_byte old.rest
-    → read (text_rest old.at k) old ≡ read (byte quote_byte (k (front_of n old))) (behind_of n old)
+    → read (text_rest old.at k) old ≡ read (byte quote_byte (k (front_of n old))) (after_of n old)
 text_came k n old e =
     ran is_text_byte old.at old.rest [] old.at (λ t. byte quote_byte (k t))
     ∙ ap (λ m. read_from (byte quote_byte (k (record { bytes = take m old.rest; at = old.at }))) (old.at + m) (drop m old.rest)) (sym e)

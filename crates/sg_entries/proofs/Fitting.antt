@@ -15,7 +15,7 @@ use Rattle.sg_entries.specs.declared.tree.WrittenAnswer.TheVariants.{Refused, Ok
 use Rattle.sg_entries.specs.declared.tree.WrittenEntry.{WrittenEntry}
 use Rattle.sg_lex.specs.Lexeme.{Spelling}
 use Rattle.sg_facts.specs.sg_base.Codes.{code_name}
-use Rattle.sg_entries.specs.Inside.Forms.{quote_byte, shows_bytes}
+use Rattle.sg_entries.specs.Inside.Forms.{quote_byte}
 use Rattle.sg_entries.specs.Inside.CodeWords.{begins_code}
 use Rattle.sg_entries.specs.Inside.States.{EntryState, done, first, orelse, run, listed, coded, byte, bytes, positive, number, name, text_rest, text, argument, bracketed, comma_rest, words, words_and_bytes, given, answered, call_rest, client_rest, entry_start, step}
 use Rattle.sg_entries.proofs.Basics.{none_some, if_else, chosen, not_both}
@@ -152,24 +152,24 @@ fits_answered shown k =
 
 -- ---- entries
 
-fits_call : (client seq function : Spelling) → Fits (call_rest client seq function)
-fits_call client seq function =
+fits_call : (shows : List ℕ → Bool) (client seq function : Spelling) → Fits (call_rest shows client seq function)
+fits_call shows client seq function =
     let end : List WrittenArg → WrittenAnswer → WrittenEntry =
     λ args answer. record { client = client; seq = seq; name = function; args = args; answer = answer } in
-    let go : List WrittenArg → EntryState = λ args. bytes (codes " = ") (answered (shows_bytes function.bytes) (end args)) in
-    fits_byte open_bracket_byte (bracketed go) (fits_bracketed go (λ args. fits_bytes (codes " = ") (answered (shows_bytes function.bytes) (end args)) (fits_answered (shows_bytes function.bytes) (end args))))
+    let go : List WrittenArg → EntryState = λ args. bytes (codes " = ") (answered (shows function.bytes) (end args)) in
+    fits_byte open_bracket_byte (bracketed go) (fits_bracketed go (λ args. fits_bytes (codes " = ") (answered (shows function.bytes) (end args)) (fits_answered (shows function.bytes) (end args))))
 
-fits_client : (client : Spelling) → Fits (client_rest client)
-fits_client client =
-    fits_byte 0x2E (number (λ seq. byte 0x20 (name (call_rest client seq))))
-    (fits_number (λ seq. byte 0x20 (name (call_rest client seq)))
+fits_client : (shows : List ℕ → Bool) (client : Spelling) → Fits (client_rest shows client)
+fits_client shows client =
+    fits_byte 0x2E (number (λ seq. byte 0x20 (name (call_rest shows client seq))))
+    (fits_number (λ seq. byte 0x20 (name (call_rest shows client seq)))
     (λ seq. (
-      fits_byte 0x20 (name (call_rest client seq)) (fits_name (call_rest client seq) (λ function. (fits_call client seq function, blind_byte is_in_word open_bracket_byte _ refl))),
+      fits_byte 0x20 (name (call_rest shows client seq)) (fits_name (call_rest shows client seq) (λ function. (fits_call shows client seq function, blind_byte is_in_word open_bracket_byte _ refl))),
       blind_byte is_ascii_digit 0x20 _ refl,
     )))
 
-pub fits_start : Fits entry_start
-fits_start = fits_byte 0x63 (number client_rest) (fits_number client_rest (λ client. (fits_client client, blind_byte is_ascii_digit 0x2E _ refl)))
+pub fits_start : (shows : List ℕ → Bool) → Fits (entry_start shows)
+fits_start shows = fits_byte 0x63 (number (client_rest shows)) (fits_number (client_rest shows) (λ client. (fits_client shows client, blind_byte is_ascii_digit 0x2E _ refl)))
 
 -- ---- after a step
 

@@ -151,6 +151,7 @@ pub record HasFun (i : Declared) (e : WrittenEntry) : Type 0 where
   pub first : 1 ≤ fun_of i e
   pub last : fun_of i e ≤ length i.facts.funs
   pub declared : declares i (fun_of i e) ≡ true
+  pub is : declared_fun i e.name.bytes ≡ Some (fun_of i e)
   pub called : (fun_at i.facts.funs (fun_of i e)).name ≡ e.name.bytes
   pub fits : values_fit (takes_id i.facts (fun_of i e)) (fun_at i.facts.funs (fun_of i e)).kinds (map value_of e.args) ≡ true
 
@@ -168,6 +169,7 @@ has_fun i e none = at (declared_fun i e.name.bytes) refl none
           first = omega (arith, own, first);
           last = omega (arith, own, last);
           declared = subst (λ v. declares i v ≡ true) (sym own) l.declared;
+          is = is ∙ ap Some (sym own);
           called = ap (λ v. (fun_at i.facts.funs v).name) own ∙ ap (λ g. g.name) (sym (fun_get i.facts.funs f first)) ∙ l.called;
           fits = subst (λ v. values_fit (takes_id i.facts v) (fun_at i.facts.funs v).kinds (map value_of e.args) ≡ true) (sym own) (is_true _ (not_flawed _ BadArgs e.name.at none));
         }
@@ -220,46 +222,46 @@ made_of i e f =
 -- ---- the history
 
 -- a fact of each entry without a flaw holds of each entry of a history
-pub each_entry : (i : Declared) (P : Entry → Type 0) → ((line : List ℕ) (e : WrittenEntry) → EntryParses line (Ok e) → IsFlawless i e → P (entry_of i e)) → (nth : ℕ) (lines : List Spelling) (entries : List WrittenEntry)
-    → AreEntries lines entries → flaws_from i nth lines entries ≡ [] → Each P (map (entry_of i) entries)
-each_entry i P holds nth [] [] are none = tt
-each_entry i P holds nth [] (e ∷ entries) are none = absurd are
-each_entry i P holds nth (l ∷ lines) [] are none = absurd are
-each_entry i P holds nth (l ∷ lines) (e ∷ entries) are none =
+pub each_entry : (shows : List ℕ → Bool) (i : Declared) (P : Entry → Type 0) → ((line : List ℕ) (e : WrittenEntry) → EntryParses shows line (Ok e) → IsFlawless i e → P (entry_of i e)) → (nth : ℕ) (lines : List Spelling) (entries : List WrittenEntry)
+    → AreEntries shows lines entries → flaws_from i nth lines entries ≡ [] → Each P (map (entry_of i) entries)
+each_entry shows i P holds nth [] [] are none = tt
+each_entry shows i P holds nth [] (e ∷ entries) are none = absurd are
+each_entry shows i P holds nth (l ∷ lines) [] are none = absurd are
+each_entry shows i P holds nth (l ∷ lines) (e ∷ entries) are none =
     let own : entry_flaws i nth e ≡ [] = unmapped (in_line l) (entry_flaws i nth e) (front_none (map (in_line l) (entry_flaws i nth e)) (flaws_from i (nth + 1) lines entries) none) in
     let later = back_none (map (in_line l) (entry_flaws i nth e)) (flaws_from i (nth + 1) lines entries) none in
-    (holds l.bytes e are.0 (flawless_parts i nth e own), each_entry i P holds (nth + 1) lines entries are.1 later)
+    (holds l.bytes e are.0 (flawless_parts i nth e own), each_entry shows i P holds (nth + 1) lines entries are.1 later)
 
-pub calls_made : (i : Declared) (bytes : List ℕ) (history : List Entry) → IsHistory i bytes history → Each (λ e. MayBeMade i e.call) history
-calls_made i bytes history is =
+pub calls_made : (shows : List ℕ → Bool) (i : Declared) (bytes : List ℕ) (history : List Entry) → IsHistory shows i bytes history → Each (λ e. MayBeMade i e.call) history
+calls_made shows i bytes history is =
     subst (Each (λ e. MayBeMade i e.call)) (sym is.3)
-    (each_entry i (λ e. MayBeMade i e.call) (λ line e parses f. made_of i e f) 1 (entry_lines_of bytes) is.0 is.1 is.2)
+    (each_entry shows i (λ e. MayBeMade i e.call) (λ line e parses f. made_of i e f) 1 (entry_lines_of bytes) is.0 is.1 is.2)
 
 -- ---- how many there are
 
 too_many : (nth : ℕ) → nth == too_many_entries ≡ false → nth ≤ too_many_entries → nth + 1 ≤ too_many_entries
 too_many nth e le = grind (arith, nat_tests, e, le)
 
-few_from : (i : Declared) (nth : ℕ) (lines : List Spelling) (entries : List WrittenEntry) → AreEntries lines entries → flaws_from i nth lines entries ≡ [] → nth ≤ too_many_entries
+few_from : (shows : List ℕ → Bool) (i : Declared) (nth : ℕ) (lines : List Spelling) (entries : List WrittenEntry) → AreEntries shows lines entries → flaws_from i nth lines entries ≡ [] → nth ≤ too_many_entries
     → nth + length (map (entry_of i) entries) ≤ too_many_entries
-few_from i nth [] [] are none le = omega (arith, le)
-few_from i nth [] (e ∷ entries) are none le = absurd are
-few_from i nth (l ∷ lines) [] are none le = absurd are
-few_from i nth (l ∷ lines) (e ∷ entries) are none le =
+few_from shows i nth [] [] are none le = omega (arith, le)
+few_from shows i nth [] (e ∷ entries) are none le = absurd are
+few_from shows i nth (l ∷ lines) [] are none le = absurd are
+few_from shows i nth (l ∷ lines) (e ∷ entries) are none le =
     let own : entry_flaws i nth e ≡ [] = unmapped (in_line l) (entry_flaws i nth e) (front_none (map (in_line l) (entry_flaws i nth e)) (flaws_from i (nth + 1) lines entries) none) in
     let later = back_none (map (in_line l) (entry_flaws i nth e)) (flaws_from i (nth + 1) lines entries) none in
     let more = too_many nth (not_too_many i nth e own) le in
-    let rest : nth + 1 + length (map (entry_of i) entries) ≤ too_many_entries = few_from i (nth + 1) lines entries are.1 later more in
+    let rest : nth + 1 + length (map (entry_of i) entries) ≤ too_many_entries = few_from shows i (nth + 1) lines entries are.1 later more in
     omega (arith, rest)
 
-pub entries_few : (i : Declared) (bytes : List ℕ) (history : List Entry) → IsHistory i bytes history → length history ≤ most_script_calls
-entries_few i bytes history is =
-    let many = few_from i 1 (entry_lines_of bytes) is.0 is.1 is.2 (omega arith) in
+pub entries_few : (shows : List ℕ → Bool) (i : Declared) (bytes : List ℕ) (history : List Entry) → IsHistory shows i bytes history → length history ≤ most_script_calls
+entries_few shows i bytes history is =
+    let many = few_from shows i 1 (entry_lines_of bytes) is.0 is.1 is.2 (omega arith) in
     let same = ap length is.3 in
     omega (arith, many, same)
 
 -- a fact of each history that a text has holds of what is read
-pub of_read : (i : Declared) (bytes : List ℕ) (P : List Entry → Type 0) → ((history : List Entry) → IsHistory i bytes history → P history) → (r : Result (Roomy Entry) EntriesError)
-    → IsReadOf i bytes (entries_read r) → IfOk r (λ h. P h.items)
-of_read i bytes P holds (Ok h) is = holds h.items is
-of_read i bytes P holds (Err e) is = tt
+pub of_read : (shows : List ℕ → Bool) (i : Declared) (bytes : List ℕ) (P : List Entry → Type 0) → ((history : List Entry) → IsHistory shows i bytes history → P history) → (r : Result (Roomy Entry) EntriesError)
+    → IsReadOf shows i bytes (entries_read r) → IfOk r (λ h. P h.items)
+of_read shows i bytes P holds (Ok h) is = holds h.items is
+of_read shows i bytes P holds (Err e) is = tt

@@ -205,8 +205,8 @@ name_lie i e from to (Some fun) b first last = by _
     by c = two c b
 
 -- the flaws of an entry, within its line
-pub entry_lie : (i : Declared) (nth : ℕ) (line : List ℕ) (e : WrittenEntry) → IsEntry line e → Lie 0 (length line + 1) (entry_flaws i nth e)
-entry_lie i nth line e is =
+pub entry_lie : (shows : List ℕ → Bool) (i : Declared) (nth : ℕ) (line : List ℕ) (e : WrittenEntry) → IsEntry shows line e → Lie 0 (length line + 1) (entry_flaws i nth e)
+entry_lie shows i nth line e is =
     let are = is.0.0 in
     let own = client_flaws e.client in
     let seqs = number_flaws 32 e.seq in
@@ -283,16 +283,16 @@ abbrev end_of : ℕ → List Spelling → ℕ
 end_of from [] = from
 end_of from (l ∷ lines) = end_of (l.at + length l.bytes + 1) lines
 
-flaws_lie : (i : Declared) (nth from : ℕ) (lines : List Spelling) (entries : List WrittenEntry) → AreAfter from lines → AreEntries lines entries → Lie from (end_of from lines) (flaws_from i nth lines entries)
-flaws_lie i nth from [] [] after are = lie_none from from (omega arith)
-flaws_lie i nth from [] (e ∷ entries) after are = absurd are
-flaws_lie i nth from (l ∷ lines) [] after are = absurd are
-flaws_lie i nth from (l ∷ lines) (e ∷ entries) after are =
-    let own = lie_shifted l 0 (length l.bytes + 1) (entry_flaws i nth e) (entry_lie i nth l.bytes e are.0) in
+flaws_lie : (shows : List ℕ → Bool) (i : Declared) (nth from : ℕ) (lines : List Spelling) (entries : List WrittenEntry) → AreAfter from lines → AreEntries shows lines entries → Lie from (end_of from lines) (flaws_from i nth lines entries)
+flaws_lie shows i nth from [] [] after are = lie_none from from (omega arith)
+flaws_lie shows i nth from [] (e ∷ entries) after are = absurd are
+flaws_lie shows i nth from (l ∷ lines) [] after are = absurd are
+flaws_lie shows i nth from (l ∷ lines) (e ∷ entries) after are =
+    let own = lie_shifted l 0 (length l.bytes + 1) (entry_flaws i nth e) (entry_lie shows i nth l.bytes e are.0) in
     let first = after.0 in
     lie_more from (l.at + length l.bytes + 1) (end_of (l.at + length l.bytes + 1) lines) (map (in_line l) (entry_flaws i nth e)) (flaws_from i (nth + 1) lines entries)
     (lie_wider (l.at + 0) (l.at + (length l.bytes + 1)) from (l.at + length l.bytes + 1) (map (in_line l) (entry_flaws i nth e)) (omega (arith, first)) (omega arith) own)
-    (flaws_lie i (nth + 1) (l.at + length l.bytes + 1) lines entries after.1 are.1)
+    (flaws_lie shows i (nth + 1) (l.at + length l.bytes + 1) lines entries after.1 are.1)
 
 placed_after : (at : ℕ) (parts : List (List ℕ)) → AreAfter at (placed at parts)
 placed_after at [] = tt
@@ -319,12 +319,12 @@ entry_lines_after from (l ∷ lines) after = by (begins_entry l.bytes) (entry_li
     by false later = let first = after.0 in after_sooner (l.at + length l.bytes + 1) from (entry_lines lines) (omega (arith, first)) later
 
 -- the first flaw of a text comes before all others
-pub first_before : (i : Declared) (bytes : List ℕ) (entries : List WrittenEntry) (f : Flaw) → AreEntries (entry_lines_of bytes) entries → IsFirst (flaws_from i 1 (entry_lines_of bytes) entries) f
+pub first_before : (shows : List ℕ → Bool) (i : Declared) (bytes : List ℕ) (entries : List WrittenEntry) (f : Flaw) → AreEntries shows (entry_lines_of bytes) entries → IsFirst (flaws_from i 1 (entry_lines_of bytes) entries) f
     → Each (IsNotAfter f) (flaws_from i 1 (entry_lines_of bytes) entries)
-first_before i bytes entries f are first =
+first_before shows i bytes entries f are first =
     let lines = entry_lines_of bytes in
     let after = entry_lines_after 0 (lines_from 0 bytes) (placed_after 0 (slice_split (λ b. b == line_feed) bytes)) in
-    let lie = flaws_lie i 1 0 lines entries after are in
+    let lie = flaws_lie shows i 1 0 lines entries after are in
     let sorted : IsSorted (f ∷ first.others) = subst IsSorted first.is lie.sorted in
     let all : Each (IsNotAfter f) (f ∷ first.others) = (inr (refl, omega arith), sorted.0) in
     subst (Each (IsNotAfter f)) (sym first.is) all

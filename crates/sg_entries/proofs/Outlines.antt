@@ -136,10 +136,10 @@ placed_first i nth l e f first =
     (record { others = map (in_line l) whole.others; is = ap (map (in_line l)) whole.is })
 
 -- the outline of the next entry has the first flaw, and so this is answered
-pub stops_early : (i : Declared) (text : List ℕ) (l : Spelling) (left : List Spelling) (history : List Entry) (o : EntryOutline) (error : EntriesError) → IsReadUpTo i text (l ∷ left) history
-    → OutlineParses l.bytes (Ok o) → HasEntries text → IsMade {A = Unit {0}} (map (in_line l) (outline_flaws i o)) tt (Err error) → IsReadOf i text (Err error)
-stops_early i text l left history o NoMemory r parses all is = tt
-stops_early i text l left history o (Fault kind at) r parses all is =
+pub stops_early : (shows : List ℕ → Bool) (i : Declared) (text : List ℕ) (l : Spelling) (left : List Spelling) (history : List Entry) (o : EntryOutline) (error : EntriesError) → IsReadUpTo shows i text (l ∷ left) history
+    → OutlineParses shows l.bytes (Ok o) → HasEntries shows text → IsMade {A = Unit {0}} (map (in_line l) (outline_flaws i o)) tt (Err error) → IsReadOf shows i text (Err error)
+stops_early shows i text l left history o NoMemory r parses all is = tt
+stops_early shows i text l left history o (Fault kind at) r parses all is =
     let e = parses.0 in
     let first = subst (λ o. IsFirst (map (in_line l) (outline_flaws i o)) (record { kind = kind; at = at })) parses.2 is in
-    inr (flawed i text l left history e r parses.1 kind at all (placed_first i (length history + 1) l e (record { kind = kind; at = at }) first))
+    inr (flawed shows i text l left history e r parses.1 kind at all (placed_first i (length history + 1) l e (record { kind = kind; at = at }) first))

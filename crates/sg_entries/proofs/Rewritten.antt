@@ -8,7 +8,7 @@ use Rattle.std.specs.declared.option.Option.{Option}
 use Rattle.std.proofs.lemmas.Bool.Decides.{nat_tests}
 use Rattle.std.proofs.lemmas.Fmt.{decimal_digit, decimal_nonempty, digits_decimal, digits_value-decimal, first_decimal}
 use Rattle.std.specs.Option.{is_some}
-use Rattle.sg_entries.proofs.Spelt.{numeral, written}
+use Rattle.sg_entries.proofs.Spelt.{Tells, numeral, written}
 use Rattle.sg_entries.specs.Flaws.{entry_flaws, flaw_if, number_flaws, text_flaws, values_fit}
 use Rattle.sg_entries.specs.Inside.Flaws.{answer_flaws, arg_flaws, client_flaws, fun_flaws, optional_flaws, too_many_entries, word_flaws}
 use Rattle.sg_entries.specs.Printed.{AreTexts, HasNames, IsShownReply, MayBePrinted}
@@ -26,7 +26,7 @@ use Rattle.sg_entries.specs.declared.tree.WrittenAnswer.TheVariants.{Refused as 
 use Rattle.sg_entries.specs.declared.tree.WrittenArg.{WrittenArg}
 use Rattle.sg_entries.specs.declared.tree.WrittenArg.TheVariants.{Number, Text as text}
 use Rattle.sg_entries.specs.declared.tree.WrittenEntry.{WrittenEntry}
-use Rattle.sg_facts.specs.Facts.{Fun, fun_at, takes_desc, takes_parent}
+use Rattle.sg_facts.specs.Facts.{Fun, fun_at, shows_bytes, takes_desc, takes_parent}
 use Rattle.sg_facts.specs.Interface.{Declared}
 use Rattle.sg_facts.specs.Kinds.{AreWords, kinds_fit}
 use Rattle.sg_facts.specs.declared.entry.Entry.{Entry}
@@ -39,7 +39,6 @@ use Rattle.sg_facts.specs.sg_base.declared.reply.Reply.TheVariants.{Refused, Ok 
 use Rattle.sg_facts.specs.sg_base.declared.value.Value.{Value}
 use Rattle.sg_facts.specs.sg_base.declared.value.Value.TheVariants.{Word, Text}
 use Rattle.sg_report.specs.Report.{takes_id}
-use Rattle.sg_report.specs.Inside.Pieces.{shows_bytes}
 use Rattle.sg_script.specs.Numbers.{is_known_client, is_text}
 use Rattle.sg_script.specs.Scripts.{declared_fun}
 
@@ -360,14 +359,14 @@ module _ (i : Declared) (names : HasNames i) (e : Entry) (may : MayBePrinted i e
   named = (names e.call.fun may.made.declared).1
 
   -- it is the tree of a line
-  pub tree_well_formed : IsWellFormed (tree_of i e)
-  tree_well_formed =
+  pub tree_well_formed : (shows : List ℕ → Bool) → Tells shows i → IsWellFormed shows (tree_of i e)
+  tree_well_formed shows tells =
       let args = args_in_line i e in
       let tail = fixed (codes ")") ∷ fixed (codes " = ") ∷ answer_pieces (answer_at (answer_place i e) (fun_in i e) e.reply) in
       let placed = placed_more (args_place i e) (args_pieces args) tail (args_placed (args_place i e) (brackets (takes_id i.facts e.call.fun) e.call) values)
       (tt, (tt, answer_placed (answer_place i e) (fun_in i e) e.reply may.shown)) in (
         (tt, ((number_spelt e.call.client call_small, refl), (tt, ((number_spelt e.call.seq seq_small, refl), (tt, (((names e.call.fun may.made.declared).0, refl), (tt, placed))))))),
-        answer_is (answer_place i e) (fun_in i e) e.reply may.shown,
+        subst (λ b. IsAnswer b (answer_at (answer_place i e) (fun_in i e) e.reply)) (sym (tells (fun_in i e).name e.call.fun named)) (answer_is (answer_place i e) (fun_in i e) e.reply may.shown),
       )
 
   values_same : map value_of (args_in_line i e) ≡ brackets (takes_id i.facts e.call.fun) e.call

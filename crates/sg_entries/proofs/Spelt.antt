@@ -3,14 +3,15 @@ use Rattle.std.proofs.Common.{◌≡◌, inl, inr, ℕ, ◌+◌, ◌*◌, ◌-�
 use Rattle.std.specs.Prelude.{◌==◌, ◌&&◌, nat_le, codes, if◌then◌else◌}
 use Rattle.std.specs.Char.{is_ascii_digit}
 use Rattle.std.specs.Fmt.{decimal}
-use Rattle.std.specs.List.{flat_map, fold, list_all}
+use Rattle.std.specs.List.{flat_map, fold, list_all, list_any}
 use Rattle.std.specs.declared.option.Option.{Option}
 use Rattle.std.proofs.lemmas.Bool.Decides.{nat_tests}
 use Rattle.std.proofs.lemmas.Fmt.{decimal-digits_value}
 use Rattle.std.proofs.lemmas.Grind.{flat_map-append}
 use Rattle.std.proofs.lemmas.List.{length-map}
 use Rattle.std.proofs.lemmas.Str.Parse.{FoldsDigits, IsDigitsTest, IsNumeralModel, numerals_by_fold}
-use Rattle.std.specs.Option.{is_some}
+use Rattle.std.specs.Option.{is_some, option_map_or}
+use Rattle.std.specs.Str.{bytes_eq}
 use Rattle.sg_entries.proofs.Flawless.{IsFlawless, args_words, back_none, each_entry, entries_few, fits_bits, flawless_parts, front_none, has_fun, is_true, made_of, not_flawed}
 use Rattle.sg_entries.proofs.Halves.{unmapped}
 use Rattle.sg_entries.proofs.Within.{each_back, each_front}
@@ -24,8 +25,8 @@ use Rattle.sg_entries.specs.Standing.{args_in, entry_of, id_in, number_of, value
 use Rattle.sg_entries.specs.Inside.Standing.{bytes_of, desc_of, fun_of, reply_of}
 use Rattle.sg_entries.specs.declared.error.EntriesKind.TheVariants.{Limit}
 use Rattle.sg_facts.specs.sg_base.Codes.{code_name, code_name as written_code}
-use Rattle.sg_entries.specs.Entry.{IsAnswer, IsEntry, answer_pieces, arg_pieces, entry_pieces}
-use Rattle.sg_entries.specs.Inside.Forms.{args_pieces, bytes_pieces, desc_pieces, next_arg_pieces, shows_bytes as shows, word_pieces}
+use Rattle.sg_entries.specs.Entry.{IsAnswer, IsEntry, answer_pieces, arg_pieces, entry_pieces, shows_named}
+use Rattle.sg_entries.specs.Inside.Forms.{args_pieces, bytes_pieces, desc_pieces, next_arg_pieces, word_pieces}
 use Rattle.sg_entries.specs.Pieces.{ArePlaced, EntryPiece, IsPiece, IsPositive, fixed, name, number, piece_bytes, positive, printable}
 use Rattle.sg_entries.specs.Inside.Classes.{IsNumber}
 use Rattle.sg_entries.specs.sg_lex.Lexeme.{Spelling}
@@ -34,7 +35,7 @@ use Rattle.sg_entries.specs.declared.tree.WrittenAnswer.TheVariants.{Refused as 
 use Rattle.sg_entries.specs.declared.tree.WrittenArg.{WrittenArg}
 use Rattle.sg_entries.specs.declared.tree.WrittenArg.TheVariants.{Number, Text as text}
 use Rattle.sg_entries.specs.declared.tree.WrittenEntry.{WrittenEntry}
-use Rattle.sg_facts.specs.Facts.{Fun, fun_at}
+use Rattle.sg_facts.specs.Facts.{Facts, Fun, fun_at, shows_bytes}
 use Rattle.sg_facts.specs.Interface.{Declared}
 use Rattle.sg_facts.specs.Kinds.{AreWords}
 use Rattle.sg_facts.specs.Words.{line_end}
@@ -46,8 +47,9 @@ use Rattle.sg_facts.specs.sg_base.declared.reply.Code.TheVariants.{NoDesc, NoPar
 use Rattle.sg_facts.specs.sg_base.declared.value.Value.{Value}
 use Rattle.sg_facts.specs.sg_base.declared.value.Value.TheVariants.{Word, Text}
 use Rattle.sg_report.specs.Report.{entry_line, listed, reply_text, takes_id, value_text}
-use Rattle.sg_report.specs.Inside.Pieces.{quoted, shows_bytes}
+use Rattle.sg_report.specs.Inside.Pieces.{quoted}
 use Rattle.sg_script.specs.Numbers.{is_text, value_of_digits}
+use Rattle.sg_script.specs.Scripts.{declared_fun}
 
 -- ---- numbers
 
@@ -279,7 +281,17 @@ body c s n l r = codes "c" ++ (c ++ (codes "." ++ (s ++ (codes " " ++ (n ++ (cod
 nested : (a c b s d n p l q m r z : List ℕ) → a ++ c ++ b ++ s ++ d ++ (n ++ p ++ l ++ q) ++ m ++ r ++ z ≡ (a ++ (c ++ (b ++ (s ++ (d ++ (n ++ (p ++ (l ++ (q ++ (m ++ r)))))))))) ++ z
 nested a c b s d n p l q m r z = simp append_assoc refl
 
-module _ (i : Declared) (line : List ℕ) (e : WrittenEntry) (is : IsEntry line e) (f : IsFlawless i e) where
+-- a test of names tells of each declared function whether it shows its bytes
+abbrev pub Tells : (List ℕ → Bool) → Declared → Type 0
+Tells shows i = (function : List ℕ) (fun : ℕ) → declared_fun i function ≡ Some fun → shows function ≡ shows_bytes (fun_at i.facts.funs fun)
+
+-- that of an interface does
+pub named_tells : (services : List Facts) (i : Declared) → Tells (shows_named services i) i
+named_tells services i function fun is =
+    let others = list_any (λ (s : Facts). list_any (λ (f : Fun). bytes_eq f.name function && shows_bytes f) s.funs) services in
+    ap (λ (o : Option ℕ). option_map_or (λ f. shows_bytes (fun_at i.facts.funs f)) o others) is
+
+module _ (shows : List ℕ → Bool) (i : Declared) (tells : Tells shows i) (line : List ℕ) (e : WrittenEntry) (is : IsEntry shows line e) (f : IsFlawless i e) where
   spelt : Each IsSpelt (entry_pieces e)
   spelt = pieces_spelt 0 (entry_pieces e) is.0.0
 
@@ -300,7 +312,7 @@ module _ (i : Declared) (line : List ℕ) (e : WrittenEntry) (is : IsEntry line 
       let seq = number_printed e.seq spelt.1.1.1.0 seq_small in
       let values = values_in (takes_id i.facts (fun_of i e)) fun.kinds (map value_of e.args) has.fits in
       let args = args_printed e.args (each_front IsSpelt (args_pieces e.args) tail rest) f.args in
-      let reply = answer_printed fun e.answer (each_back IsSpelt (args_pieces e.args) tail rest).1.1 (subst (λ n. IsAnswer (shows n) e.answer) (sym has.called) is.0.1) f.answer in
+      let reply = answer_printed fun e.answer (each_back IsSpelt (args_pieces e.args) tail rest).1.1 (subst (λ b. IsAnswer b e.answer) (tells e.name.bytes (fun_of i e) has.is) is.0.1) f.answer in
       let brackets : listed (if takes_id i.facts (fun_of i e) then Word (id_in (takes_id i.facts (fun_of i e)) (map value_of e.args)) ∷ args_in (takes_id i.facts (fun_of i e)) (map value_of e.args)
       else args_in (takes_id i.facts (fun_of i e)) (map value_of e.args)) ≡ written (args_pieces e.args) = ap listed values ∙ sym args in
       let c = decimal (number_of e.client) in
@@ -328,7 +340,7 @@ module _ (i : Declared) (line : List ℕ) (e : WrittenEntry) (is : IsEntry line 
         seq = f.seq;
         desc = id_small (takes_id i.facts (fun_of i e)) (map value_of e.args) (args_words e.args f.args);
         texts = rest_texts (takes_id i.facts (fun_of i e)) (map value_of e.args) (args_texts e.args f.args);
-        shown = answer_shown (fun_at i.facts.funs (fun_of i e)) e.answer (subst (λ n. IsAnswer (shows n) e.answer) (sym has.called) is.0.1) f.answer;
+        shown = answer_shown (fun_at i.facts.funs (fun_of i e)) e.answer (subst (λ b. IsAnswer b e.answer) (tells e.name.bytes (fun_of i e) has.is) is.0.1) f.answer;
       }
 
 -- ---- histories
@@ -337,21 +349,21 @@ module _ (i : Declared) (line : List ℕ) (e : WrittenEntry) (is : IsEntry line 
 abbrev pub ended : Spelling → List ℕ
 ended l = l.bytes ++ line_end
 
-lines_printed : (i : Declared) (nth : ℕ) (lines : List Spelling) (entries : List WrittenEntry) → AreEntries lines entries → flaws_from i nth lines entries ≡ []
+lines_printed : (shows : List ℕ → Bool) (i : Declared) → Tells shows i → (nth : ℕ) (lines : List Spelling) (entries : List WrittenEntry) → AreEntries shows lines entries → flaws_from i nth lines entries ≡ []
     → flat_map ended lines ≡ flat_map (entry_line i.facts) (map (entry_of i) entries)
-lines_printed i nth [] [] are none = refl
-lines_printed i nth [] (e ∷ entries) are none = absurd are
-lines_printed i nth (l ∷ lines) [] are none = absurd are
-lines_printed i nth (l ∷ lines) (e ∷ entries) are none =
+lines_printed shows i tells nth [] [] are none = refl
+lines_printed shows i tells nth [] (e ∷ entries) are none = absurd are
+lines_printed shows i tells nth (l ∷ lines) [] are none = absurd are
+lines_printed shows i tells nth (l ∷ lines) (e ∷ entries) are none =
     let own : entry_flaws i nth e ≡ [] = unmapped (in_line l) (entry_flaws i nth e) (front_none (map (in_line l) (entry_flaws i nth e)) (flaws_from i (nth + 1) lines entries) none) in
     let later = back_none (map (in_line l) (entry_flaws i nth e)) (flaws_from i (nth + 1) lines entries) none in
     two (ended l) (entry_line i.facts (entry_of i e)) (flat_map ended lines) (flat_map (entry_line i.facts) (map (entry_of i) entries))
-    (sym (line_printed i l.bytes e are.0 (flawless_parts i nth e own))) (lines_printed i (nth + 1) lines entries are.1 later)
+    (sym (line_printed shows i tells l.bytes e are.0 (flawless_parts i nth e own))) (lines_printed shows i tells (nth + 1) lines entries are.1 later)
 
 -- a text prints the history that it has
-pub prints : (i : Declared) (bytes : List ℕ) (history : List Entry) → IsHistory i bytes history → PrintsHistory i bytes history
-prints i bytes history is = record {
-  lines = lines_printed i 1 (entry_lines_of bytes) is.0 is.1 is.2 ∙ ap (flat_map (entry_line i.facts)) (sym is.3);
-  entries = subst (Each (MayBePrinted i)) (sym is.3) (each_entry i (MayBePrinted i) (λ line e parses f. may_be_printed i line e parses f) 1 (entry_lines_of bytes) is.0 is.1 is.2);
-  few = entries_few i bytes history is;
+pub prints : (shows : List ℕ → Bool) (i : Declared) → Tells shows i → (bytes : List ℕ) (history : List Entry) → IsHistory shows i bytes history → PrintsHistory i bytes history
+prints shows i tells bytes history is = record {
+  lines = lines_printed shows i tells 1 (entry_lines_of bytes) is.0 is.1 is.2 ∙ ap (flat_map (entry_line i.facts)) (sym is.3);
+  entries = subst (Each (MayBePrinted i)) (sym is.3) (each_entry shows i (MayBePrinted i) (λ line e parses f. may_be_printed shows i tells line e parses f) 1 (entry_lines_of bytes) is.0 is.1 is.2);
+  few = entries_few shows i bytes history is;
 }

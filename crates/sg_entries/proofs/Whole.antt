@@ -14,7 +14,7 @@ use Rattle.sg_lex.specs.Lexeme.{Spelling}
 use Rattle.sg_facts.specs.sg_base.Codes.{code_name}
 use Rattle.sg_entries.specs.Pieces.{EntryPiece, fixed, number as number_piece, positive as positive_piece, name as name_piece}
 use Rattle.sg_entries.specs.Entry.{text_pieces, arg_pieces, answer_pieces, entry_pieces, IsAnswer, IsEntry}
-use Rattle.sg_entries.specs.Inside.Forms.{quote_byte, next_arg_pieces, args_pieces, desc_pieces, word_pieces, bytes_pieces, shows_bytes}
+use Rattle.sg_entries.specs.Inside.Forms.{quote_byte, next_arg_pieces, args_pieces, desc_pieces, word_pieces, bytes_pieces}
 use Rattle.sg_entries.specs.Inside.States.{EntryState, done, orelse, listed, coded, byte, bytes, positive, number, name, text_rest, argument, bracketed, words, words_and_bytes, given, answered, call_answer, call_rest, client_rest, entry_start}
 use Rattle.sg_entries.proofs.Front.{Goes, flat, goes_none, none_goes, join, cut, over, one_goes, goes_one, fixed_cut, fixed_join, fixed_none, none_fixed}
 use Rattle.sg_entries.proofs.Lang.{Lang, Listed}
@@ -451,10 +451,10 @@ answered_from shown (gave desc read shows) k v R at bs is g f =
 abbrev call_pieces : List WrittenArg → WrittenAnswer → List EntryPiece
 call_pieces args answer = fixed (codes "(") ∷ (args_pieces args ++ fixed (codes ")") ∷ fixed (codes " = ") ∷ answer_pieces answer)
 
-record Called (client seq function : Spelling) (v : WrittenEntry) (at : ℕ) (bs : List ℕ) : Type 0 where
+record Called (shows : List ℕ → Bool) (client seq function : Spelling) (v : WrittenEntry) (at : ℕ) (bs : List ℕ) : Type 0 where
   args : List WrittenArg
   answer : WrittenAnswer
-  is : IsAnswer (shows_bytes function.bytes) answer
+  is : IsAnswer (shows function.bytes) answer
   goes : Goes (call_pieces args answer) (Lang (done (record { client = client; seq = seq; name = function; args = args; answer = answer })) v) at bs
 
 brackets : (args : List WrittenArg) (ps : List EntryPiece) → bracketed_pieces args ++ ps ≡ args_pieces args ++ fixed (codes ")") ∷ ps
@@ -465,20 +465,20 @@ bracket_goes : (args : List WrittenArg) (ps : List EntryPiece) (R : ℕ → List
     → Goes (args_pieces args ++ fixed (codes ")") ∷ ps) R at bs
 bracket_goes args ps R at bs g = subst (λ x. Goes x R at bs) (brackets args ps) g
 
-call_to : (client seq function : Spelling) (v : WrittenEntry) (at : ℕ) (bs : List ℕ) → Lang (call_rest client seq function) v at bs → Called client seq function v at bs
-call_to client seq function v at bs l =
-    let go = call_answer client seq function in
+call_to : (shows : List ℕ → Bool) (client seq function : Spelling) (v : WrittenEntry) (at : ℕ) (bs : List ℕ) → Lang (call_rest shows client seq function) v at bs → Called shows client seq function v at bs
+call_to shows client seq function v at bs l =
+    let go = call_answer shows client seq function in
     let o = byte_to open_bracket_byte (bracketed go) v at bs l in
     let place1 = at + length (flat (fixed (open_bracket_byte ∷ []) ∷ [])) in
     let b = bracketed_to go v place1 o.rest o.holds in
     let args = b.0 in
     let place2 = place1 + length (flat (bracketed_pieces args)) in
     let k : WrittenAnswer → WrittenEntry = λ answer. record { client = client; seq = seq; name = function; args = args; answer = answer } in
-    let e = bytes_to (codes " = ") (answered (shows_bytes function.bytes) k) v place2 b.1.rest b.1.holds in
+    let e = bytes_to (codes " = ") (answered (shows function.bytes) k) v place2 b.1.rest b.1.holds in
     let place3 = place2 + length (flat (fixed (codes " = ") ∷ [])) in
-    let a = answered_to (shows_bytes function.bytes) k v place3 e.rest e.holds in
+    let a = answered_to (shows function.bytes) k v place3 e.rest e.holds in
     let R : ℕ → List ℕ → Type 0 = Lang (done (k a.answer)) v in
-    let ge = and_then (fixed (codes " = ") ∷ []) (answer_pieces a.answer) (Lang (answered (shows_bytes function.bytes) k) v) R place2 b.1.rest e a.goes in
+    let ge = and_then (fixed (codes " = ") ∷ []) (answer_pieces a.answer) (Lang (answered (shows function.bytes) k) v) R place2 b.1.rest e a.goes in
     let gb = and_then (bracketed_pieces args) (fixed (codes " = ") ∷ answer_pieces a.answer) (Lang (go args) v) R place1 o.rest b.1 ge in
     let gs = bracket_goes args (fixed (codes " = ") ∷ answer_pieces a.answer) R place1 o.rest gb in
     record {
@@ -489,43 +489,43 @@ call_to client seq function v at bs l =
           (Lang (bracketed go) v) R at bs o gs;
     }
 
-call_from : (client seq function : Spelling) (args : List WrittenArg) (answer : WrittenAnswer) (v : WrittenEntry) (R : ℕ → List ℕ → Type 0) (at : ℕ) (bs : List ℕ)
-    → IsAnswer (shows_bytes function.bytes) answer → Goes (call_pieces args answer) R at bs
-    → Into R (done (record { client = client; seq = seq; name = function; args = args; answer = answer })) v → Lang (call_rest client seq function) v at bs
-call_from client seq function args answer v R at bs is g f =
-    let go = call_answer client seq function in
+call_from : (shows : List ℕ → Bool) (client seq function : Spelling) (args : List WrittenArg) (answer : WrittenAnswer) (v : WrittenEntry) (R : ℕ → List ℕ → Type 0) (at : ℕ) (bs : List ℕ)
+    → IsAnswer (shows function.bytes) answer → Goes (call_pieces args answer) R at bs
+    → Into R (done (record { client = client; seq = seq; name = function; args = args; answer = answer })) v → Lang (call_rest shows client seq function) v at bs
+call_from shows client seq function args answer v R at bs is g f =
+    let go = call_answer shows client seq function in
     let k : WrittenAnswer → WrittenEntry = λ answer. record { client = client; seq = seq; name = function; args = args; answer = answer } in
     let tail = fixed (codes " = ") ∷ answer_pieces answer in
     byte_from open_bracket_byte (bracketed go) v (Goes (args_pieces args ++ fixed (codes ")") ∷ tail) R) at bs
     (cut (fixed (open_bracket_byte ∷ []) ∷ []) (args_pieces args ++ fixed (codes ")") ∷ tail) R at bs g)
     (λ x xs h. bracketed_from go v args (Goes tail R) x xs
     (cut (bracketed_pieces args) tail R x xs (subst (λ y. Goes y R x xs) (sym (brackets args tail)) h))
-    (λ y ys i. bytes_from (codes " = ") (answered (shows_bytes function.bytes) k) v (Goes (answer_pieces answer) R) y ys
+    (λ y ys i. bytes_from (codes " = ") (answered (shows function.bytes) k) v (Goes (answer_pieces answer) R) y ys
     (cut (fixed (codes " = ") ∷ []) (answer_pieces answer) R y ys i)
-    (λ z zs j. answered_from (shows_bytes function.bytes) answer k v R z zs is j f)))
+    (λ z zs j. answered_from (shows function.bytes) answer k v R z zs is j f)))
 
 -- the line is that of an entry which is this one
-record Written (v : WrittenEntry) (line : List ℕ) : Type 0 where
+record Written (shows : List ℕ → Bool) (v : WrittenEntry) (line : List ℕ) : Type 0 where
   tree : WrittenEntry
-  is : IsAnswer (shows_bytes tree.name.bytes) tree.answer
+  is : IsAnswer (shows tree.name.bytes) tree.answer
   goes : Goes (entry_pieces tree) (Lang (done tree) v) 0 line
 
-written : (v : WrittenEntry) (line : List ℕ) → Lang entry_start v 0 line → Written v line
-written v line l =
-    let c = byte_to 0x63 (number client_rest) v 0 line l in
+written : (shows : List ℕ → Bool) (v : WrittenEntry) (line : List ℕ) → Lang (entry_start shows) v 0 line → Written shows v line
+written shows v line l =
+    let c = byte_to 0x63 (number (client_rest shows)) v 0 line l in
     let place1 = 0 + length (flat (fixed (0x63 ∷ []) ∷ [])) in
-    let n = number_to client_rest v place1 c.rest c.holds in
+    let n = number_to (client_rest shows) v place1 c.rest c.holds in
     let place2 = place1 + length (flat (number_piece n.0 ∷ [])) in
-    let seq_state : EntryState = number (λ seq. byte 0x20 (name (call_rest n.0 seq))) in
+    let seq_state : EntryState = number (λ seq. byte 0x20 (name (call_rest shows n.0 seq))) in
     let d = byte_to 0x2E seq_state v place2 n.1.rest n.1.holds in
     let place3 = place2 + length (flat (fixed (0x2E ∷ []) ∷ [])) in
-    let s = number_to (λ seq. byte 0x20 (name (call_rest n.0 seq))) v place3 d.rest d.holds in
+    let s = number_to (λ seq. byte 0x20 (name (call_rest shows n.0 seq))) v place3 d.rest d.holds in
     let place4 = place3 + length (flat (number_piece s.0 ∷ [])) in
-    let p = byte_to 0x20 (name (call_rest n.0 s.0)) v place4 s.1.rest s.1.holds in
+    let p = byte_to 0x20 (name (call_rest shows n.0 s.0)) v place4 s.1.rest s.1.holds in
     let place5 = place4 + length (flat (fixed (0x20 ∷ []) ∷ [])) in
-    let f = name_to (call_rest n.0 s.0) v place5 p.rest p.holds in
+    let f = name_to (call_rest shows n.0 s.0) v place5 p.rest p.holds in
     let place6 = place5 + length (flat (name_piece f.0 ∷ [])) in
-    let r = call_to n.0 s.0 f.0 v place6 f.1.rest f.1.holds in
+    let r = call_to shows n.0 s.0 f.0 v place6 f.1.rest f.1.holds in
     let tree : WrittenEntry = record { client = n.0; seq = s.0; name = f.0; args = r.args; answer = r.answer } in
     let R : ℕ → List ℕ → Type 0 = Lang (done tree) v in
     let p6 = call_pieces r.args r.answer in
@@ -534,21 +534,21 @@ written v line l =
     let p3 = number_piece s.0 ∷ p4 in
     let p2 = fixed (codes ".") ∷ p3 in
     let p1 = number_piece n.0 ∷ p2 in
-    let g6 = and_then (name_piece f.0 ∷ []) p6 (Lang (call_rest n.0 s.0 f.0) v) R place5 p.rest f.1 r.goes in
-    let g5 = and_then (fixed (0x20 ∷ []) ∷ []) p5 (Lang (name (call_rest n.0 s.0)) v) R place4 s.1.rest p g6 in
-    let g4 = and_then (number_piece s.0 ∷ []) p4 (Lang (byte 0x20 (name (call_rest n.0 s.0))) v) R place3 d.rest s.1 g5 in
+    let g6 = and_then (name_piece f.0 ∷ []) p6 (Lang (call_rest shows n.0 s.0 f.0) v) R place5 p.rest f.1 r.goes in
+    let g5 = and_then (fixed (0x20 ∷ []) ∷ []) p5 (Lang (name (call_rest shows n.0 s.0)) v) R place4 s.1.rest p g6 in
+    let g4 = and_then (number_piece s.0 ∷ []) p4 (Lang (byte 0x20 (name (call_rest shows n.0 s.0))) v) R place3 d.rest s.1 g5 in
     let g3 = and_then (fixed (0x2E ∷ []) ∷ []) p3 (Lang seq_state v) R place2 n.1.rest d g4 in
-    let g2 = and_then (number_piece n.0 ∷ []) p2 (Lang (client_rest n.0) v) R place1 c.rest n.1 g3 in
-    record { tree = tree; is = r.is; goes = and_then (fixed (0x63 ∷ []) ∷ []) p1 (Lang (number client_rest) v) R 0 line c g2 }
+    let g2 = and_then (number_piece n.0 ∷ []) p2 (Lang (client_rest shows n.0) v) R place1 c.rest n.1 g3 in
+    record { tree = tree; is = r.is; goes = and_then (fixed (0x63 ∷ []) ∷ []) p1 (Lang (number (client_rest shows)) v) R 0 line c g2 }
 
-pub entry_of : (v : WrittenEntry) (line : List ℕ) → Lang entry_start v 0 line → IsEntry line v
-entry_of v line l =
-    let w = written v line l in
-    subst (IsEntry line) w.goes.holds.1
+pub entry_of : (shows : List ℕ → Bool) (v : WrittenEntry) (line : List ℕ) → Lang (entry_start shows) v 0 line → IsEntry shows line v
+entry_of shows v line l =
+    let w = written shows v line l in
+    subst (IsEntry shows line) w.goes.holds.1
     ((w.goes.placed, w.is), w.goes.all ∙ ap (λ x. flat (entry_pieces w.tree) ++ x) w.goes.holds.0 ∙ append-nil (flat (entry_pieces w.tree)))
 
-pub line_of : (v : WrittenEntry) (line : List ℕ) → IsEntry line v → Lang entry_start v 0 line
-line_of v line h =
+pub line_of : (shows : List ℕ → Bool) (v : WrittenEntry) (line : List ℕ) → IsEntry shows line v → Lang (entry_start shows) v 0 line
+line_of shows v line h =
     let R : ℕ → List ℕ → Type 0 = AtEnd in
     let g : Goes (entry_pieces v) R 0 line =
     record { placed = h.0.0; rest = []; all = h.1 ∙ sym (append-nil (flat (entry_pieces v))); holds = refl } in
@@ -558,10 +558,10 @@ line_of v line h =
     let p3 = number_piece v.seq ∷ p4 in
     let p2 = fixed (codes ".") ∷ p3 in
     let p1 = number_piece v.client ∷ p2 in
-    byte_from 0x63 (number client_rest) v (Goes p1 R) 0 line (cut (fixed (codes "c") ∷ []) p1 R 0 line g)
-    (λ a as1 g1. number_from client_rest v v.client (Goes p2 R) a as1 (cut (number_piece v.client ∷ []) p2 R a as1 g1)
-    (λ b bs2 g2. byte_from 0x2E (number (λ seq. byte 0x20 (name (call_rest v.client seq)))) v (Goes p3 R) b bs2 (cut (fixed (codes ".") ∷ []) p3 R b bs2 g2)
-    (λ c cs3 g3. number_from (λ seq. byte 0x20 (name (call_rest v.client seq))) v v.seq (Goes p4 R) c cs3 (cut (number_piece v.seq ∷ []) p4 R c cs3 g3)
-    (λ d ds4 g4. byte_from 0x20 (name (call_rest v.client v.seq)) v (Goes p5 R) d ds4 (cut (fixed (codes " ") ∷ []) p5 R d ds4 g4)
-    (λ e es5 g5. name_from (call_rest v.client v.seq) v v.name (Goes p6 R) e es5 (cut (name_piece v.name ∷ []) p6 R e es5 g5)
-    (λ f fs6 g6. call_from v.client v.seq v.name v.args v.answer v R f fs6 h.0.1 g6 (λ x xs end. (end, refl))))))))
+    byte_from 0x63 (number (client_rest shows)) v (Goes p1 R) 0 line (cut (fixed (codes "c") ∷ []) p1 R 0 line g)
+    (λ a as1 g1. number_from (client_rest shows) v v.client (Goes p2 R) a as1 (cut (number_piece v.client ∷ []) p2 R a as1 g1)
+    (λ b bs2 g2. byte_from 0x2E (number (λ seq. byte 0x20 (name (call_rest shows v.client seq)))) v (Goes p3 R) b bs2 (cut (fixed (codes ".") ∷ []) p3 R b bs2 g2)
+    (λ c cs3 g3. number_from (λ seq. byte 0x20 (name (call_rest shows v.client seq))) v v.seq (Goes p4 R) c cs3 (cut (number_piece v.seq ∷ []) p4 R c cs3 g3)
+    (λ d ds4 g4. byte_from 0x20 (name (call_rest shows v.client v.seq)) v (Goes p5 R) d ds4 (cut (fixed (codes " ") ∷ []) p5 R d ds4 g4)
+    (λ e es5 g5. name_from (call_rest shows v.client v.seq) v v.name (Goes p6 R) e es5 (cut (name_piece v.name ∷ []) p6 R e es5 g5)
+    (λ f fs6 g6. call_from shows v.client v.seq v.name v.args v.answer v R f fs6 h.0.1 g6 (λ x xs end. (end, refl))))))))

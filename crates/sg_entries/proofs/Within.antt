@@ -117,8 +117,8 @@ module _ (n : ℕ) where
   fun_inside i e (Some fun) le = flaw_inside _ _ e.name.at le
 
 -- a flaw of an entry stands within its line
-pub flaws_within : (i : Declared) (nth : ℕ) (line : List ℕ) (e : WrittenEntry) → IsEntry line e → Each (λ f. f.at ≤ length line) (entry_flaws i nth e)
-flaws_within i nth line e is =
+pub flaws_within : (shows : List ℕ → Bool) (i : Declared) (nth : ℕ) (line : List ℕ) (e : WrittenEntry) → IsEntry shows line e → Each (λ f. f.at ≤ length line) (entry_flaws i nth e)
+flaws_within shows i nth line e is =
     let n = length line in
     let all : length line ≡ length (flat_map piece_bytes (entry_pieces e)) = ap length is.1 in
     let h = pieces_end n 0 (entry_pieces e) is.0.0 (omega (arith, all)) in
@@ -142,5 +142,5 @@ flaws_within i nth line e is =
     (fun_inside n i e (declared_fun i e.name.bytes) name)) (flaw_inside n _ _ e.name.at name)) (args_inside n e.args args)) (answer_inside n e.answer answer.1.1)
 
 -- so does the first
-pub first_within : (i : Declared) (nth : ℕ) (line : List ℕ) (e : WrittenEntry) (f : Flaw) → IsEntry line e → IsFirst (entry_flaws i nth e) f → f.at ≤ length line
-first_within i nth line e f is first = (subst (Each (λ f. f.at ≤ length line)) first.is (flaws_within i nth line e is)).0
+pub first_within : (shows : List ℕ → Bool) (i : Declared) (nth : ℕ) (line : List ℕ) (e : WrittenEntry) (f : Flaw) → IsEntry shows line e → IsFirst (entry_flaws i nth e) f → f.at ≤ length line
+first_within shows i nth line e f is first = (subst (Each (λ f. f.at ≤ length line)) first.is (flaws_within shows i nth line e is)).0

@@ -1,8 +1,8 @@
 -- Which bytes are the line of an entry, and of which one.
-use Rattle.std.specs.Prelude.{◌≡◌, ◌≤◌, ℕ, Bool, List, [], ◌∷◌, ◌++◌, None, Some, length, codes}
-use Rattle.std.specs.List.{flat_map}
+use Rattle.std.specs.Prelude.{◌≡◌, ◌≤◌, ◌&&◌, ℕ, Bool, List, [], ◌∷◌, ◌++◌, None, Some, length, codes}
+use Rattle.std.specs.List.{flat_map, list_any}
 use Rattle.std.specs.Str.{bytes_eq}
-use Rattle.std.specs.Option.{is_some}
+use Rattle.std.specs.Option.{is_some, option_map_or}
 use Rattle.sg_lex.specs.Lexeme.{Spelling}
 use Rattle.sg_lex.specs.Sentences.{separated}
 use Rattle.sg_entries.specs.declared.tree.WrittenArg.{WrittenArg}
@@ -10,7 +10,10 @@ use Rattle.sg_entries.specs.declared.tree.WrittenArg.TheVariants.{Number, Text}
 use Rattle.sg_entries.specs.declared.tree.WrittenAnswer.{WrittenAnswer}
 use Rattle.sg_entries.specs.declared.tree.WrittenAnswer.TheVariants.{Refused, Ok}
 use Rattle.sg_entries.specs.declared.tree.WrittenEntry.{WrittenEntry}
+use Rattle.sg_facts.specs.Facts.{Facts, Fun, fun_at, shows_bytes}
+use Rattle.sg_facts.specs.Interface.{Declared}
 use Rattle.sg_facts.specs.sg_base.Codes.{code_name}
+use Rattle.sg_script.specs.Scripts.{declared_fun}
 use Rattle.sg_entries.specs.Pieces.{EntryPiece, fixed, number, positive, name, printable, piece_bytes, ArePlaced}
 
 -- ---- the pieces of an entry, in order
@@ -44,8 +47,15 @@ entry_pieces e =
 abbrev pub IsAnswer : Bool → WrittenAnswer → Type 0
 IsAnswer shown answer = elim answer [ Refused code ↦ Unit {0} | Ok desc words bytes ↦ (length words ≤ 4) × (is_some bytes ≡ shown) ]
 
+-- whether an Ok of a function with this name shows its bytes: by the function that the interface declares, or where it declares none, by those
+-- of all these services
+abbrev pub shows_named : List Facts → Declared → List ℕ → Bool
+shows_named services i function =
+    option_map_or (λ f. shows_bytes (fun_at i.facts.funs f)) (declared_fun i function)
+    (list_any (λ (s : Facts). list_any (λ (f : Fun). bytes_eq f.name function && shows_bytes f) s.funs) services)
+
 -- the line is that of this entry: each of its pieces is what it is said to be and stands at its place; the answer is one of its
--- function, which shows its bytes where it is the one that reads a file; and the line has the bytes of the pieces, without a line's end
-abbrev pub IsEntry : List ℕ → WrittenEntry → Type 0
-IsEntry line e =
-    (ArePlaced 0 (entry_pieces e) × IsAnswer (bytes_eq e.name.bytes (codes "tread")) e.answer) × (line ≡ flat_map piece_bytes (entry_pieces e))
+-- function, by whether a function of a name shows its bytes; and the line has the bytes of the pieces, without a line's end
+abbrev pub IsEntry : (List ℕ → Bool) → List ℕ → WrittenEntry → Type 0
+IsEntry shows line e =
+    (ArePlaced 0 (entry_pieces e) × IsAnswer (shows e.name.bytes) e.answer) × (line ≡ flat_map piece_bytes (entry_pieces e))

@@ -3,7 +3,7 @@ use Rattle.std.specs.Prelude.{◌≡◌, ◌++◌, ◌^◌, ◌<◌, ◌≤◌, 
 use Rattle.std.specs.List.{flat_map}
 use Rattle.sg_entries.specs.Lines.{entry_lines_of}
 use Rattle.sg_entries.specs.Inside.Classes.{IsName}
-use Rattle.sg_facts.specs.Facts.{Fun, fun_at}
+use Rattle.sg_facts.specs.Facts.{Fun, fun_at, shows_bytes}
 use Rattle.sg_facts.specs.Interface.{Declared, declares}
 use Rattle.sg_facts.specs.Limits.{most_script_calls}
 use Rattle.sg_facts.specs.Words.{line_end}
@@ -15,7 +15,6 @@ use Rattle.sg_facts.specs.sg_base.declared.reply.Reply.TheVariants.{Refused, Ok}
 use Rattle.sg_facts.specs.sg_base.declared.value.Value.{Value}
 use Rattle.sg_facts.specs.sg_base.declared.value.Value.TheVariants.{Word, Text}
 use Rattle.sg_report.specs.Report.{entry_line}
-use Rattle.sg_report.specs.Inside.Pieces.{shows_bytes}
 use Rattle.sg_script.specs.Numbers.{is_text}
 use Rattle.sg_script.specs.Scripts.{declared_fun}
 use Rattle.sg_report.specs.sg_hist.Clients.{MayBeMade}

@@ -1,5 +1,5 @@
 -- What is answered on the text of a printed run for an interface.
-use Rattle.std.specs.Prelude.{ℕ, ◌≡◌, ◌⊎◌, ◌+◌, List, [], ◌∷◌, ◌++◌, map, Ok, Err}
+use Rattle.std.specs.Prelude.{Bool, ℕ, ◌≡◌, ◌⊎◌, ◌+◌, List, [], ◌∷◌, ◌++◌, map, Ok, Err}
 use Rattle.std.specs.List.{AllZip}
 use Rattle.std.specs.declared.result.Result.{Result}
 use Rattle.sg_entries.specs.Flaws.{Flaw, flaws_from}
@@ -17,21 +17,21 @@ use Rattle.sg_facts.specs.declared.entry.Entry.{Entry}
 use Rattle.sg_facts.specs.sg_base.Room.{Roomy}
 
 -- each line is an entry's, one for each of these entries
-abbrev pub AreEntries : List Spelling → List WrittenEntry → Type 0
-AreEntries lines entries = AllZip (λ (l : Spelling) e. EntryParses l.bytes (Ok e)) lines entries
+abbrev pub AreEntries : (List ℕ → Bool) → List Spelling → List WrittenEntry → Type 0
+AreEntries shows lines entries = AllZip (λ (l : Spelling) e. EntryParses shows l.bytes (Ok e)) lines entries
 
 -- what may be answered: the history that the entry lines of a text stand for, where each is an entry's and nothing is wrong with these; the
 -- place at which the first line fails that is none; or what is first wrong with the entries. Want of memory may come at any time
-abbrev pub IsReadOf : Declared → List ℕ → Result (List Entry) EntriesError → Type 0
-IsReadOf i text (Ok history) =
-    (entries : List WrittenEntry) × AreEntries (entry_lines_of text) entries × (flaws_from i 1 (entry_lines_of text) entries ≡ [])
+abbrev pub IsReadOf : (List ℕ → Bool) → Declared → List ℕ → Result (List Entry) EntriesError → Type 0
+IsReadOf shows i text (Ok history) =
+    (entries : List WrittenEntry) × AreEntries shows (entry_lines_of text) entries × (flaws_from i 1 (entry_lines_of text) entries ≡ [])
     × (history ≡ map (entry_of i) entries)
-IsReadOf i text (Err NoMemory) = Unit {0}
-IsReadOf i text (Err (Fault kind at)) =
+IsReadOf shows i text (Err NoMemory) = Unit {0}
+IsReadOf shows i text (Err (Fault kind at)) =
     ((before : List Spelling) × (line : Spelling) × (rest : List Spelling) × (entries : List WrittenEntry) × (place : ℕ)
-    × (entry_lines_of text ≡ before ++ line ∷ rest) × AreEntries before entries × EntryParses line.bytes (Err (syntax place))
+    × (entry_lines_of text ≡ before ++ line ∷ rest) × AreEntries shows before entries × EntryParses shows line.bytes (Err (syntax place))
     × (kind ≡ Syntax) × (at ≡ line.at + place))
-    ⊎ ((entries : List WrittenEntry) × (others : List Flaw) × AreEntries (entry_lines_of text) entries
+    ⊎ ((entries : List WrittenEntry) × (others : List Flaw) × AreEntries shows (entry_lines_of text) entries
     × (flaws_from i 1 (entry_lines_of text) entries ≡ record { kind = kind; at = at } ∷ others))
 
 -- an answer without the room that its history has for more

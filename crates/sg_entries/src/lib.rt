@@ -11,7 +11,7 @@
 //! - `tree`: an entry (`WrittenEntry`), whose numbers, names and texts are lent from the line (`Spelled`), and its outline
 //!   (`EntryOutline`); `syntax`: why a line is no entry (`EntrySyntax`)
 //! - `line`: what is still to be read of a line; `list`: lists of one; `pieces`, `call`, `code`, `answer`: the parts of an entry,
-//!   as they are read
+//!   as they are read; `shown`: whether the functions of a name show their bytes
 //! - `parser`: the whole (`parse_entry`), and the outline of it (`parse_outline`); `parse_laws`: a line has one entry, and one answer
 //!
 //! `specs/Lines.antt` says which lines of a text are entries', `specs/Flaws.antt` what can be wrong with these, `specs/Standing.antt`
@@ -34,6 +34,7 @@ mod pieces;
 mod placing;
 mod reading;
 mod rest;
+mod shown;
 mod syntax;
 mod tree;
 

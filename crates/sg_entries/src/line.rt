@@ -1,6 +1,6 @@
 // What is still to be read of a line.
 ghost use Rattle.std.specs.Prelude.{◌≡◌, ◌≤◌, ◌+◌, length, MatchBool};
-ghost use Rattle.sg_entries.specs.Inside.Ahead.{Came, Off, front_of, behind_of};
+ghost use Rattle.sg_entries.specs.Inside.Ahead.{Came, Off, front_of, after_of};
 
 use crate::syntax::EntrySyntax;
 use sg_lex::Spelled;
@@ -65,7 +65,7 @@ impl<'a> Line<'a> {
     pub fn take(&mut self, len: usize) -> Spelled<'a>
         requires { len ≤ length self.old.rest }
         ensures spelt { result ≡ front_of len self.old }
-        ensures left { self.new ≡ behind_of len self.old }
+        ensures left { self.new ≡ after_of len self.old }
     {
         let at = self.at;
         let slice = &self.text[at..at + len];

@@ -1,5 +1,5 @@
 // What a written entry stands for, or what is first wrong with it.
-ghost use Rattle.std.specs.Prelude.{◌≡◌, ◌==◌, ◌++◌, ◌∷◌, [], true, map, IfOk, OnOk};
+ghost use Rattle.std.specs.Prelude.{◌≡◌, ◌==◌, ◌++◌, ◌∷◌, [], true, map, IfOk, OnOk, vec_capacity};
 ghost use Rattle.std.specs.List.{flat_map};
 ghost use Rattle.sg_entries.specs.Flaws.{entry_flaws, flaw_if, number_flaws, text_flaws, values_fit};
 ghost use Rattle.sg_entries.specs.Inside.Flaws.{answer_flaws, arg_flaws, client_flaws, fun_flaws, optional_flaws, too_many_entries, word_flaws};
@@ -84,7 +84,8 @@ pub fn fault(kind: EntriesKind, at: usize) -> EntriesError
 
 // Room for so many elements and no more.
 fn room_for<T>(alloc: Global, many: usize) -> Result<Vec<T>, NoMemory>
-    ensures { IfOk result (λ made. made.items ≡ []) }
+    ensures items { IfOk result (λ made. made.items ≡ []) }
+    ensures room { IfOk result (λ made. vec_capacity made ≡ many) }
 {
     Ok(Vec::with_capacity(alloc, many)?)
 }

@@ -1,5 +1,5 @@
 // Laws of entries' lines and of what a parser has to answer.
-ghost use Rattle.std.specs.Prelude.{◌≡◌, ◌≢◌, ℕ, List, Err as failed};
+ghost use Rattle.std.specs.Prelude.{◌≡◌, ◌≢◌, ℕ, Bool, List, Err as failed};
 ghost use Rattle.std.specs.declared.result.Result.{Result};
 ghost use Rattle.sg_entries.specs.declared.syntax.EntrySyntax.{EntrySyntax};
 ghost use Rattle.sg_entries.specs.declared.syntax.EntrySyntax.TheVariants.{NoMemory as no_memory};
@@ -9,12 +9,12 @@ ghost use Rattle.sg_entries.specs.Parses.{EntryParses};
 
 /// A line is that of one entry.
 pub fn one_tree()
-    ensures { (line : List ℕ) (one other : WrittenEntry) → IsEntry line one → IsEntry line other → one ≡ other }
+    ensures { (shows : List ℕ → Bool) (line : List ℕ) (one other : WrittenEntry) → IsEntry shows line one → IsEntry shows line other → one ≡ other }
 {}
 
 /// A line has just one answer, out of memory aside: its entry, or the one error at the one place.
 pub fn one_answer()
-    ensures some { (line : List ℕ) → (answer : Result WrittenEntry EntrySyntax) × EntryParses line answer × (answer ≢ failed no_memory) }
-    ensures alone { (line : List ℕ) (one other : Result WrittenEntry EntrySyntax) → EntryParses line one → EntryParses line other →
+    ensures some { (shows : List ℕ → Bool) (line : List ℕ) → (answer : Result WrittenEntry EntrySyntax) × EntryParses shows line answer × (answer ≢ failed no_memory) }
+    ensures alone { (shows : List ℕ → Bool) (line : List ℕ) (one other : Result WrittenEntry EntrySyntax) → EntryParses shows line one → EntryParses shows line other →
         one ≢ failed no_memory → other ≢ failed no_memory → one ≡ other }
 {}

@@ -1,5 +1,7 @@
 // What a line stands for, with places in its text.
-ghost use Rattle.std.specs.Prelude.{◌≡◌, ◌+◌, ◌<◌, ◌^◌, length, map, Ok};
+ghost use Rattle.std.specs.Prelude.{◌≡◌, ◌+◌, ◌<◌, ◌^◌, length, map, ℕ, Bool, List, Ok};
+ghost use Rattle.sg_facts.specs.Facts.{facts_of};
+ghost use Rattle.sg_entries.specs.Entry.{shows_named};
 ghost use Rattle.sg_entries.specs.Flaws.{entry_flaws};
 ghost use Rattle.sg_entries.specs.Inside.Flaws.{in_line};
 ghost use Rattle.sg_entries.specs.Inside.Making.{IsMade};
@@ -14,15 +16,20 @@ use crate::{
     EntriesError, EntriesKind, EntryOutline, EntrySyntax, Spelled, WrittenEntry, parse_entry,
     parse_outline,
 };
-use sg_facts::{Entry, Interface};
+use sg_facts::{Entry, Interface, Shape};
 use std::alloc::Global;
 
 /// The entry of a line as it is written, or where the line fails.
-pub fn written_in<'a>(alloc: Global, line: &Spelled<'a>) -> Result<WrittenEntry<'a>, EntriesError>
+pub fn written_in<'a>(
+    alloc: Global,
+    iface: &Interface,
+    shapes: &[Shape],
+    line: &Spelled<'a>,
+) -> Result<WrittenEntry<'a>, EntriesError>
     requires { line.now.at + length line.now.bytes < 2 ^ 64 }
-    ensures { IsParsed line.now result }
+    ensures { IsParsed (shows_named (map facts_of shapes.now) iface.now) line.now result }
 {
-    match parse_entry(alloc, line.slice) {
+    match parse_entry(alloc, iface, shapes, line.slice) {
         Ok(written) => Ok(written),
         Err(EntrySyntax::NoMemory) => Err(EntriesError::NoMemory),
         Err(EntrySyntax::Syntax { at }) => Err(fault_in(line, EntriesKind::Syntax, at)),
@@ -30,11 +37,16 @@ pub fn written_in<'a>(alloc: Global, line: &Spelled<'a>) -> Result<WrittenEntry<
 }
 
 /// The outline of a line's entry, or where the line fails.
-pub fn outline_in<'a>(alloc: Global, line: &Spelled<'a>) -> Result<EntryOutline<'a>, EntriesError>
+pub fn outline_in<'a>(
+    alloc: Global,
+    iface: &Interface,
+    shapes: &[Shape],
+    line: &Spelled<'a>,
+) -> Result<EntryOutline<'a>, EntriesError>
     requires { line.now.at + length line.now.bytes < 2 ^ 64 }
-    ensures { IsOutlined line.now result }
+    ensures { IsOutlined (shows_named (map facts_of shapes.now) iface.now) line.now result }
 {
-    match parse_outline(alloc, line.slice) {
+    match parse_outline(alloc, iface, shapes, line.slice) {
         Ok(outline) => Ok(outline),
         Err(EntrySyntax::NoMemory) => Err(EntriesError::NoMemory),
         Err(EntrySyntax::Syntax { at }) => Err(fault_in(line, EntriesKind::Syntax, at)),
@@ -48,7 +60,7 @@ pub fn check_outline_in(
     outline: &EntryOutline,
 ) -> Result<(), EntriesError>
     requires within { line.now.at + length line.now.bytes < 2 ^ 64 }
-    requires parsed { OutlineParses line.now.bytes (Ok outline.now) }
+    requires parsed { (shows : List ℕ → Bool) × OutlineParses shows line.now.bytes (Ok outline.now) }
     ensures { IsMade (map (in_line line.now) (outline_flaws iface.now outline.now)) tt result }
 {
     match check_outline(iface, outline) {
@@ -67,7 +79,7 @@ pub fn entry_in(
     written: &WrittenEntry,
 ) -> Result<Entry, EntriesError>
     requires within { line.now.at + length line.now.bytes < 2 ^ 64 }
-    requires parsed { EntryParses line.now.bytes (Ok written.now) }
+    requires parsed { (shows : List ℕ → Bool) × EntryParses shows line.now.bytes (Ok written.now) }
     ensures { IsMade (map (in_line line.now) (entry_flaws iface.now nth written.now)) (entry_of iface.now written.now) result }
 {
     match entry_of(alloc, iface, nth, written) {

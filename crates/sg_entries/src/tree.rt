@@ -25,7 +25,7 @@ pub enum WrittenAnswer<'a> {
         desc: Option<Spelled<'a>>,
         /// At most four words.
         words: SpelledList<'a>,
-        /// The bytes, where the function is `tread`.
+        /// The bytes, where the function shows them.
         bytes: Option<Spelled<'a>>,
     },
 }

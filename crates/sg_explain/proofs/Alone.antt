@@ -8,8 +8,7 @@ use Rattle.sg_input.proofs.OneInput.{never_ready, not_refused}
 use Rattle.sg_input.specs.Inputs.{IsInputOf, IsInterface, IsReady}
 use Rattle.sg_input.specs.Lines.{too_long_line}
 use Rattle.sg_input.specs.Verdicts.{IsVerdict}
-use Rattle.sg_input.specs.declared.input.Input.TheVariants.{Refused as refused_input}
-use Rattle.sg_input.specs.declared.outcome.Verdict.TheVariants.{Refused}
+use Rattle.sg_input.specs.declared.read.Read.TheVariants.{Refused}
 use Rattle.sg_script.specs.declared.script.Script.{Script}
 use Rattle.sg_explain.specs.Explained.{ExplainsGood, IsExplained, IsInterfaceText, IsUndivided}
 
@@ -20,7 +19,7 @@ module _ (services : List Facts) (input : List ℕ) where
   other_lines same = let letter : 84 ≡ 78 = ap (λ l. get_or l 15 0) same in omega (arith, letter)
 
   -- it isn't refused as one with a line that divides it and a text that is too long
-  not_divided : IsUndivided input → IsInputOf services input (refused_input too_long_line) → ⊥
+  not_divided : IsUndivided input → IsInputOf services input (Refused too_long_line) → ⊥
   not_divided undivided (inl (inl (none, said))) = other_lines said
   not_divided undivided (inl (inr (inl (long, said)))) = undivided long.0 long.1 long.2.divides
   not_divided undivided (inl (inr (inr bad))) = undivided bad.0 bad.1 bad.2.cut.divides
@@ -42,7 +41,7 @@ module _ (services : List Facts) (input : List ℕ) where
 
   -- the line of its interface refuses it
   refused_with : (text line : List ℕ) (i : Declared) (script : Script) → IsReady services input i script → IsInterfaceText input text → IsVerdict services text (Refused line)
-      → IsInputOf services input (refused_input line)
+      → IsInputOf services input (Refused line)
   refused_with text line i script ready (inl (none, fits, same)) verdict = absurd (none ready.interface ready.second ready.texts.cut.divides)
   refused_with text line i script ready (inr (second, texts)) verdict = inl (inr (inr (text, second, texts, verdict)))
 

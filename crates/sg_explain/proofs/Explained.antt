@@ -12,10 +12,8 @@ use Rattle.sg_facts.specs.declared.tables.WalkLine.{WalkLine}
 use Rattle.sg_input.specs.Divider.{IsCut}
 use Rattle.sg_input.specs.Inputs.{AreTexts, IsInputOf, IsInterface, most_interface, most_script}
 use Rattle.sg_input.specs.Lines.{refused_line, script_kind_name, too_long_line}
-use Rattle.sg_input.specs.Verdicts.{IsVerdict}
-use Rattle.sg_input.specs.declared.input.Input.TheVariants.{Refused as refused_input}
-use Rattle.sg_input.specs.declared.outcome.Verdict.{Verdict}
-use Rattle.sg_input.specs.declared.outcome.Verdict.TheVariants.{Accepted, Refused}
+use Rattle.sg_input.specs.declared.read.Read.{Read}
+use Rattle.sg_input.specs.declared.read.Read.TheVariants.{Ready, Refused}
 use Rattle.sg_script.specs.Reads.{IsReadingOf}
 use Rattle.sg_script.specs.declared.fault.ScriptError.TheVariants.{Fault}
 use Rattle.sg_script.specs.declared.fault.ScriptFault.{ScriptFault}
@@ -23,7 +21,7 @@ use Rattle.sg_script.specs.declared.script.Script.{Script}
 use Rattle.sg_explain.specs.Explained.{IsExplained, IsInterfaceText, IsUndivided, why_at}
 use Rattle.sg_explain.specs.Rebuilt.{counts_line, rebuilt_line}
 use Rattle.sg_explain.specs.Words.{script_words}
-use Rattle.sg_explain.specs.Inside.Pieces.{TellsInterface, TellsLength, TellsReason, accepted_line}
+use Rattle.sg_explain.specs.Inside.Pieces.{TellsInterface, TellsLength, TellsRefusal, accepted_line}
 
 -- ---- lengths
 
@@ -57,21 +55,20 @@ told_tables (Err e) i j walks lines tables same lent is = tt
 module _ (services : List Facts) (input : List ℕ) where
   -- ---- too long
 
-  pub long_text : {E : Type 0} (r : Result Verdict E) → IsUndivided input → most_interface < length input → IfOk r TellsLength → IfOk r (IsExplained services input)
-  long_text (Ok (Accepted told)) undivided long is = absurd is
+  pub long_text : {E : Type 0} (r : Result (Read (List ℕ)) E) → IsUndivided input → most_interface < length input → IfOk r TellsLength → IfOk r (IsExplained services input)
+  long_text (Ok (Ready told)) undivided long is = absurd is
   long_text (Ok (Refused told)) undivided long is = inl (inl (undivided, long), is)
   long_text (Err e) undivided long is = tt
 
-  long_input : {E : Type 0} (r : Result Verdict E) → IsInputOf services input (refused_input too_long_line) → IfOk r TellsLength → IfOk r (IsExplained services input)
-  long_input (Ok (Accepted told)) long is = absurd is
-  long_input (Ok (Refused told)) long is = inl (inr long, is)
-  long_input (Err e) long is = tt
+  long_input : (told : Read (List ℕ)) → IsInputOf services input (Refused too_long_line) → TellsLength told → IsExplained services input told
+  long_input (Ready told) long is = absurd is
+  long_input (Refused told) long is = inl (inr long, is)
 
-  pub long_texts : {E : Type 0} (r : Result Verdict E) (interface script : List ℕ) → IsCut input interface script
-      → (nat_lt most_interface (length interface) || nat_lt most_script (length script)) ≡ true → IfOk r TellsLength → IfOk r (IsExplained services input)
-  long_texts r interface script cut long is = elim (cases_lt most_interface (length interface)) [
-    | inl gt ↦ long_input r (inl (inr (inl ((interface, script, cut, inl gt), refl)))) is
-    | inr le ↦ long_input r (inl (inr (inl ((interface, script, cut, inr (second_longer most_interface (length interface) most_script (length script) long le)), refl)))) is
+  pub long_texts : (told : Read (List ℕ)) (interface script : List ℕ) → IsCut input interface script
+      → (nat_lt most_interface (length interface) || nat_lt most_script (length script)) ≡ true → TellsLength told → IsExplained services input told
+  long_texts told interface script cut long is = elim (cases_lt most_interface (length interface)) [
+    | inl gt ↦ long_input told (inl (inr (inl ((interface, script, cut, inl gt), refl)))) is
+    | inr le ↦ long_input told (inl (inr (inl ((interface, script, cut, inr (second_longer most_interface (length interface) most_script (length script) long le)), refl)))) is
   ]
 
   -- ---- the interface
@@ -93,9 +90,8 @@ module _ (services : List Facts) (input : List ℕ) where
   pub first_of : (interface script : List ℕ) → AreTexts most_script input interface script → IsInterfaceText input interface
   first_of interface script texts = inr (script, texts)
 
-  pub bad_interface : (told text line : List ℕ) → IsInterfaceText input text → IsVerdict services text (Refused line)
-      → TellsReason services text line told → IsExplained services input (Refused told)
-  bad_interface told text line its verdict (why, reason, is) = inr (inl (record {
+  pub bad_interface : (told text : List ℕ) → IsInterfaceText input text → TellsRefusal services text told → IsExplained services input (Refused told)
+  bad_interface told text its (line, verdict, (why, reason, is)) = inr (inl (record {
     text = text;
     its = its;
     line = line;
@@ -108,7 +104,7 @@ module _ (services : List Facts) (input : List ℕ) where
     is = is ∙ ap (λ w. line ++ w) reason.is;
   }))
 
-  pub good_text : (told : List ℕ) (i : Declared) → IsUndivided input → length input ≤ most_interface → IsInterface services input i → TellsInterface i told → IsExplained services input (Accepted told)
+  pub good_text : (told : List ℕ) (i : Declared) → IsUndivided input → length input ≤ most_interface → IsInterface services input i → TellsInterface i told → IsExplained services input (Ready told)
   good_text told i undivided fits (tree, parses, is) (walks, tables, said) = record {
     text = input;
     its = inl (undivided, fits, refl);
@@ -126,7 +122,7 @@ module _ (services : List Facts) (input : List ℕ) where
   -- ---- the script
 
   module _ (interface second : List ℕ) (i : Declared) (texts : AreTexts most_script input interface second) (accepted : IsInterface services interface i) where
-    pub good_input : (told old : List ℕ) (script : Script) → IsReadingOf i second (Ok script) → TellsInterface i old → told ≡ old ++ counts_line script → IsExplained services input (Accepted told)
+    pub good_input : (told old : List ℕ) (script : Script) → IsReadingOf i second (Ok script) → TellsInterface i old → told ≡ old ++ counts_line script → IsExplained services input (Ready told)
     good_input told old script reads (walks, tables, said) more =
         let lines = flat_map (rebuilt_line i.facts) walks in record {
           text = interface;
@@ -143,12 +139,18 @@ module _ (services : List Facts) (input : List ℕ) where
               ∙ ap (λ l. accepted_line i.facts.name ++ (lines ++ l)) (sym (append-nil (counts_line script)));
         }
 
-    -- the input is refused with the line of its script's fault
-    pub refused_so : (fault : ScriptFault) → IsReadingOf i second (Err (Fault fault)) → (line : List ℕ) × IsInputOf services input (refused_input line)
-    refused_so fault reads =
-        (refused_line (codes "script refused at ") second fault.at (script_kind_name fault.kind), inr (interface, second, texts, i, accepted, (fault, reads, refl)))
-
-    pub bad_script : (told line : List ℕ) (fault : ScriptFault) → IsReadingOf i second (Err (Fault fault)) → IsInputOf services input (refused_input line)
-        → told ≡ line ++ why_at second fault.at (script_words fault.kind) → IsExplained services input (Refused told)
-    bad_script told line fault reads refused is =
-        inr (inr (record { line = line; refused = refused; interface = interface; script = second; texts = texts; i = i; accepted = accepted; fault = fault; reads = reads; is = is }))
+    pub bad_script : (told : List ℕ) (fault : ScriptFault) → IsReadingOf i second (Err (Fault fault))
+        → told ≡ refused_line (codes "script refused at ") second fault.at (script_kind_name fault.kind) ++ why_at second fault.at (script_words fault.kind)
+        → IsExplained services input (Refused told)
+    bad_script told fault reads is = inr (inr (record {
+      line = refused_line (codes "script refused at ") second fault.at (script_kind_name fault.kind);
+      refused = inr (interface, second, texts, i, accepted, (fault, reads, refl));
+      interface = interface;
+      script = second;
+      texts = texts;
+      i = i;
+      accepted = accepted;
+      fault = fault;
+      reads = reads;
+      is = is;
+    }))

@@ -1,12 +1,13 @@
 -- Why a text is refused, by the fault that it has.
 use Rattle.std.proofs.Common.{◌≡◌, ℕ, List, [], ◌++◌, Ok, Err, refl, sym, ◌∙◌, ap, subst, append-nil, append_assoc}
-use Rattle.std.specs.Prelude.{OnOk}
+use Rattle.std.specs.Prelude.{codes, IfOk, OnOk}
 use Rattle.std.specs.declared.result.Result.{Result}
 use Rattle.sg_facts.specs.Facts.{Facts}
 use Rattle.sg_input.specs.sg_check_statements.Faults.{IsFault}
 use Rattle.sg_input.specs.sg_check_statements.declared.fault.CheckKind.{CheckKind}
 use Rattle.sg_input.specs.sg_check_statements.declared.fault.CheckKind.TheVariants.{UnknownService, DuplicateName, UnknownFunction, BadParams, WrongFact, WrongFlag, WrongEffect, ForeignTransition, ForeignRecover, NoCreation, Unreached, NoWalk}
-use Rattle.sg_input.specs.Verdicts.{IsRefused}
+use Rattle.sg_input.specs.Lines.{refused_line}
+use Rattle.sg_input.specs.Verdicts.{IsRefused, refusal_name}
 use Rattle.sg_input.specs.declared.refusal.RefusalKind.{RefusalKind}
 use Rattle.sg_input.specs.declared.refusal.RefusalKind.TheVariants.{Check}
 use Rattle.sg_input.specs.sg_parse.Grammar.Parses.{Parses}
@@ -14,7 +15,7 @@ use Rattle.sg_input.specs.sg_parse.declared.tree.Tree.{Tree}
 use Rattle.sg_explain.specs.Explained.{IsMore, why_at}
 use Rattle.sg_explain.specs.Stuck.{IsStuckLine}
 use Rattle.sg_explain.specs.Words.{Sentences, refusal_words}
-use Rattle.sg_explain.specs.Inside.Pieces.{TellsReason}
+use Rattle.sg_explain.specs.Inside.Pieces.{TellsReason, TellsRefusal}
 
 module _ (services : List Facts) (text : List ℕ) where
   -- nothing is told besides of any other kind than a state without a walk
@@ -46,11 +47,6 @@ module _ (services : List Facts) (text : List ℕ) where
       → new ≡ old ++ why_at text at words → TellsReason services text old new
   tells_alone kind at words old new same refused besides is = tells kind at words old new new [] same refused besides is (sym (append-nil new))
 
-  pub tells_ok : {X E : Type 0} (r : Result X E) (kind : RefusalKind) (at : ℕ) (words : Sentences) (old new : List ℕ) → words ≡ refusal_words kind → IsRefused services text kind at
-      → IsMore services text kind at [] → OnOk r (new ≡ old ++ why_at text at words) → OnOk r (TellsReason services text old new)
-  tells_ok (Ok x) kind at words old new same refused besides is = tells_alone kind at words old new same refused besides is
-  tells_ok (Err e) kind at words old new same refused besides is = tt
-
   -- a state without a walk, of which a line is told besides
   pub tells_stuck : {X E : Type 0} (r : Result X E) (tree : Tree) (kind : CheckKind) (at : ℕ) (words : Sentences) (old middle new : List ℕ) → kind ≡ NoWalk → words ≡ refusal_words (Check kind)
       → Parses text (Ok tree) → IsFault services tree kind at → middle ≡ old ++ why_at text at words
@@ -58,3 +54,13 @@ module _ (services : List Facts) (text : List ℕ) where
   tells_stuck (Ok x) tree kind at words old middle new is same parses fault said (line, stuck, add) =
       tells (Check kind) at words old middle new line same (tree, parses, fault) (subst (λ k. IsMore services text (Check k) at line) (sym is) (tree, parses, stuck)) said add
   tells_stuck (Err e) tree kind at words old middle new is same parses fault said add = tt
+
+-- the line of a kind and a place, with the sentences of that kind
+pub tells_at : {E : Type 0} (text : List ℕ) (r : Result (List ℕ) E) (kind : RefusalKind) (at : ℕ) → ((services : List Facts) → IsRefused services text kind at)
+    → ((services : List Facts) → IsMore services text kind at [])
+    → IfOk r (λ told. told ≡ refused_line (codes "interface refused at ") text at (refusal_name kind) ++ why_at text at (refusal_words kind))
+    → IfOk r (λ told. (services : List Facts) → TellsRefusal services text told)
+tells_at text (Ok told) kind at refused besides is = λ services.
+    let line = refused_line (codes "interface refused at ") text at (refusal_name kind) in
+    (line, (kind, at, refused services, refl), tells_alone services text kind at (refusal_words kind) line told refl (refused services) (besides services) is)
+tells_at text (Err e) kind at refused besides is = tt

@@ -17,9 +17,8 @@ use Rattle.sg_input.specs.Divider.{Divides}
 use Rattle.sg_input.specs.Inputs.{AreTexts, IsInputOf, IsInterface, IsReady, most_interface, most_script}
 use Rattle.sg_input.specs.Lines.{too_long_line}
 use Rattle.sg_input.specs.Verdicts.{IsRefused, IsVerdict}
-use Rattle.sg_input.specs.declared.input.Input.TheVariants.{Refused as refused_input}
-use Rattle.sg_input.specs.declared.outcome.Verdict.{Verdict}
-use Rattle.sg_input.specs.declared.outcome.Verdict.TheVariants.{Accepted, Refused}
+use Rattle.sg_input.specs.declared.read.Read.{Read}
+use Rattle.sg_input.specs.declared.read.Read.TheVariants.{Ready, Refused}
 use Rattle.sg_input.specs.declared.refusal.RefusalKind.{RefusalKind}
 use Rattle.sg_input.specs.declared.refusal.RefusalKind.TheVariants.{Check}
 use Rattle.sg_explain.specs.Places.{place_lines, shown_front}
@@ -65,7 +64,7 @@ pub record ExplainsInterface (services : List Facts) (input told : List ℕ) : T
 -- the script of an input is refused: its line, and why
 pub record ExplainsScript (services : List Facts) (input told : List ℕ) : Type 0 where
   pub line : List ℕ
-  pub refused : IsInputOf services input (refused_input line)
+  pub refused : IsInputOf services input (Refused line)
   pub interface : List ℕ
   pub script : List ℕ
   pub texts : AreTexts most_script input interface script
@@ -80,7 +79,7 @@ pub record ExplainsGood (services : List Facts) (input told : List ℕ) : Type 0
   pub text : List ℕ
   pub its : IsInterfaceText input text
   pub line : List ℕ
-  pub verdict : IsVerdict services text (Accepted line)
+  pub verdict : IsVerdict services text (Ready line)
   pub i : Declared
   pub accepted : IsInterface services text i
   pub walks : List WalkLine
@@ -90,8 +89,8 @@ pub record ExplainsGood (services : List Facts) (input told : List ℕ) : Type 0
   pub is : told ≡ concat (line ∷ flat_map (rebuilt_line i.facts) walks ∷ counts ∷ [])
 
 -- this is explained of an input: nothing is wrong with it; or it is too long, or its interface or its script is refused
-abbrev pub IsExplained : List Facts → List ℕ → Verdict → Type 0
-IsExplained services input (Accepted told) = ExplainsGood services input told
+abbrev pub IsExplained : List Facts → List ℕ → Read (List ℕ) → Type 0
+IsExplained services input (Ready told) = ExplainsGood services input told
 IsExplained services input (Refused told) =
-    (((IsUndivided input × (most_interface < length input)) ⊎ IsInputOf services input (refused_input too_long_line)) × (told ≡ too_long_line ++ too_long_words))
+    (((IsUndivided input × (most_interface < length input)) ⊎ IsInputOf services input (Refused too_long_line)) × (told ≡ too_long_line ++ too_long_words))
     ⊎ (ExplainsInterface services input told ⊎ ExplainsScript services input told)

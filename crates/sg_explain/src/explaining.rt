@@ -1,28 +1,22 @@
 // What is explained of an input.
-ghost use Rattle.std.specs.Prelude.{◌≡◌, ◌||◌, ◌++◌, ℕ, nat_lt, List, Err as failed, length, true, map, IfOk};
+ghost use Rattle.std.specs.Prelude.{◌≡◌, ◌||◌, ◌++◌, ℕ, nat_lt, List, codes, length, true, map, IfOk};
 ghost use Rattle.std.specs.List.{flat_map};
-ghost use Rattle.sg_facts.specs.Facts.{facts_of};
+ghost use Rattle.sg_facts.specs.Facts.{Facts, facts_of};
 ghost use Rattle.sg_input.specs.sg_check.Shapes.{are_shapes};
 ghost use Rattle.sg_input.specs.Divider.{IsCut};
-ghost use Rattle.sg_input.specs.Inputs.{AreTexts, IsInputOf, IsInterface, most_interface, most_script};
-ghost use Rattle.sg_input.specs.Verdicts.{IsVerdict};
-ghost use Rattle.sg_input.specs.declared.input.Input.TheVariants.{Refused as refused_input};
-ghost use Rattle.sg_input.specs.declared.outcome.Verdict.TheVariants.{Refused as refused_with};
-ghost use Rattle.sg_script.specs.Reads.{IsReadingOf};
+ghost use Rattle.sg_input.specs.Inputs.{AreTexts, IsInterface, most_interface, most_script};
+ghost use Rattle.sg_input.specs.Lines.{refused_line, script_kind_name};
 ghost use Rattle.sg_explain.specs.Explained.{IsExplained, IsUndivided, why_at};
 ghost use Rattle.sg_explain.specs.Rebuilt.{counts_line, rebuilt_line};
 ghost use Rattle.sg_explain.specs.Words.{script_words};
-ghost use Rattle.sg_explain.specs.Inside.Pieces.{TellsInterface, TellsLength, TellsReason, accepted_line};
+ghost use Rattle.sg_explain.specs.Inside.Pieces.{TellsInterface, TellsLength, accepted_line};
 
 use crate::parts::put;
-use crate::reasons::{put_reason, put_why};
+use crate::reasons::{examine_with_reason, put_why};
 use crate::rebuilt::{put_counts, put_rebuilt};
 use crate::words::{TOO_LONG_EXPLAINED, script_words};
 use sg_facts::{Bytes, Interface, NoMemory, Shape, WalkLine};
-use sg_input::{
-    Accepted, Examined, Input, MOST_INTERFACE, MOST_SCRIPT, Verdict, compile, cut, examine,
-    read_input,
-};
+use sg_input::{Accepted, MOST_INTERFACE, MOST_SCRIPT, Read, compile, cut, script_line};
 use sg_script::{Script, ScriptError, ScriptFault, read};
 use std::alloc::Global;
 
@@ -33,18 +27,18 @@ use std::alloc::Global;
 /// with a place the line of the text that has it, with a mark below; what is wrong there, and what is usually meant. Where no walk
 /// restores a state there is a line more, with the first thing that a descriptor can come to there and no walk restores. The shapes are as for
 /// `verdict`. The only error is want of memory.
-pub fn explain(alloc: Global, input: &[u8], shapes: &[Shape]) -> Result<Verdict, NoMemory>
+pub fn explain(alloc: Global, input: &[u8], shapes: &[Shape]) -> Result<Read<Bytes>, NoMemory>
     requires { are_shapes (map facts_of shapes.now) ≡ true }
     ensures { IfOk result (IsExplained (map facts_of shapes.now) input.now) }
 {
     let Some((interface, script)) = cut(input) else {
         return explain_text(alloc, input, shapes);
     };
-    explain_input(alloc, input, interface, script, shapes)
+    explain_input(alloc, interface, script, shapes)
 }
 
 // What is explained of an input that no line divides: the text of an interface.
-fn explain_text(alloc: Global, text: &[u8], shapes: &[Shape]) -> Result<Verdict, NoMemory>
+fn explain_text(alloc: Global, text: &[u8], shapes: &[Shape]) -> Result<Read<Bytes>, NoMemory>
     requires shapes { are_shapes (map facts_of shapes.now) ≡ true }
     requires undivided { IsUndivided text.now }
     ensures { IfOk result (IsExplained (map facts_of shapes.now) text.now) }
@@ -52,84 +46,54 @@ fn explain_text(alloc: Global, text: &[u8], shapes: &[Shape]) -> Result<Verdict,
     if is_longer(text, MOST_INTERFACE) {
         return too_long(alloc);
     }
-    let examined = examine(alloc, text, shapes)?;
+    let examined = examine_with_reason(alloc, text, shapes)?;
     match examined {
-        Examined::Accepted(accepted) => {
+        Read::Ready(accepted) => {
             let told = told_of(alloc, &accepted)?;
-            Ok(Verdict::Accepted(told))
+            Ok(Read::Ready(told))
         }
-        Examined::Refused(line) => {
-            let why = with_reason(alloc, line, text, shapes)?;
-            Ok(Verdict::Refused(why))
-        }
+        Read::Refused(told) => Ok(Read::Refused(told)),
     }
 }
 
 // What is explained of an input that a line divides into these two texts.
 fn explain_input(
     alloc: Global,
-    input: &[u8],
     interface: &[u8],
     script: &[u8],
     shapes: &[Shape],
-) -> Result<Verdict, NoMemory>
-    requires shapes { are_shapes (map facts_of shapes.now) ≡ true }
-    requires cut { IsCut input.now interface.now script.now }
-    ensures { IfOk result (IsExplained (map facts_of shapes.now) input.now) }
+) -> Result<Read<Bytes>, NoMemory>
+    requires { are_shapes (map facts_of shapes.now) ≡ true }
+    ensures { IfOk result (λ told. (input : List ℕ) → IsCut input interface.now script.now → IsExplained (map facts_of shapes.now) input told) }
 {
     if are_longer(interface, script) {
         return too_long(alloc);
     }
-    let examined = examine(alloc, interface, shapes)?;
+    let examined = examine_with_reason(alloc, interface, shapes)?;
     match examined {
-        Examined::Accepted(accepted) => explain_script(alloc, input, &accepted, script, shapes),
-        Examined::Refused(line) => {
-            let why = with_reason(alloc, line, interface, shapes)?;
-            Ok(Verdict::Refused(why))
-        }
+        Read::Ready(accepted) => explain_script(alloc, &accepted, script),
+        Read::Refused(told) => Ok(Read::Refused(told)),
     }
 }
 
 // What is explained of an input whose interface is accepted, and which has this script.
 fn explain_script(
     alloc: Global,
-    input: &[u8],
     accepted: &Accepted,
     script: &[u8],
-    shapes: &[Shape],
-) -> Result<Verdict, NoMemory>
-    requires shapes { are_shapes (map facts_of shapes.now) ≡ true }
-    requires ready { (interface : List ℕ) × AreTexts most_script input.now interface script.now × IsInterface (map facts_of shapes.now) interface accepted.now }
-    ensures { IfOk result (IsExplained (map facts_of shapes.now) input.now) }
+) -> Result<Read<Bytes>, NoMemory>
+    ensures { IfOk result (λ told. (services : List Facts) (input interface : List ℕ) → AreTexts most_script input interface script.now
+        → IsInterface services interface accepted.now → IsExplained services input told) }
 {
     match read(alloc, script, accepted.interface()) {
         Ok(parsed) => {
             let told = with_counts(alloc, accepted, &parsed)?;
-            Ok(Verdict::Accepted(told))
+            Ok(Read::Ready(told))
         }
-        Err(error) => explain_error(alloc, input, accepted, script, error, shapes),
-    }
-}
-
-// What is explained of an input whose interface is accepted, and whose script is answered with this error.
-fn explain_error(
-    alloc: Global,
-    input: &[u8],
-    accepted: &Accepted,
-    script: &[u8],
-    error: ScriptError,
-    shapes: &[Shape],
-) -> Result<Verdict, NoMemory>
-    requires shapes { are_shapes (map facts_of shapes.now) ≡ true }
-    requires ready { (interface : List ℕ) × AreTexts most_script input.now interface script.now × IsInterface (map facts_of shapes.now) interface accepted.now }
-    requires error { IsReadingOf accepted.now script.now (failed error) }
-    ensures { IfOk result (IsExplained (map facts_of shapes.now) input.now) }
-{
-    match error {
-        ScriptError::NoMemory => Err(NoMemory),
-        ScriptError::Fault(fault) => {
-            let why = with_fault(alloc, input, script, fault, shapes)?;
-            Ok(Verdict::Refused(why))
+        Err(ScriptError::NoMemory) => Err(NoMemory),
+        Err(ScriptError::Fault(fault)) => {
+            let told = with_fault(alloc, script, fault)?;
+            Ok(Read::Refused(told))
         }
     }
 }
@@ -144,19 +108,11 @@ fn with_counts(alloc: Global, accepted: &Accepted, script: &Script) -> Result<By
 }
 
 // The line that refuses an input for a fault of its script, with why.
-fn with_fault(
-    alloc: Global,
-    input: &[u8],
-    script: &[u8],
-    fault: ScriptFault,
-    shapes: &[Shape],
-) -> Result<Bytes, NoMemory>
-    requires shapes { are_shapes (map facts_of shapes.now) ≡ true }
-    requires refused { (line : List ℕ) × IsInputOf (map facts_of shapes.now) input.now (refused_input line) }
-    ensures { IfOk result (λ told. (line : List ℕ) × IsInputOf (map facts_of shapes.now) input.now (refused_input line)
-        × (told ≡ line ++ why_at script.now fault.at (script_words fault.kind))) }
+fn with_fault(alloc: Global, script: &[u8], fault: ScriptFault) -> Result<Bytes, NoMemory>
+    ensures { IfOk result (λ told. told ≡ refused_line (codes "script refused at ") script.now fault.at (script_kind_name fault.kind)
+        ++ why_at script.now fault.at (script_words fault.kind)) }
 {
-    let mut told = refusal_of(alloc, input, shapes)?;
+    let mut told = script_line(alloc, script, fault)?;
     put_why(&mut told, script, fault.at, &script_words(fault.kind))?;
     Ok(told)
 }
@@ -176,10 +132,10 @@ fn are_longer(interface: &[u8], script: &[u8]) -> bool
 }
 
 // What is told of an input that is too long.
-fn too_long(alloc: Global) -> Result<Verdict, NoMemory>
+fn too_long(alloc: Global) -> Result<Read<Bytes>, NoMemory>
     ensures { IfOk result TellsLength }
 {
-    Ok(Verdict::Refused(Bytes::from_slice(alloc, TOO_LONG_EXPLAINED)?))
+    Ok(Read::Refused(Bytes::from_slice(alloc, TOO_LONG_EXPLAINED)?))
 }
 
 // What is told of an interface that is accepted.
@@ -198,28 +154,4 @@ fn told_by(alloc: Global, iface: &Interface, lines: &[WalkLine]) -> Result<Bytes
     put(&mut told, &[b"accepted ", iface.shape.name, b"\n"])?;
     put_rebuilt(&mut told, &iface.shape, lines)?;
     Ok(told)
-}
-
-// The line that refuses the text of an interface, with why.
-fn with_reason(alloc: Global, line: Bytes, text: &[u8], shapes: &[Shape]) -> Result<Bytes, NoMemory>
-    requires shapes { are_shapes (map facts_of shapes.now) ≡ true }
-    requires refused { IsVerdict (map facts_of shapes.now) text.now (refused_with line) }
-    ensures { IfOk result (TellsReason (map facts_of shapes.now) text.now line) }
-{
-    let mut told = line;
-    put_reason(&mut told, alloc, text, shapes)?;
-    Ok(told)
-}
-
-// The line that refuses an input, which is known to be refused.
-fn refusal_of(alloc: Global, input: &[u8], shapes: &[Shape]) -> Result<Bytes, NoMemory>
-    requires shapes { are_shapes (map facts_of shapes.now) ≡ true }
-    requires refused { (line : List ℕ) × IsInputOf (map facts_of shapes.now) input.now (refused_input line) }
-    ensures { IfOk result (λ line. IsInputOf (map facts_of shapes.now) input.now (refused_input line)) }
-{
-    let found = read_input(alloc, input, shapes)?;
-    match found {
-        Input::Refused(line) => Ok(line),
-        Input::Ready(_, _) => unreachable!(),
-    }
 }

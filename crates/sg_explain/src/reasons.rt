@@ -1,89 +1,103 @@
 // Why the text of an interface is refused, and what is told of a place.
-ghost use Rattle.std.specs.Prelude.{◌≡◌, ◌++◌, ℕ, List, Ok, Err as failed, true, map, OnOk};
+ghost use Rattle.std.specs.Prelude.{◌≡◌, ◌++◌, List, Ok, Err as failed, codes, true, map, IfOk, OnOk};
 ghost use Rattle.sg_facts.specs.Facts.{Facts, facts_of};
 ghost use Rattle.sg_input.specs.sg_check.Shapes.{are_shapes};
 ghost use Rattle.sg_input.specs.sg_check_statements.Faults.{IsFault};
-ghost use Rattle.sg_input.specs.sg_check_statements.Stages.{IsFirstFault};
-ghost use Rattle.sg_input.specs.Verdicts.{IsVerdict};
-ghost use Rattle.sg_input.specs.declared.outcome.Verdict.TheVariants.{Refused as refused_with};
+ghost use Rattle.sg_input.specs.Lines.{refused_line};
+ghost use Rattle.sg_input.specs.Verdicts.{refusal_name};
 ghost use Rattle.sg_input.specs.sg_parse.Grammar.Parses.{Parses};
 ghost use Rattle.sg_explain.specs.Explained.{why_at};
-ghost use Rattle.sg_explain.specs.Inside.Pieces.{TellsReason};
+ghost use Rattle.sg_explain.specs.Words.{refusal_words};
+ghost use Rattle.sg_explain.specs.Inside.Pieces.{IsExaminedWithReason, TellsReason, TellsRefusal};
 
 use crate::parts::put;
 use crate::places::{put_place, put_shown};
 use crate::stuck::put_stuck;
 use crate::words::{Sentences, refusal_words};
 use sg_facts::{Bytes, NoMemory, Shape};
-use sg_input::{CheckError, CheckFault, CheckKind, ParseError, RefusalKind, Tree, check, parse};
+use sg_input::{
+    Accepted, CheckError, CheckFault, CheckKind, ParseError, Read, RefusalKind, Tree, check, parse,
+    refusal_line,
+};
 use std::alloc::Global;
 
-/// Adds why the text of an interface, which is refused, is refused.
-pub(crate) fn put_reason(
-    out: &mut Bytes,
+/// The interface of a text that is accepted, or else what is told of the text: the line that refuses it, and why.
+pub(crate) fn examine_with_reason(
     alloc: Global,
     text: &[u8],
     shapes: &[Shape],
-) -> Result<(), NoMemory>
-    requires shapes { are_shapes (map facts_of shapes.now) ≡ true }
-    requires refused { (line : List ℕ) × IsVerdict (map facts_of shapes.now) text.now (refused_with line) }
-    ensures { OnOk result (TellsReason (map facts_of shapes.now) text.now out.old out.new) }
+) -> Result<Read<Accepted>, NoMemory>
+    requires { are_shapes (map facts_of shapes.now) ≡ true }
+    ensures { IfOk result (IsExaminedWithReason (map facts_of shapes.now) text.now) }
 {
     match parse(alloc, text) {
-        Ok(tree) => put_unaccepted(out, alloc, text, &tree, shapes),
-        Err(error) => put_unparsed(out, text, error),
+        Ok(tree) => examine_tree(alloc, text, &tree, shapes),
+        Err(error) => {
+            let told = told_unparsed(alloc, text, error)?;
+            Ok(Read::Refused(told))
+        }
     }
 }
 
-// Adds why a text is refused that the parser answers with this error.
-fn put_unparsed(out: &mut Bytes, text: &[u8], error: ParseError) -> Result<(), NoMemory>
+// The interface of a text that is a sentence, or what is told of the text.
+fn examine_tree(
+    alloc: Global,
+    text: &[u8],
+    tree: &Tree,
+    shapes: &[Shape],
+) -> Result<Read<Accepted>, NoMemory>
+    requires shapes { are_shapes (map facts_of shapes.now) ≡ true }
+    requires sentence { Parses text.now (Ok tree.now) }
+    ensures { IfOk result (IsExaminedWithReason (map facts_of shapes.now) text.now) }
+{
+    match check(alloc, tree, shapes) {
+        Ok(accepted) => Ok(Read::Ready(accepted)),
+        Err(CheckError::NoMemory) => Err(NoMemory),
+        Err(CheckError::Fault(fault)) => {
+            let told = told_unaccepted(alloc, text, tree, fault, shapes)?;
+            Ok(Read::Refused(told))
+        }
+    }
+}
+
+// What is told of a text that the parser answers with this error, whatever the services.
+fn told_unparsed(alloc: Global, text: &[u8], error: ParseError) -> Result<Bytes, NoMemory>
     requires { Parses text.now (failed error) }
-    ensures { (services : List Facts) → OnOk result (TellsReason services text.now out.old out.new) }
+    ensures { IfOk result (λ told. (services : List Facts) → TellsRefusal services text.now told) }
 {
     match error {
         ParseError::NoMemory => Err(NoMemory),
-        ParseError::Lex { at } => put_why(out, text, at, &refusal_words(RefusalKind::Lex)),
-        ParseError::Syntax { at } => put_why(out, text, at, &refusal_words(RefusalKind::Syntax)),
+        ParseError::Lex { at } => told_at(alloc, text, RefusalKind::Lex, at),
+        ParseError::Syntax { at } => told_at(alloc, text, RefusalKind::Syntax, at),
     }
 }
 
-// Adds why a sentence is refused.
-fn put_unaccepted(
-    out: &mut Bytes,
-    alloc: Global,
-    text: &[u8],
-    tree: &Tree,
-    shapes: &[Shape],
-) -> Result<(), NoMemory>
-    requires shapes { are_shapes (map facts_of shapes.now) ≡ true }
-    requires sentence { Parses text.now (Ok tree.now) }
-    requires refused { (line : List ℕ) × IsVerdict (map facts_of shapes.now) text.now (refused_with line) }
-    ensures { OnOk result (TellsReason (map facts_of shapes.now) text.now out.old out.new) }
+// The line that refuses a text for a kind at a place, with the sentences of that kind.
+fn told_at(alloc: Global, text: &[u8], kind: RefusalKind, at: usize) -> Result<Bytes, NoMemory>
+    ensures { IfOk result (λ told. told ≡ refused_line (codes "interface refused at ") text.now at (refusal_name kind)
+        ++ why_at text.now at (refusal_words kind)) }
 {
-    match check(alloc, tree, shapes) {
-        Ok(_) => unreachable!(),
-        Err(error) => put_unfit(out, alloc, text, tree, error, shapes),
-    }
+    let mut told = refusal_line(alloc, text, kind, at)?;
+    put_why(&mut told, text, at, &refusal_words(kind))?;
+    Ok(told)
 }
 
-// Adds why a sentence is refused that the checker answers with this error.
-fn put_unfit(
-    out: &mut Bytes,
+// What is told of a sentence that has this fault first.
+fn told_unaccepted(
     alloc: Global,
     text: &[u8],
     tree: &Tree,
-    error: CheckError,
+    fault: CheckFault,
     shapes: &[Shape],
-) -> Result<(), NoMemory>
+) -> Result<Bytes, NoMemory>
     requires shapes { are_shapes (map facts_of shapes.now) ≡ true }
     requires sentence { Parses text.now (Ok tree.now) }
-    requires error { IsFirstFault (map facts_of shapes.now) tree.now error }
-    ensures { OnOk result (TellsReason (map facts_of shapes.now) text.now out.old out.new) }
+    requires fault { IsFault (map facts_of shapes.now) tree.now fault.kind fault.at }
+    ensures { IfOk result (TellsRefusal (map facts_of shapes.now) text.now) }
 {
-    match error {
-        CheckError::NoMemory => Err(NoMemory),
-        CheckError::Fault(fault) => put_fault(out, alloc, text, tree, fault, shapes),
-    }
+    let mut told = refusal_line(alloc, text, RefusalKind::Check(fault.kind), fault.at)?;
+    put_fault(&mut told, alloc, text, tree, fault, shapes)?;
+    Ok(told)
 }
 
 // Adds why a sentence is refused that has this fault first.

@@ -1,5 +1,5 @@
 -- The facts of a service as plain data, and what they say of each function.
-use Rattle.std.specs.Prelude.{ℕ, zero, suc, ◌==◌, Bool, true, false, ◌||◌, List, [], map, slice_get, unwrap_or}
+use Rattle.std.specs.Prelude.{ℕ, zero, suc, ◌==◌, Bool, true, false, ◌&&◌, ◌||◌, not, List, [], map, slice_get, unwrap_or}
 use Rattle.std.specs.List.{list_any}
 use Rattle.std.specs.Int.{bit_at}
 use Rattle.sg_facts.specs.declared.shape.Shape.{Shape}
@@ -7,7 +7,7 @@ use Rattle.sg_facts.specs.declared.shape.FunShape.{FunShape}
 use Rattle.sg_facts.specs.declared.shape.Parents.{Parents}
 use Rattle.sg_facts.specs.declared.shape.Parents.TheVariants.{Never}
 use Rattle.sg_facts.specs.declared.shape.Kind.{Kind}
-use Rattle.sg_facts.specs.declared.shape.Kind.TheVariants.{Desc, Parent}
+use Rattle.sg_facts.specs.declared.shape.Kind.TheVariants.{Desc, Parent, Text}
 use Rattle.sg_facts.specs.declared.shape.Leaves.{Leaves}
 use Rattle.sg_facts.specs.declared.shape.Leaves.TheVariants.{Own, Same, Of}
 use Rattle.sg_facts.specs.declared.shape.Effect.{Effect}
@@ -160,6 +160,10 @@ takes_desc f = list_any (λ kind. elim kind [ Desc ↦ true | _ ↦ false ]) f.k
 -- whether a function takes a parent
 abbrev pub takes_parent : Fun → Bool
 takes_parent f = list_any (λ kind. elim kind [ Parent ↦ true | _ ↦ false ]) f.kinds
+
+-- whether an Ok of the function shows its bytes where it is printed: the function uses the file of its descriptor and takes no text
+abbrev pub shows_bytes : Fun → Bool
+shows_bytes f = f.uses_file && not (list_any (λ kind. elim kind [ Text ↦ true | _ ↦ false ]) f.kinds)
 
 -- the state of a row after a function of a service that was called in a state
 abbrev pub state_after : Facts → ℕ → ℕ → ℕ

@@ -8,7 +8,7 @@ use Rattle.sg_facts.specs.Interface.{Declared}
 use Rattle.sg_facts.specs.Track.{row_at}
 use Rattle.sg_facts.specs.Inside.Rows.{cleared}
 use Rattle.sg_facts.specs.Object.{Object}
-use Rattle.sg_facts.specs.Walks.{Mark, unset, good, unknown, Spot, spot_of, IsReachable, IsWalkOf}
+use Rattle.sg_facts.specs.Walks.{FieldMark, unset, good, unknown, Spot, spot_of, IsReachable, IsWalkOf}
 use Rattle.sg_facts.specs.Sound.{IsSound}
 use Rattle.sg_facts.specs.Alike.{named, AreNames, IsAlike, HasAlike}
 
@@ -20,13 +20,13 @@ SameKind (Word m) (Text n) = ⊥
 SameKind (Text m) (Word n) = ⊥
 
 -- the service's value of a field, by what is known of it: it is 0 or empty, or the row's, or only of its kind
-abbrev pub FieldHolds : Mark → Value → Value → Type 0
+abbrev pub FieldHolds : FieldMark → Value → Value → Type 0
 FieldHolds unset v held = held ≡ cleared v
 FieldHolds good v held = held ≡ v
 FieldHolds unknown v held = SameKind v held
 
 -- the service's values of all fields of a row, each by what is known of it; there is one mark and one value for each
-abbrev pub FieldsHold : List Mark → List Value → List Value → Type 0
+abbrev pub FieldsHold : List FieldMark → List Value → List Value → Type 0
 FieldsHold [] [] [] = Unit {0}
 FieldsHold (m ∷ marks) (v ∷ vs) (w ∷ ws) = FieldHolds m v w × FieldsHold marks vs ws
 FieldsHold _ _ _ = ⊥

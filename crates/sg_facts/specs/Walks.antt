@@ -53,25 +53,25 @@ pub data IsReachable (i : Declared) : ℕ → ℕ → List Bool → Type 0 where
 -- ---- how far a walk leads
 
 -- what is known of a field when a walk has come so far: it is 0 or empty, it has the row's value, or nothing is known
-pub data Mark : Type 0 where
-  unset : Mark
-  good : Mark
-  unknown : Mark
+pub data FieldMark : Type 0 where
+  unset : FieldMark
+  good : FieldMark
+  unknown : FieldMark
 
 -- a mark after an effect
-abbrev pub mark_after : Effect → Mark → Mark
+abbrev pub mark_after : Effect → FieldMark → FieldMark
 mark_after effect mark =
     elim effect [ SetCaller ↦ good | SetArg k ↦ good | AddArg k ↦ elim mark [ unset ↦ good | _ ↦ unknown ] | Clear ↦ unset | _ ↦ unknown ]
 
 -- the marks after a function's effects
-abbrev pub marks_after : List (ℕ × Effect) → List Mark → List Mark
+abbrev pub marks_after : List (ℕ × Effect) → List FieldMark → List FieldMark
 marks_after [] marks = marks
 marks_after (e ∷ es) marks = marks_after es (slice_set marks e.0 (mark_after e.1 (unwrap_or (slice_get marks e.0) unset)))
 
 -- where a walk has come to: a state, and a mark for each field
 pub record Spot : Type 0 where
   pub state : ℕ
-  pub marks : List Mark
+  pub marks : List FieldMark
 
 -- where the rest of a walk leads to: it goes on with declared recover steps that are neither terminal nor queries; None where it is no walk
 abbrev pub spot_from : Declared → Spot → List ℕ → Option Spot
@@ -93,7 +93,7 @@ spot_of i (fun ∷ walk) =
 
 -- whether marks restore fields: there is a mark for each field, a field that is set has the row's value, and one that isn't is 0 or
 -- empty, or has the row's value
-abbrev pub restores_fields : List Mark → List Bool → Bool
+abbrev pub restores_fields : List FieldMark → List Bool → Bool
 restores_fields marks set = pointwise (λ mark b. elim mark [ good ↦ true | unset ↦ not b | unknown ↦ false ]) marks set
 
 -- whether a walk restores a state with a set of fields

@@ -1,7 +1,8 @@
 // The finite facts of a service.
 ghost use Rattle.std.specs.Prelude.{◌≡◌, ◌||◌, ◌+◌, ◌<◌, ◌^◌, map};
-ghost use Rattle.sg_facts.specs.Facts.{facts_of, fun_at, fun_of_shape, takes_desc, takes_parent};
-ghost use Rattle.sg_facts.specs.Inside.Rows.{left_by};
+ghost use Rattle.std.specs.List.{list_any};
+ghost use Rattle.sg_facts.specs.Facts.{facts_of, fun_at, fun_of_shape, shows_bytes, takes_desc, takes_parent};
+ghost use Rattle.sg_facts.specs.Inside.Rows.{is_text_kind, left_by};
 
 use crate::interface::has_flag;
 
@@ -181,6 +182,20 @@ impl FunShape {
         ensures { result ≡ (takes_desc (fun_of_shape self.now) || takes_parent (fun_of_shape self.now)) }
     {
         self.takes_desc() || self.takes_parent()
+    }
+
+    /// Whether an Ok of it shows its bytes where it is printed: it uses the file of its descriptor and takes no text.
+    pub fn shows_bytes(&self) -> bool
+        ensures { result ≡ shows_bytes (fun_of_shape self.now) }
+    {
+        self.uses_file() && !self.takes_text()
+    }
+
+    // Whether it takes a text.
+    fn takes_text(&self) -> bool
+        ensures { result ≡ list_any is_text_kind (fun_of_shape self.now).kinds }
+    {
+        self.kinds.iter().any(|kind| matches!(kind, Kind::Text))
     }
 }
 

@@ -61,7 +61,7 @@ pub stands_before-more : (item : Item) (p q : Position) (e : Entry) → IsGrown 
 stands_before-more item p q e g none =
     let earlier : list_any (is_item_of e) (past q) ≡ list_any (is_item_of e) (past p) = ap (list_any (is_item_of e)) (past_same item p q g) in
     let own : is_item_of e q.item ≡ is_item_of e p.item = ap (is_item_of e) g.own in
-    let later : list_any (is_item_of e) (items_after q) ≡ list_any (is_item_of e) (items_after p) = ap (list_any (is_item_of e)) g.behind_it ∙ any_more (is_item_of e) (items_after p) item none in
+    let later : list_any (is_item_of e) (items_after q) ≡ list_any (is_item_of e) (items_after p) = ap (list_any (is_item_of e)) g.after_it ∙ any_more (is_item_of e) (items_after p) item none in
     ap (λ b. not (is_by_guard e.reply) && b && not (is_item_of e q.item || list_any (is_item_of e) (items_after q))) earlier
     ∙ ap (λ b. not (is_by_guard e.reply) && list_any (is_item_of e) (past p) && not (b || list_any (is_item_of e) (items_after q))) own
     ∙ ap (λ b. not (is_by_guard e.reply) && list_any (is_item_of e) (past p) && not (is_item_of e p.item || b)) later
@@ -69,7 +69,7 @@ stands_before-more item p q e g none =
 -- the entry of the item that was noted doesn't stand before any place that was there
 pub stands_before-own : (item : Item) (p q : Position) (e : Entry) → IsGrown item p q → is_item_of e item ≡ true → stands_before q e ≡ false
 stands_before-own item p q e g one =
-    let later : list_any (is_item_of e) (items_after q) ≡ true = ap (list_any (is_item_of e)) g.behind_it ∙ any_last (is_item_of e) (items_after p) item one in
+    let later : list_any (is_item_of e) (items_after q) ≡ true = ap (list_any (is_item_of e)) g.after_it ∙ any_last (is_item_of e) (items_after p) item one in
     ap (λ b. not (is_by_guard e.reply) && list_any (is_item_of e) (past q) && not (is_item_of e q.item || b)) later
     ∙ nothing (not (is_by_guard e.reply)) (list_any (is_item_of e) (past q)) (is_item_of e q.item)
   where
@@ -141,7 +141,7 @@ in_boot older front (x ∷ items) item =
           older = refl;
           front = refl;
           own = refl;
-          behind_it = append-nil (items ++ item ∷ []) ∙ ap (λ v. v ++ item ∷ []) (sym (append-nil items));
+          after_it = append-nil (items ++ item ∷ []) ∙ ap (λ v. v ++ item ∷ []) (sym (append-nil items));
         },
         more.each,
       );
@@ -152,7 +152,7 @@ pub in_older : (older front items newer : List Item) (item : Item)
     → AreGrown item (places_in older front items newer) (places_in older front items (newer ++ item ∷ []))
 in_older older front [] newer item = tt
 in_older older front (x ∷ items) newer item = (
-  record { older = refl; front = refl; own = refl; behind_it = sym (append_assoc items newer (item ∷ [])) },
+  record { older = refl; front = refl; own = refl; after_it = sym (append_assoc items newer (item ∷ [])) },
   in_older older (front ++ x ∷ []) items newer item,
 )
 

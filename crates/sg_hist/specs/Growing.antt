@@ -53,7 +53,7 @@ pub record IsGrown (item : Item) (p q : Position) : Type 0 where
   pub older : q.older ≡ p.older
   pub front : q.front ≡ p.front
   pub own : q.item ≡ p.item
-  pub behind_it : items_after q ≡ items_after p ++ item ∷ []
+  pub after_it : items_after q ≡ items_after p ++ item ∷ []
 
 -- places are the same, one by one, but that an item more stands after each
 abbrev pub AreGrown : Item → List Position → List Position → Type 0

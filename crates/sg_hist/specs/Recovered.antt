@@ -271,10 +271,22 @@ struck_in run = flat_map (λ b. option_map_or (λ stop. stop ∷ []) b.stop []) 
 abbrev pub start_of : Run → Entry → ℕ → ℕ
 start_of run e low = if is_by_guard e.reply then low else option_map_or (λ p. length p.older) (item_of run e) low
 
--- along a history the boots of the entries' items never go back: a held reply is committed in the boot in which it was given
-abbrev pub AreInBoots : Run → ℕ → List Entry → Type 0
-AreInBoots run low [] = Unit {0}
-AreInBoots run low (e ∷ history) = (low ≤ start_of run e low) × AreInBoots run (start_of run e low) history
+-- whether a boot stopped right after the commit of an entry: its last item is the entry's visible reply, and it stopped before the point at
+-- which the service would have been used next
+abbrev pub is_stopped_after : Facts → Entry → Boot → Bool
+is_stopped_after facts e b =
+    option_map_or (λ item. is_item_of e item && is_visible_reply facts item && option_map_or (λ stop. nat_lt stop (asked_after item.points 2)) b.stop false) (last_or None b.items) false
+
+-- as many items, for the entries that follow: one more, and so past the entry's boot, where the service stopped right after its commit, since
+-- the replies that were held then are lost
+abbrev pub start_after : Facts → Run → Entry → ℕ → ℕ
+start_after facts run e low = if not (is_by_guard e.reply) && list_any (is_stopped_after facts e) run.boots then start_of run e low + 1 else start_of run e low
+
+-- along a history the boots of the entries' items never go back: a held reply is committed in the boot in which it was given, before the
+-- service stops
+abbrev pub AreInBoots : Facts → Run → ℕ → List Entry → Type 0
+AreInBoots facts run low [] = Unit {0}
+AreInBoots facts run low (e ∷ history) = (low ≤ start_of run e low) × AreInBoots facts run (start_after facts run e low) history
 
 -- ---- a run recovers
 
@@ -313,4 +325,4 @@ pub record IsRecovered (s : Stubs) (history : List Entry) (run : Run) (unanswere
   -- no point is left out or asked twice, and no stop is at another than the last that was asked
   pub points : ArePointsOf true s.interface.facts s.ask s.parts 0 run.boots run.points
   -- no reply that was held when the service stopped is committed afterwards
-  pub held : AreInBoots run 0 history
+  pub held : AreInBoots s.interface.facts run 0 history

@@ -11,8 +11,8 @@ abbrev NoneAt : List ℕ → ℕ → Type 0
 NoneAt input at = (line behind : List ℕ) → IsDivider line behind → drop at input ≢ line ++ behind
 
 -- what stands after the bytes before such a line
-pub behind_lines : (input b c : List ℕ) (d : Divides input b c) → drop (length b) input ≡ d.line ++ c
-behind_lines input b c d = ap (drop (length b)) d.whole ∙ drop-append_seam b (d.line ++ c)
+pub after_lines : (input b c : List ℕ) (d : Divides input b c) → drop (length b) input ≡ d.line ++ c
+after_lines input b c d = ap (drop (length b)) d.whole ∙ drop-append_seam b (d.line ++ c)
 
 -- such a line at or after a place at which none stands has an LF before it, at or after that place
 pub record EndsAt (input : List ℕ) (at : ℕ) (b : List ℕ) : Type 0 where
@@ -37,7 +37,7 @@ pub ends_at : (input : List ℕ) (at : ℕ) (b c : List ℕ) → Divides input b
 ends_at input at b c d le none = by (eq-or-lt_of_le le) d.lines
   where
     by : (at ≡ length b) ⊎ (at < length b) → AreLines b → EndsAt input at b
-    by (inl e) lines = absurd (none d.line c d.divider (ap (λ v. drop v input) e ∙ behind_lines input b c d))
+    by (inl e) lines = absurd (none d.line c d.divider (ap (λ v. drop v input) e ∙ after_lines input b c d))
     by (inr lt) (inl e) = absurd (let f = ap length e in omega (arith, f, lt))
     by (inr lt) (inr (front, e)) = ended input at b c d front e lt
 

@@ -1,21 +1,16 @@
 -- The interfaces of an input for several services: one more of them, what comes of a text after them, and that they are one.
-use Rattle.std.proofs.Common.{◌≡◌, ◌⊎◌, inl, inr, ℕ, zero, suc, ◌+◌, ◌<◌, ◌≤◌, Bool, true, false, List, [], ◌∷◌, ◌++◌, Some, length, take, refl, sym, ◌∙◌, ap, subst, arith, append_assoc}
-use Rattle.std.specs.Prelude.{Ok, codes, slice_index_or}
+use Rattle.std.proofs.Common.{◌≡◌, inl, inr, ℕ, zero, suc, ◌+◌, ◌<◌, ◌≤◌, true, false, List, [], ◌∷◌, ◌++◌, length, take, refl, sym, ◌∙◌, ap, subst, arith}
+use Rattle.std.specs.Prelude.{codes, slice_index_or}
 use Rattle.std.specs.List.{AllPairs, AllZip, list_any}
 use Rattle.std.specs.Str.{bytes_eq}
 use Rattle.std.proofs.lemmas.List.{take_more}
 use Rattle.sg_facts.specs.Facts.{Facts}
 use Rattle.sg_facts.specs.Interface.{Declared}
-use Rattle.sg_facts.specs.sg_base.Lists.{Each}
 use Rattle.sg_input.specs.sg_parse.declared.tree.Tree.{Tree}
-use Rattle.sg_input.specs.sg_parse.Grammar.Parses.{Parses}
-use Rattle.sg_input.specs.sg_check_statements.Faults.{IsAccepted, interface_of}
-use Rattle.sg_input.specs.declared.outcome.Verdict.TheVariants.{Refused as refused}
-use Rattle.sg_input.specs.declared.refusal.RefusalKind.{RefusalKind}
 use Rattle.sg_input.specs.Inputs.{IsInterface}
 use Rattle.sg_input.specs.Lines.{refused_line}
 use Rattle.sg_input.specs.MultiInputs.{AreMembers, IsNoMember, has_service, member_line}
-use Rattle.sg_input.specs.Verdicts.{IsRefused, refusal_name}
+use Rattle.sg_input.specs.Verdicts.{refusal_name}
 use Rattle.sg_input.specs.Inside.Members.{AreFitMembers, IsFitMember}
 use Rattle.sg_input.proofs.Apart.{Differ, apart_more, apart_there, few_apart, found_any, found_name}
 use Rattle.sg_input.proofs.OneInput.{not_refused, one_interface, one_tree}

@@ -11,8 +11,6 @@ use Rattle.sg_input.specs.sg_parse.declared.tree.Tree.{Tree}
 use Rattle.sg_input.specs.sg_parse.Grammar.Parses.{Parses}
 use Rattle.sg_input.proofs.sg_parse.Grammar.Readings.{only_answer}
 use Rattle.sg_input.specs.sg_check_statements.Faults.{IsAccepted, interface_of}
-use Rattle.sg_input.specs.declared.outcome.Verdict.{Verdict}
-use Rattle.sg_input.specs.declared.outcome.Verdict.TheVariants.{Accepted as accepted, Refused as refused}
 use Rattle.sg_input.specs.Verdicts.{IsVerdict}
 use Rattle.sg_input.specs.Inside.Said.{accepted_line, script_line}
 use Rattle.sg_input.proofs.OneVerdict.{one_verdict}
@@ -22,10 +20,10 @@ use Rattle.sg_script.specs.declared.fault.ScriptFault.{ScriptFault}
 use Rattle.sg_script.specs.declared.script.Script.{Script}
 use Rattle.sg_script.specs.Reads.{IsReadingOf}
 use Rattle.sg_script.proofs.Unique.{one_reading}
-use Rattle.sg_input.specs.declared.input.Input.{Input}
-use Rattle.sg_input.specs.declared.input.Input.TheVariants.{Refused, Ready}
+use Rattle.sg_input.specs.declared.read.Read.{Read}
+use Rattle.sg_input.specs.declared.read.Read.TheVariants.{Ready, Refused}
 use Rattle.sg_input.specs.Inputs.{AreTexts, IsInputOf, IsInterface, IsReadAs, IsReady, IsRefusedInput, most_interface, most_script}
-use Rattle.sg_input.specs.Inside.Fronts.{HasLongText, HasNoDivider, IsBadInterface, IsRefusedFront}
+use Rattle.sg_input.specs.Inside.Parted.{HasLongText, HasNoDivider, IsBadInterface, IsRefusedFront}
 use Rattle.sg_input.proofs.OneCut.{one_cut}
 
 -- ---- the interface
@@ -48,10 +46,10 @@ pub one_interface : (services : List Facts) (text : List ℕ) (i j : Declared) �
 one_interface services text i j (tree, p, is) (tree', q, is') =
     one_declared services tree i j is (subst (λ t. IsAccepted services t j) (one_tree text tree' tree q p) is')
 
-pub not_refused : (services : List Facts) (text : List ℕ) (i : Declared) (line : List ℕ) → IsInterface services text i → IsVerdict services text (refused line) → ⊥
+pub not_refused : (services : List Facts) (text : List ℕ) (i : Declared) (line : List ℕ) → IsInterface services text i → IsVerdict services text (Refused line) → ⊥
 not_refused services text i line (tree, p, is) said =
-    let same : ◌≡◌ {A = Verdict} (accepted (accepted_line i.facts.name)) (refused line) =
-    one_verdict services text (accepted (accepted_line i.facts.name)) (refused line) (tree, i, p, is, refl) said in absurd cc
+    let same : ◌≡◌ {A = Read (List ℕ)} (Ready (accepted_line i.facts.name)) (Refused line) =
+    one_verdict services text (Ready (accepted_line i.facts.name)) (Refused line) (tree, i, p, is, refl) said in absurd cc
 
 -- ---- the two texts
 
@@ -79,15 +77,15 @@ module _ (most : ℕ) (services : List Facts) (input : List ℕ) where
 
   bad_interfaces : (line line' : List ℕ) → IsBadInterface most services input line → IsBadInterface most services input line' → line ≡ line'
   bad_interfaces line line' a b =
-      let said = subst (λ v. IsVerdict services v (refused line')) (sym (same_interface a.0 a.1 b.0 b.1 a.2 b.2)) b.3 in
-      let same : ◌≡◌ {A = Verdict} (refused line) (refused line') = one_verdict services a.0 (refused line) (refused line') a.3 said in cc same
+      let said = subst (λ v. IsVerdict services v (Refused line')) (sym (same_interface a.0 a.1 b.0 b.1 a.2 b.2)) b.3 in
+      let same : ◌≡◌ {A = Read (List ℕ)} (Refused line) (Refused line') = one_verdict services a.0 (Refused line) (Refused line') a.3 said in cc same
 
   -- an input that is refused whatever its second text is has no accepted interface beside a text that fits
   pub not_front : (line a b : List ℕ) (i : Declared) → IsRefusedFront most services input line → AreTexts most input a b → IsInterface services a i → ⊥
   not_front line a b i (inl (none, said)) t is = none a b t.cut.divides
   not_front line a b i (inr (inl (long, said))) t is = not_long a b long t
   not_front line a b i (inr (inr bad)) t is =
-      not_refused services a i line is (subst (λ v. IsVerdict services v (refused line)) (same_interface bad.0 bad.1 a b bad.2 t) bad.3)
+      not_refused services a i line is (subst (λ v. IsVerdict services v (Refused line)) (same_interface bad.0 bad.1 a b bad.2 t) bad.3)
 
   not_divided : (line : List ℕ) → HasNoDivider input → IsBadInterface most services input line → ⊥
   not_divided line none bad = none bad.0 bad.1 bad.2.cut.divides
@@ -181,17 +179,17 @@ pub one_ready : (services : List Facts) (input : List ℕ) (i j : Declared) (scr
     → (i ≡ j) × (script ≡ script')
 one_ready services input i j script script' = one_read most_script services input IsScript IsBadScript one_script one_bad_script not_faulty i j script script'
 
-pub one_input : (services : List Facts) (input : List ℕ) (one other : Input) → IsInputOf services input one → IsInputOf services input other → one ≡ other
+pub one_input : (services : List Facts) (input : List ℕ) (one other : Read (Declared × Script)) → IsInputOf services input one → IsInputOf services input other → one ≡ other
 one_input services input (Refused line) (Refused line') a b =
     ap Refused (one_line most_script services input IsScript IsBadScript one_script one_bad_script not_faulty line line' a b)
-one_input services input (Refused line) (Ready i script) a b = absurd (never_ready services input line i script a b)
-one_input services input (Ready i script) (Refused line) a b = absurd (never_ready services input line i script b a)
-one_input services input (Ready i script) (Ready j script') a b =
+one_input services input (Refused line) (Ready (i, script)) a b = absurd (never_ready services input line i script a b)
+one_input services input (Ready (i, script)) (Refused line) a b = absurd (never_ready services input line i script b a)
+one_input services input (Ready (i, script)) (Ready (j, script')) a b =
     let both = one_ready services input i j script script' a b in
-    ap (λ v. Ready v script) both.0 ∙ ap (Ready j) both.1
+    ap (λ v. Ready (v, script)) both.0 ∙ ap (λ s. Ready (j, s)) both.1
 
 -- where it is answered at all, it is that one
-pub only : (services : List Facts) (input : List ℕ) (answer : Result Input NoMemory) → IfOk answer (IsInputOf services input)
-    → (other : Input) → IsInputOf services input other → IfOk answer (λ v. v ≡ other)
+pub only : (services : List Facts) (input : List ℕ) (answer : Result (Read (Declared × Script)) NoMemory) → IfOk answer (IsInputOf services input)
+    → (other : Read (Declared × Script)) → IsInputOf services input other → IfOk answer (λ v. v ≡ other)
 only services input (Ok v) is other said = one_input services input v other is said
 only services input (Err e) is other said = tt

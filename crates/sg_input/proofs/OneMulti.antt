@@ -1,5 +1,5 @@
 -- An input for several services is one thing: it is divided in one way, and each of its texts has one reading.
-use Rattle.std.proofs.Common.{◌≡◌, ◌≢◌, inl, inr, ℕ, Bool, true, false, List, [], ◌∷◌, ◌++◌, IfOk, refl, sym, ◌∙◌, ap, subst}
+use Rattle.std.proofs.Common.{◌≡◌, ◌≢◌, inl, inr, ℕ, false, List, [], ◌∷◌, ◌++◌, IfOk, refl, sym, ◌∙◌, ap, subst}
 use Rattle.std.specs.Prelude.{Ok, Err}
 use Rattle.std.specs.declared.result.Result.{Result}
 use Rattle.std.specs.List.{AllZip}
@@ -12,12 +12,11 @@ use Rattle.sg_script.specs.declared.fault.ScriptFault.{ScriptFault}
 use Rattle.sg_script.specs.declared.multi.MultiScript.{MultiScript}
 use Rattle.sg_script.specs.Reads.{IsMultiReadingOf}
 use Rattle.sg_script.proofs.Unique.{one_multi_reading}
-use Rattle.sg_input.specs.declared.multi_input.MultiInput.{MultiInput}
-use Rattle.sg_input.specs.declared.multi_input.MultiInput.TheVariants.{Refused, Ready}
-use Rattle.sg_input.specs.Divider.{Divides, IsCut}
+use Rattle.sg_input.specs.declared.read.Read.{Read}
+use Rattle.sg_input.specs.declared.read.Read.TheVariants.{Ready, Refused}
 use Rattle.sg_input.specs.Inputs.{IsInterface}
 use Rattle.sg_input.specs.MultiInputs.{AreMembers, AreMultiTexts, AreParts, IsMultiInputOf, IsMultiReady, IsMultiRefused, IsNoMember, are_short}
-use Rattle.sg_input.specs.Inside.Fronts.{HasNoDivider}
+use Rattle.sg_input.specs.Inside.Parted.{HasNoDivider}
 use Rattle.sg_input.specs.Inside.Said.{script_line}
 use Rattle.sg_input.proofs.Gathering.{not_gathered, one_gathered, one_members}
 use Rattle.sg_input.proofs.OneCut.{one_cut}
@@ -137,22 +136,22 @@ module _ (services : List Facts) (input : List ℕ) where
 
   -- it is ready with one list of members and one script
   one_ready : (members members' : List Declared) (script script' : MultiScript) → IsMultiReady services input members script → IsMultiReady services input members' script'
-      → Ready members script ≡ Ready members' script'
+      → ◌≡◌ {A = Read (List Declared × MultiScript)} (Ready (members, script)) (Ready (members', script'))
   one_ready members members' script script' a b =
       let own : members ≡ members' = same_members a.texts b.texts a.last b.last members members' a.are b.are a.accepted b.accepted in
       let same : script ≡ script' = one_script members' b.last script script'
       (subst (λ t. IsMultiReadingOf members' t (Ok script)) (same_texts a.texts b.texts a.last b.last a.are b.are).script_is
       (subst (λ l. IsMultiReadingOf l a.last (Ok script)) own a.reads)) b.reads in
-      ap (λ l. Ready l script) own ∙ ap (Ready members') same
+      ap (λ l. Ready (l, script)) own ∙ ap (λ s. Ready (members', s)) same
 
-  pub one_multi_input : (one other : MultiInput) → IsMultiInputOf services input one → IsMultiInputOf services input other → one ≡ other
+  pub one_multi_input : (one other : Read (List Declared × MultiScript)) → IsMultiInputOf services input one → IsMultiInputOf services input other → one ≡ other
   one_multi_input (Refused line) (Refused line') a b = ap Refused (one_line line line' a b)
-  one_multi_input (Refused line) (Ready members script) a b = absurd (never_ready line members script a b)
-  one_multi_input (Ready members script) (Refused line) a b = absurd (never_ready line members script b a)
-  one_multi_input (Ready members script) (Ready members' script') a b = one_ready members members' script script' a b
+  one_multi_input (Refused line) (Ready (members, script)) a b = absurd (never_ready line members script a b)
+  one_multi_input (Ready (members, script)) (Refused line) a b = absurd (never_ready line members script b a)
+  one_multi_input (Ready (members, script)) (Ready (members', script')) a b = one_ready members members' script script' a b
 
 -- where it is answered at all, it is that one
-pub only_multi : (services : List Facts) (input : List ℕ) (answer : Result MultiInput NoMemory) → IfOk answer (IsMultiInputOf services input)
-    → (other : MultiInput) → IsMultiInputOf services input other → IfOk answer (λ v. v ≡ other)
+pub only_multi : (services : List Facts) (input : List ℕ) (answer : Result (Read (List Declared × MultiScript)) NoMemory) → IfOk answer (IsMultiInputOf services input)
+    → (other : Read (List Declared × MultiScript)) → IsMultiInputOf services input other → IfOk answer (λ v. v ≡ other)
 only_multi services input (Ok v) is other said = one_multi_input services input v other is said
 only_multi services input (Err e) is other said = tt

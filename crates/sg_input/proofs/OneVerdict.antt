@@ -18,11 +18,9 @@ use Rattle.sg_print.specs.TablesText.{tables_text}
 use Rattle.sg_stub.specs.sg_check_statements.Faults.{IsAccepted, IsFault, interface_of}
 use Rattle.sg_stub.proofs.sg_check.Unique.{same_fault}
 use Rattle.sg_stub.proofs.OneTable.{one_table}
-use Rattle.sg_input.specs.declared.examined.Examined.{Examined}
-use Rattle.sg_input.specs.declared.examined.Examined.TheVariants.{Accepted as accepted, Refused as refused}
 use Rattle.sg_input.specs.Examined.{IsExamined}
-use Rattle.sg_input.specs.declared.outcome.Verdict.{Verdict}
-use Rattle.sg_input.specs.declared.outcome.Verdict.TheVariants.{Accepted, Refused}
+use Rattle.sg_input.specs.declared.read.Read.{Read}
+use Rattle.sg_input.specs.declared.read.Read.TheVariants.{Ready, Refused}
 use Rattle.sg_input.specs.declared.refusal.RefusalKind.{RefusalKind}
 use Rattle.sg_input.specs.declared.refusal.RefusalKind.TheVariants.{Lex, Syntax, Check}
 use Rattle.sg_input.specs.Verdicts.{IsCompiled, IsRefused, IsUpgraded, IsVerdict}
@@ -88,55 +86,55 @@ not_both services text tree i Syntax at p is q = no_error text tree (syntax_faul
 not_both services text tree i (Check kind) at p is (tree', q, fault) =
     is.none kind at (subst (λ t. IsFault services t kind at) (one_tree text tree' tree q p) fault).here
 
-pub one_verdict : (services : List Facts) (text : List ℕ) (one other : Verdict)
+pub one_verdict : (services : List Facts) (text : List ℕ) (one other : Read (List ℕ))
     → IsVerdict services text one → IsVerdict services text other → one ≡ other
-one_verdict services text (Accepted line) (Accepted line') (tree, i, p, is, said) (tree', i', q, is', said') =
+one_verdict services text (Ready line) (Ready line') (tree, i, p, is, said) (tree', i', q, is', said') =
     let same = one_tree text tree' tree q p in
     let own = one_interface services tree i i' is (subst (λ t. IsAccepted services t i') same is') in
-    ap Accepted (said ∙ ap (λ d. accepted_line d.facts.name) own ∙ sym said')
-one_verdict services text (Accepted line) (Refused line') (tree, i, p, is, said) (kind, at, q, said') =
+    ap Ready (said ∙ ap (λ d. accepted_line d.facts.name) own ∙ sym said')
+one_verdict services text (Ready line) (Refused line') (tree, i, p, is, said) (kind, at, q, said') =
     absurd (not_both services text tree i kind at p is q)
-one_verdict services text (Refused line) (Accepted line') (kind, at, q, said) (tree, i, p, is, said') =
+one_verdict services text (Refused line) (Ready line') (kind, at, q, said) (tree, i, p, is, said') =
     absurd (not_both services text tree i kind at p is q)
 one_verdict services text (Refused line) (Refused line') (kind, at, p, said) (kind', at', q, said') =
     let both = one_refusal services text kind kind' at at' p q in
     ap Refused (said ∙ ap (λ k. refusal_line text k at) both.0 ∙ ap (refusal_line text kind') both.1 ∙ sym said')
 
-pub one_compiled : (services : List Facts) (text : List ℕ) (one other : Verdict)
+pub one_compiled : (services : List Facts) (text : List ℕ) (one other : Read (List ℕ))
     → IsCompiled services text one → IsCompiled services text other → one ≡ other
-one_compiled services text (Accepted output) (Accepted output') (tree, tables, p, is, are, said) (tree', tables', q, is', are', said') =
+one_compiled services text (Ready output) (Ready output') (tree, tables, p, is, are, said) (tree', tables', q, is', are', said') =
     let same = one_tree text tree' tree q p in
     let own = one_interface services tree tables.iface tables'.iface is (subst (λ t. IsAccepted services t tables'.iface) same is') in
     let walks = one_table tables.iface tables.walks tables'.walks are (subst (λ i. AreTables i tables'.walks) (sym own) are') in
-    ap Accepted (said ∙ ap (λ i. tables_text (record { iface = i; walks = tables.walks })) own
+    ap Ready (said ∙ ap (λ i. tables_text (record { iface = i; walks = tables.walks })) own
     ∙ ap (λ w. tables_text (record { iface = tables'.iface; walks = w })) walks ∙ sym said')
-one_compiled services text (Accepted output) (Refused line) (tree, tables, p, is, are, said) (kind, at, q, said') =
+one_compiled services text (Ready output) (Refused line) (tree, tables, p, is, are, said) (kind, at, q, said') =
     absurd (not_both services text tree tables.iface kind at p is q)
-one_compiled services text (Refused line) (Accepted output) (kind, at, q, said) (tree, tables, p, is, are, said') =
+one_compiled services text (Refused line) (Ready output) (kind, at, q, said) (tree, tables, p, is, are, said') =
     absurd (not_both services text tree tables.iface kind at p is q)
 one_compiled services text (Refused line) (Refused line') one other = one_verdict services text (Refused line) (Refused line') one other
 
-pub one_upgraded : (services : List Facts) (text : List ℕ) (one other : Verdict)
+pub one_upgraded : (services : List Facts) (text : List ℕ) (one other : Read (List ℕ))
     → IsUpgraded services text one → IsUpgraded services text other → one ≡ other
-one_upgraded services text (Accepted output) (Accepted output') (tree, i, p, is, said) (tree', i', q, is', said') =
-    ap Accepted (said ∙ ap (λ t. printed (upgraded t)) (one_tree text tree tree' p q) ∙ sym said')
-one_upgraded services text (Accepted output) (Refused line) (tree, i, p, is, said) (kind, at, q, said') =
+one_upgraded services text (Ready output) (Ready output') (tree, i, p, is, said) (tree', i', q, is', said') =
+    ap Ready (said ∙ ap (λ t. printed (upgraded t)) (one_tree text tree tree' p q) ∙ sym said')
+one_upgraded services text (Ready output) (Refused line) (tree, i, p, is, said) (kind, at, q, said') =
     absurd (not_both services text tree i kind at p is q)
-one_upgraded services text (Refused line) (Accepted output) (kind, at, q, said) (tree, i, p, is, said') =
+one_upgraded services text (Refused line) (Ready output) (kind, at, q, said) (tree, i, p, is, said') =
     absurd (not_both services text tree i kind at p is q)
 one_upgraded services text (Refused line) (Refused line') one other = one_verdict services text (Refused line) (Refused line') one other
 
-pub one_examined : (services : List Facts) (text : List ℕ) (one other : Examined)
+pub one_examined : (services : List Facts) (text : List ℕ) (one other : Read Declared)
     → IsExamined services text one → IsExamined services text other → one ≡ other
-one_examined services text (accepted i) (accepted j) (tree, p, is) (tree', q, is') =
+one_examined services text (Ready i) (Ready j) (tree, p, is) (tree', q, is') =
     let same = one_tree text tree' tree q p in
-    ap accepted (one_interface services tree i j is (subst (λ t. IsAccepted services t j) same is'))
-one_examined services text (accepted i) (refused line) (tree, p, is) (kind, at, q, said) = absurd (not_both services text tree i kind at p is q)
-one_examined services text (refused line) (accepted i) (kind, at, q, said) (tree, p, is) = absurd (not_both services text tree i kind at p is q)
-one_examined services text (refused line) (refused line') one other =
-    let same : Refused line ≡ Refused line' = one_verdict services text (Refused line) (Refused line') one other in
+    ap Ready (one_interface services tree i j is (subst (λ t. IsAccepted services t j) same is'))
+one_examined services text (Ready i) (Refused line) (tree, p, is) (kind, at, q, said) = absurd (not_both services text tree i kind at p is q)
+one_examined services text (Refused line) (Ready i) (kind, at, q, said) (tree, p, is) = absurd (not_both services text tree i kind at p is q)
+one_examined services text (Refused line) (Refused line') one other =
+    let same : ◌≡◌ {A = Read (List ℕ)} (Refused line) (Refused line') = one_verdict services text (Refused line) (Refused line') one other in
     let lines : line ≡ line' = cc in
-    ap refused lines
+    ap Refused lines
 
 -- where there is an answer, and one value alone answers, the answer is that value
 pub only : {A : Type 0} (Is : A → Type 0) (answer : Result A NoMemory) → ((one other : A) → Is one → Is other → one ≡ other) → IfOk answer Is

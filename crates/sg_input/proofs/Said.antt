@@ -12,7 +12,7 @@ use Rattle.sg_stub.specs.sg_check_statements.declared.fault.CheckError.{CheckErr
 use Rattle.sg_stub.specs.sg_check_statements.declared.fault.CheckError.TheVariants.{Fault}
 use Rattle.sg_stub.specs.sg_check_statements.declared.fault.CheckFault.{CheckFault}
 use Rattle.sg_stub.specs.sg_check_statements.Stages.{IsFirstFault}
-use Rattle.sg_input.specs.declared.outcome.Verdict.TheVariants.{Refused}
+use Rattle.sg_input.specs.declared.read.Read.TheVariants.{Refused}
 use Rattle.sg_input.specs.declared.refusal.RefusalKind.{RefusalKind}
 use Rattle.sg_input.specs.declared.refusal.RefusalKind.TheVariants.{Lex, Syntax, Check}
 use Rattle.sg_input.specs.Verdicts.{IsRefused, IsVerdict}

@@ -1,25 +1,24 @@
 -- What an input is, or why it is refused.
-use Rattle.std.specs.Prelude.{ℕ, ◌≡◌, ◌+◌, ◌<◌, ◌≤◌, ◌⊎◌, List, ◌++◌, Ok, Err, codes, length}
+use Rattle.std.specs.Prelude.{ℕ, ◌≡◌, ◌<◌, ◌≤◌, ◌⊎◌, List, ◌++◌, Ok, Err, codes, length}
 use Rattle.sg_facts.specs.Facts.{Facts}
 use Rattle.sg_facts.specs.Words.{line_end}
 use Rattle.sg_facts.specs.Interface.{Declared}
 use Rattle.sg_input.specs.sg_parse.declared.tree.Tree.{Tree}
 use Rattle.sg_input.specs.sg_parse.Grammar.Parses.{Parses}
 use Rattle.sg_input.specs.sg_check_statements.Faults.{IsAccepted}
-use Rattle.sg_input.specs.declared.outcome.Verdict.TheVariants.{Refused as refused}
 use Rattle.sg_input.specs.Verdicts.{IsVerdict}
+use Rattle.sg_entries.specs.Entry.{shows_named}
 use Rattle.sg_entries.specs.Reads.{IsReadOf}
 use Rattle.sg_entries.specs.declared.error.EntriesError.TheVariants.{Fault as EntriesFault}
 use Rattle.sg_entries.specs.declared.error.EntriesKind.{EntriesKind}
 use Rattle.sg_facts.specs.declared.entry.Entry.{Entry}
+use Rattle.sg_facts.specs.sg_base.Room.{Roomy}
 use Rattle.sg_script.specs.declared.fault.ScriptError.TheVariants.{Fault}
 use Rattle.sg_script.specs.declared.fault.ScriptFault.{ScriptFault}
 use Rattle.sg_script.specs.declared.script.Script.{Script}
 use Rattle.sg_script.specs.Reads.{IsReadingOf}
-use Rattle.sg_input.specs.declared.input.Input.{Input}
-use Rattle.sg_input.specs.declared.input.Input.TheVariants.{Refused, Ready}
-use Rattle.sg_input.specs.declared.run_input.RunInput.{RunInput}
-use Rattle.sg_input.specs.declared.run_input.RunInput.TheVariants.{Refused as RunRefused, Ready as RunReady}
+use Rattle.sg_input.specs.declared.read.Read.{Read}
+use Rattle.sg_input.specs.declared.read.Read.TheVariants.{Ready, Refused}
 use Rattle.sg_input.specs.Divider.{Divides, IsCut}
 use Rattle.sg_input.specs.Lines.{entries_kind_name, refused_line, script_kind_name, too_long_line}
 
@@ -64,7 +63,7 @@ IsRefusedInput most Bad services input line =
     ⊎ ((((interface : List ℕ) × (second : List ℕ) × IsCut input interface second
     × ((most_interface < length interface) ⊎ (most < length second))) × (line ≡ too_long_line))
     -- or the interface is refused with this line
-    ⊎ ((interface : List ℕ) × (second : List ℕ) × AreTexts most input interface second × IsVerdict services interface (refused line))))
+    ⊎ ((interface : List ℕ) × (second : List ℕ) × AreTexts most input interface second × IsVerdict services interface (Refused line))))
     -- or an interface is accepted, and under it the second text is bad, as this line says
     ⊎ ((interface : List ℕ) × (second : List ℕ) × AreTexts most input interface second
     × (i : Declared) × IsInterface services interface i × Bad i second line)
@@ -76,8 +75,8 @@ abbrev pub IsReady : List Facts → List ℕ → Declared → Script → Type 0
 IsReady services input i script = IsReadAs most_script (λ i text script. IsReadingOf i text (Ok script)) services input i script
 
 -- an input is ready with this interface and script, or it is refused with this line, which tells the script's first fault where it is that
-abbrev pub IsInputOf : List Facts → List ℕ → Input → Type 0
-IsInputOf services input (Ready i script) = IsReady services input i script
+abbrev pub IsInputOf : List Facts → List ℕ → Read (Declared × Script) → Type 0
+IsInputOf services input (Ready (i, script)) = IsReady services input i script
 IsInputOf services input (Refused line) =
     IsRefusedInput most_script (λ i text line. (fault : ScriptFault) × IsReadingOf i text (Err (Fault fault))
     × (line ≡ refused_line (codes "script refused at ") text fault.at (script_kind_name fault.kind))) services input line
@@ -86,18 +85,18 @@ IsInputOf services input (Refused line) =
 
 -- an interface is accepted, and this is the history that a run of its service printed
 abbrev pub IsRunReady : List Facts → List ℕ → Declared → List Entry → Type 0
-IsRunReady services input i history = IsReadAs most_run (λ i text history. IsReadOf i text (Ok history)) services input i history
+IsRunReady services input i history = IsReadAs most_run (λ i text history. IsReadOf (shows_named services i) i text (Ok history)) services input i history
 
 -- an input is ready with this interface and history, or it is refused with this line, which tells the run's first fault where it is that
-abbrev pub IsRunInputOf : List Facts → List ℕ → RunInput → Type 0
-IsRunInputOf services input (RunReady i history) = IsRunReady services input i history.items
-IsRunInputOf services input (RunRefused line) =
-    IsRefusedInput most_run (λ i text line. (kind : EntriesKind) × (at : ℕ) × IsReadOf i text (Err (EntriesFault kind at))
+abbrev pub IsRunInputOf : List Facts → List ℕ → Read (Declared × Roomy Entry) → Type 0
+IsRunInputOf services input (Ready (i, history)) = IsRunReady services input i history.items
+IsRunInputOf services input (Refused line) =
+    IsRefusedInput most_run (λ i text line. (kind : EntriesKind) × (at : ℕ) × IsReadOf (shows_named services i) i text (Err (EntriesFault kind at))
     × (line ≡ refused_line (codes "run refused at ") text at (entries_kind_name kind))) services input line
 
 -- two answers are the same: both refuse with one line, or both have one interface and one history
-abbrev pub IsSameRun : RunInput → RunInput → Type 0
-IsSameRun (RunRefused line) (RunRefused line') = line ≡ line'
-IsSameRun (RunReady i history) (RunReady j history') = (i ≡ j) × (history.items ≡ history'.items)
-IsSameRun (RunRefused line) (RunReady i history) = ⊥
-IsSameRun (RunReady i history) (RunRefused line) = ⊥
+abbrev pub IsSameRun : Read (Declared × Roomy Entry) → Read (Declared × Roomy Entry) → Type 0
+IsSameRun (Refused line) (Refused line') = line ≡ line'
+IsSameRun (Ready (i, history)) (Ready (j, history')) = (i ≡ j) × (history.items ≡ history'.items)
+IsSameRun (Refused line) (Ready (i, history)) = ⊥
+IsSameRun (Ready (i, history)) (Refused line) = ⊥

@@ -1,12 +1,15 @@
 -- A history that may be judged.
 use Rattle.std.specs.Prelude.{◌≤◌, length}
 use Rattle.sg_entries.specs.sg_report.sg_hist.Clients.{MayBeMade}
+use Rattle.sg_facts.specs.Interface.{Declared}
 use Rattle.sg_facts.specs.Limits.{most_script_calls}
+use Rattle.sg_facts.specs.declared.entry.Entry.{Entry}
 use Rattle.sg_facts.specs.sg_base.Lists.{Each}
-use Rattle.sg_input.specs.declared.run_input.RunInput.{RunInput}
-use Rattle.sg_input.specs.declared.run_input.RunInput.TheVariants.{Refused, Ready}
+use Rattle.sg_facts.specs.sg_base.Room.{Roomy}
+use Rattle.sg_input.specs.declared.read.Read.{Read}
+use Rattle.sg_input.specs.declared.read.Read.TheVariants.{Ready, Refused}
 
 -- each call of the history is one that a client may make, and there are no more than a script may have
-abbrev pub MayBeJudged : RunInput → Type 0
+abbrev pub MayBeJudged : Read (Declared × Roomy Entry) → Type 0
 MayBeJudged (Refused line) = Unit {0}
-MayBeJudged (Ready i history) = Each (λ e. MayBeMade i e.call) history.items × (length history.items ≤ most_script_calls)
+MayBeJudged (Ready (i, history)) = Each (λ e. MayBeMade i e.call) history.items × (length history.items ≤ most_script_calls)

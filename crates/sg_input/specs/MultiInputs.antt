@@ -13,8 +13,8 @@ use Rattle.sg_script.specs.declared.fault.ScriptError.TheVariants.{Fault}
 use Rattle.sg_script.specs.declared.fault.ScriptFault.{ScriptFault}
 use Rattle.sg_script.specs.declared.multi.MultiScript.{MultiScript}
 use Rattle.sg_script.specs.Reads.{IsMultiReadingOf}
-use Rattle.sg_input.specs.declared.multi_input.MultiInput.{MultiInput}
-use Rattle.sg_input.specs.declared.multi_input.MultiInput.TheVariants.{Refused, Ready}
+use Rattle.sg_input.specs.declared.read.Read.{Read}
+use Rattle.sg_input.specs.declared.read.Read.TheVariants.{Ready, Refused}
 use Rattle.sg_input.specs.declared.refusal.RefusalKind.{RefusalKind}
 use Rattle.sg_input.specs.Divider.{Divides, IsCut}
 use Rattle.sg_input.specs.Inputs.{IsInterface, most_interface, most_script}
@@ -87,6 +87,6 @@ IsMultiRefused services input line =
     × (line ≡ refused_line (codes "script refused at ") script fault.at (script_kind_name fault.kind)))
 
 -- an input is ready with these members and this script, or it is refused with this line
-abbrev pub IsMultiInputOf : List Facts → List ℕ → MultiInput → Type 0
-IsMultiInputOf services input (Ready members script) = IsMultiReady services input members script
+abbrev pub IsMultiInputOf : List Facts → List ℕ → Read (List Declared × MultiScript) → Type 0
+IsMultiInputOf services input (Ready (members, script)) = IsMultiReady services input members script
 IsMultiInputOf services input (Refused line) = IsMultiRefused services input line

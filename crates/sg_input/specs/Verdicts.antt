@@ -12,8 +12,8 @@ use Rattle.sg_print.specs.sg_parse.declared.tree.Tree.{Tree}
 use Rattle.sg_print.specs.sg_parse.Grammar.Parses.{Parses}
 use Rattle.sg_print.specs.sg_parse.Grammar.Upgraded.{upgraded}
 use Rattle.sg_stub.specs.sg_check_statements.Faults.{IsAccepted, IsFault, check_kinds, kind_rank}
-use Rattle.sg_input.specs.declared.outcome.Verdict.{Verdict}
-use Rattle.sg_input.specs.declared.outcome.Verdict.TheVariants.{Accepted, Refused}
+use Rattle.sg_input.specs.declared.read.Read.{Read}
+use Rattle.sg_input.specs.declared.read.Read.TheVariants.{Ready, Refused}
 use Rattle.sg_input.specs.declared.refusal.RefusalKind.{RefusalKind}
 use Rattle.sg_input.specs.declared.refusal.RefusalKind.TheVariants.{Lex, Syntax, Check}
 use Rattle.sg_input.specs.Lines.{refused_line}
@@ -33,8 +33,8 @@ IsRefused services text (Check kind) at = (tree : Tree) × Parses text (Ok tree)
 
 -- what is said of a text: it is a sentence whose tree is accepted, and the line names the service; or it is refused, and the
 -- line says for what and where
-abbrev pub IsVerdict : List Facts → List ℕ → Verdict → Type 0
-IsVerdict services text (Accepted line) =
+abbrev pub IsVerdict : List Facts → List ℕ → Read (List ℕ) → Type 0
+IsVerdict services text (Ready line) =
     (tree : Tree) × (i : Declared) × Parses text (Ok tree) × IsAccepted services tree i × (line ≡ codes "accepted " ++ i.facts.name ++ line_end)
 IsVerdict services text (Refused line) =
     (kind : RefusalKind) × (at : ℕ) × IsRefused services text kind at
@@ -42,14 +42,14 @@ IsVerdict services text (Refused line) =
 
 -- what is said of a text by its tables: it is a sentence whose tree is accepted, and this is the text of the tables of its
 -- interface; or it is refused, as by its verdict
-abbrev pub IsCompiled : List Facts → List ℕ → Verdict → Type 0
-IsCompiled services text (Accepted output) =
+abbrev pub IsCompiled : List Facts → List ℕ → Read (List ℕ) → Type 0
+IsCompiled services text (Ready output) =
     (tree : Tree) × (tables : Compiled) × Parses text (Ok tree) × IsAccepted services tree tables.iface × AreTables tables.iface tables.walks × (output ≡ tables_text tables)
 IsCompiled services text (Refused line) = IsVerdict services text (Refused line)
 
 -- what is said of a text by what it is upgraded to: it is a sentence whose tree is accepted, and this is the canonical text of that
 -- tree as one of version 2; or it is refused, as by its verdict
-abbrev pub IsUpgraded : List Facts → List ℕ → Verdict → Type 0
-IsUpgraded services text (Accepted output) =
+abbrev pub IsUpgraded : List Facts → List ℕ → Read (List ℕ) → Type 0
+IsUpgraded services text (Ready output) =
     (tree : Tree) × (i : Declared) × Parses text (Ok tree) × IsAccepted services tree i × (output ≡ printed (upgraded tree))
 IsUpgraded services text (Refused line) = IsVerdict services text (Refused line)

@@ -11,7 +11,7 @@ pub fn cut(input: &[u8]) -> Option<(&[u8], &[u8])>
     let mut at = 0;
     'lines: loop {
         let (before, rest) = input.split_at(at);
-        if let Some(behind) = behind_divider(rest) {
+        if let Some(behind) = after_divider(rest) {
             return Some((before, behind));
         }
         at += line_length(rest)?;
@@ -33,7 +33,7 @@ fn line_length(rest: &[u8]) -> Option<usize>
 
 // What stands after the line in front, where that line is `%%` alone.
 #[tactic(auto, using(crate::proofs::Dividers::no_divider))]
-fn behind_divider(rest: &[u8]) -> Option<&[u8]>
+fn after_divider(rest: &[u8]) -> Option<&[u8]>
     ensures { MatchOption result ((line behind : List ℕ) → IsDivider line behind → rest.now ≢ line ++ behind)
         (λ behind. (line : List ℕ) × IsDivider line behind.now × (rest.now ≡ line ++ behind.now)) }
 {

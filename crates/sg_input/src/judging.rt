@@ -1,20 +1,19 @@
 // What is said of a text.
-ghost use Rattle.std.specs.Prelude.{◌≡◌, Ok, Err as failed, List, true, map, IfOk};
+ghost use Rattle.std.specs.Prelude.{◌≡◌, ℕ, Ok, Err as failed, List, true, map, IfOk};
 ghost use Rattle.sg_facts.specs.Facts.{Facts, facts_of};
+ghost use Rattle.sg_facts.specs.Interface.{Declared};
 ghost use Rattle.sg_print.specs.sg_parse.declared.tree.Tree.{Tree as Sentence};
 ghost use Rattle.sg_print.specs.sg_parse.Grammar.Parses.{Parses};
 ghost use Rattle.sg_print.specs.sg_parse.Grammar.Upgraded.{upgraded};
 ghost use Rattle.sg_stub.specs.sg_check.Shapes.{are_shapes};
 ghost use Rattle.sg_stub.specs.sg_check_statements.Stages.{IsFirstFault};
-ghost use Rattle.sg_input.specs.declared.outcome.Verdict.{Verdict as Outcome};
-ghost use Rattle.sg_input.specs.declared.outcome.Verdict.TheVariants.{Refused as refused_with};
-ghost use Rattle.sg_input.specs.declared.examined.Examined.{Examined as Answer};
+ghost use Rattle.sg_input.specs.declared.read.Read.{Read as AnyRead};
+ghost use Rattle.sg_input.specs.declared.read.Read.TheVariants.{Refused as refused_with};
 ghost use Rattle.sg_input.specs.Examined.{IsExamined};
 ghost use Rattle.sg_input.specs.Verdicts.{IsCompiled, IsRefused, IsUpgraded, IsVerdict};
 
-use crate::examined::Examined;
 use crate::lines::{accepted_line, refusal_line};
-use crate::{RefusalKind, Verdict};
+use crate::{Accepted, Read, RefusalKind};
 use sg_facts::{Bytes, NoMemory, Shape};
 use sg_print::{ParseError, Tree, parse, print, print_tables};
 use sg_stub::{CheckError, check, compile};
@@ -24,33 +23,33 @@ use std::alloc::Global;
 /// accepted, and else the line `interface refused at L:C: KIND` with the first thing that is wrong with it. L is the line of its
 /// place and C the byte in that line, both counted from 1. A shape has at most 32 functions and 8 fields, its numbers name its
 /// own functions, and no two of its functions have one name. The only error is want of memory.
-pub fn verdict(alloc: Global, text: &[u8], shapes: &[Shape]) -> Result<Verdict, NoMemory>
+pub fn verdict(alloc: Global, text: &[u8], shapes: &[Shape]) -> Result<Read<Bytes>, NoMemory>
     requires { are_shapes (map facts_of shapes.now) ≡ true }
     ensures verdict { IfOk result (IsVerdict (map facts_of shapes.now) text.now) }
     // No other verdict may be given.
-    ensures only { (other : Outcome) → IsVerdict (map facts_of shapes.now) text.now other → IfOk result (λ v. v ≡ other) }
+    ensures only { (other : AnyRead (List ℕ)) → IsVerdict (map facts_of shapes.now) text.now other → IfOk result (λ v. v ≡ other) }
 {
     judge(alloc, text, shapes)
 }
 
 /// What is said of an interface text by its tables: their text where the text is accepted, and else the line that `verdict`
 /// refuses it with. The shapes are as for `verdict`. The only error is want of memory.
-pub fn compiled(alloc: Global, text: &[u8], shapes: &[Shape]) -> Result<Verdict, NoMemory>
+pub fn compiled(alloc: Global, text: &[u8], shapes: &[Shape]) -> Result<Read<Bytes>, NoMemory>
     requires { are_shapes (map facts_of shapes.now) ≡ true }
     ensures verdict { IfOk result (IsCompiled (map facts_of shapes.now) text.now) }
     // No other verdict may be given.
-    ensures only { (other : Outcome) → IsCompiled (map facts_of shapes.now) text.now other → IfOk result (λ v. v ≡ other) }
+    ensures only { (other : AnyRead (List ℕ)) → IsCompiled (map facts_of shapes.now) text.now other → IfOk result (λ v. v ≡ other) }
 {
     judge_tables(alloc, text, shapes)
 }
 
 /// The interface of a text that is accepted, or the line that `verdict` refuses it with. The shapes are as for `verdict`. The
 /// only error is want of memory.
-pub fn examine(alloc: Global, text: &[u8], shapes: &[Shape]) -> Result<Examined, NoMemory>
+pub fn examine(alloc: Global, text: &[u8], shapes: &[Shape]) -> Result<Read<Accepted>, NoMemory>
     requires { are_shapes (map facts_of shapes.now) ≡ true }
     ensures answer { IfOk result (IsExamined (map facts_of shapes.now) text.now) }
     // No other answer may be given.
-    ensures only { (other : Answer) → IsExamined (map facts_of shapes.now) text.now other → IfOk result (λ e. e ≡ other) }
+    ensures only { (other : AnyRead Declared) → IsExamined (map facts_of shapes.now) text.now other → IfOk result (λ e. e ≡ other) }
 {
     examine_text(alloc, text, shapes)
 }
@@ -58,51 +57,51 @@ pub fn examine(alloc: Global, text: &[u8], shapes: &[Shape]) -> Result<Examined,
 /// What is said of an interface text by what it is upgraded to: the canonical text of its tree as one of version 2 where the text
 /// is accepted, and else the line that `verdict` refuses it with. A tree of version 1 rebuilds descriptors on demand, and one of
 /// version 2 keeps its word. The shapes are as for `verdict`. The only error is want of memory.
-pub fn upgraded(alloc: Global, text: &[u8], shapes: &[Shape]) -> Result<Verdict, NoMemory>
+pub fn upgraded(alloc: Global, text: &[u8], shapes: &[Shape]) -> Result<Read<Bytes>, NoMemory>
     requires { are_shapes (map facts_of shapes.now) ≡ true }
     ensures verdict { IfOk result (IsUpgraded (map facts_of shapes.now) text.now) }
     // No other verdict may be given.
-    ensures only { (other : Outcome) → IsUpgraded (map facts_of shapes.now) text.now other → IfOk result (λ v. v ≡ other) }
+    ensures only { (other : AnyRead (List ℕ)) → IsUpgraded (map facts_of shapes.now) text.now other → IfOk result (λ v. v ≡ other) }
 {
     judge_upgrade(alloc, text, shapes)
 }
 
 // The line that accepts a text or refuses it, for `verdict`.
-fn judge(alloc: Global, text: &[u8], shapes: &[Shape]) -> Result<Verdict, NoMemory>
+fn judge(alloc: Global, text: &[u8], shapes: &[Shape]) -> Result<Read<Bytes>, NoMemory>
     requires { are_shapes (map facts_of shapes.now) ≡ true }
     ensures { IfOk result (IsVerdict (map facts_of shapes.now) text.now) }
 {
     match examine_text(alloc, text, shapes)? {
-        Examined::Accepted(accepted) => {
+        Read::Ready(accepted) => {
             let service = accepted.interface().shape.name;
-            Ok(Verdict::Accepted(accepted_line(alloc, service)?))
+            Ok(Read::Ready(accepted_line(alloc, service)?))
         }
-        Examined::Refused(line) => Ok(Verdict::Refused(line)),
+        Read::Refused(line) => Ok(Read::Refused(line)),
     }
 }
 
 // The text of the tables of a text, or the line that refuses the text, for `compiled`.
-fn judge_tables(alloc: Global, text: &[u8], shapes: &[Shape]) -> Result<Verdict, NoMemory>
+fn judge_tables(alloc: Global, text: &[u8], shapes: &[Shape]) -> Result<Read<Bytes>, NoMemory>
     requires { are_shapes (map facts_of shapes.now) ≡ true }
     ensures { IfOk result (IsCompiled (map facts_of shapes.now) text.now) }
 {
     match examine_text(alloc, text, shapes)? {
-        Examined::Accepted(accepted) => {
+        Read::Ready(accepted) => {
             let tables = compile(alloc, &accepted)?;
-            Ok(Verdict::Accepted(print_tables(alloc, &tables)?))
+            Ok(Read::Ready(print_tables(alloc, &tables)?))
         }
-        Examined::Refused(line) => Ok(Verdict::Refused(line)),
+        Read::Refused(line) => Ok(Read::Refused(line)),
     }
 }
 
 // The text of an interface as one of version 2, or the line that refuses the text, for `upgraded`.
-fn judge_upgrade(alloc: Global, text: &[u8], shapes: &[Shape]) -> Result<Verdict, NoMemory>
+fn judge_upgrade(alloc: Global, text: &[u8], shapes: &[Shape]) -> Result<Read<Bytes>, NoMemory>
     requires { are_shapes (map facts_of shapes.now) ≡ true }
     ensures { IfOk result (IsUpgraded (map facts_of shapes.now) text.now) }
 {
     match parse(alloc, text) {
         Ok(tree) => upgrade_tree(alloc, text, tree, shapes),
-        Err(error) => Ok(Verdict::Refused(unparsed_line(alloc, text, error)?)),
+        Err(error) => Ok(Read::Refused(unparsed_line(alloc, text, error)?)),
     }
 }
 
@@ -112,14 +111,14 @@ fn upgrade_tree(
     text: &[u8],
     tree: Tree,
     shapes: &[Shape],
-) -> Result<Verdict, NoMemory>
+) -> Result<Read<Bytes>, NoMemory>
     requires shapes { are_shapes (map facts_of shapes.now) ≡ true }
     requires sentence { Parses text.now (Ok tree) }
     ensures { IfOk result (IsUpgraded (map facts_of shapes.now) text.now) }
 {
     match check(alloc, &tree, shapes) {
-        Ok(_) => Ok(Verdict::Accepted(print(alloc, &upgraded_tree(tree))?)),
-        Err(error) => Ok(Verdict::Refused(unaccepted_line(alloc, text, error)?)),
+        Ok(_) => Ok(Read::Ready(print(alloc, &upgraded_tree(tree))?)),
+        Err(error) => Ok(Read::Refused(unaccepted_line(alloc, text, error)?)),
     }
 }
 
@@ -132,13 +131,13 @@ fn upgraded_tree(mut tree: Tree<'_>) -> Tree<'_>
 }
 
 // The interface of a text, or the line that refuses the text, by what the parser answers.
-fn examine_text(alloc: Global, text: &[u8], shapes: &[Shape]) -> Result<Examined, NoMemory>
+fn examine_text(alloc: Global, text: &[u8], shapes: &[Shape]) -> Result<Read<Accepted>, NoMemory>
     requires { are_shapes (map facts_of shapes.now) ≡ true }
     ensures { IfOk result (IsExamined (map facts_of shapes.now) text.now) }
 {
     match parse(alloc, text) {
         Ok(tree) => examine_tree(alloc, text, &tree, shapes),
-        Err(error) => Ok(Examined::Refused(unparsed_line(alloc, text, error)?)),
+        Err(error) => Ok(Read::Refused(unparsed_line(alloc, text, error)?)),
     }
 }
 
@@ -148,14 +147,14 @@ fn examine_tree(
     text: &[u8],
     tree: &Tree,
     shapes: &[Shape],
-) -> Result<Examined, NoMemory>
+) -> Result<Read<Accepted>, NoMemory>
     requires shapes { are_shapes (map facts_of shapes.now) ≡ true }
     requires sentence { Parses text.now (Ok tree.now) }
     ensures { IfOk result (IsExamined (map facts_of shapes.now) text.now) }
 {
     match check(alloc, tree, shapes) {
-        Ok(accepted) => Ok(Examined::Accepted(accepted)),
-        Err(error) => Ok(Examined::Refused(unaccepted_line(alloc, text, error)?)),
+        Ok(accepted) => Ok(Read::Ready(accepted)),
+        Err(error) => Ok(Read::Refused(unaccepted_line(alloc, text, error)?)),
     }
 }
 

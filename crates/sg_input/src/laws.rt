@@ -7,8 +7,8 @@ ghost use Rattle.sg_print.specs.sg_parse.declared.tree.Tree.{Tree};
 ghost use Rattle.sg_print.specs.sg_parse.Grammar.Parses.{Parses};
 ghost use Rattle.sg_print.specs.sg_parse.Grammar.Upgraded.{IsFree, upgraded};
 ghost use Rattle.sg_stub.specs.sg_check_statements.Faults.{IsAccepted};
-ghost use Rattle.sg_input.specs.declared.input.Input.{Input};
-ghost use Rattle.sg_input.specs.declared.outcome.Verdict.{Verdict};
+ghost use Rattle.sg_script.specs.declared.script.Script.{Script};
+ghost use Rattle.sg_input.specs.declared.read.Read.{Read};
 ghost use Rattle.sg_input.specs.declared.refusal.RefusalKind.{RefusalKind};
 ghost use Rattle.sg_input.specs.Divider.{IsCut};
 ghost use Rattle.sg_input.specs.Inputs.{IsInputOf, IsInterface};
@@ -19,7 +19,7 @@ ghost use Rattle.sg_input.specs.Verdicts.{IsRefused, IsVerdict};
 pub fn one_verdict()
     ensures refusal { (services : List Facts) (text : List ℕ) (one other : RefusalKind) (here there : ℕ)
         → IsRefused services text one here → IsRefused services text other there → (one ≡ other) × (here ≡ there) }
-    ensures verdict { (services : List Facts) (text : List ℕ) (one other : Verdict)
+    ensures verdict { (services : List Facts) (text : List ℕ) (one other : Read (List ℕ))
         → IsVerdict services text one → IsVerdict services text other → one ≡ other }
 {}
 
@@ -38,5 +38,5 @@ pub fn one_cut()
 
 /// An input is one thing: it is refused with one line, or ready with one interface and one script.
 pub fn one_input()
-    ensures { (services : List Facts) (input : List ℕ) (one other : Input) → IsInputOf services input one → IsInputOf services input other → one ≡ other }
+    ensures { (services : List Facts) (input : List ℕ) (one other : Read (Declared × Script)) → IsInputOf services input one → IsInputOf services input other → one ≡ other }
 {}

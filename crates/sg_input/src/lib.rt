@@ -3,15 +3,13 @@
 //!
 //! - `judging`: what is said of a text (`verdict`), by its tables (`compiled`), and by what it is
 //!   upgraded to (`upgraded`); what comes of it before that (`examine`)
-//! - `examined`: its interface, or the line that refuses it (`Examined`)
-//! - `outcome`: that a text is accepted or refused, with what is said (`Verdict`)
+//! - `read`: what a text or an input stands for, or the line that refuses it (`Read`)
 //! - `refusal`: why a text is refused (`RefusalKind`)
 //! - `places`: the line of a place (`line_of`), and the byte in its line (`column_of`)
-//! - `front`: an input up to its second text
+//! - `parted`: an input up to its second text
 //! - `reading`: what an input is, or the line that refuses it (`read_input`)
-//! - `input`: an input that is refused or ready (`Input`)
-//! - `run_input`: what an input with a printed run is, or the line that refuses it (`read_run`, `RunInput`)
-//! - `multi_input`: what an input for several services is, or the line that refuses it (`read_multi_input`, `MultiInput`)
+//! - `run_input`: what an input with a printed run is, or the line that refuses it (`read_run`)
+//! - `multi_input`: what an input for several services is, or the line that refuses it (`read_multi_input`)
 //! - `dividing`: the texts of an input that is divided more than once
 //! - `members`: the interfaces of such an input, each of another service
 //! - `divider`: the two texts before and after the first line of `%%` alone (`cut`)
@@ -26,38 +24,34 @@
 
 mod divider;
 mod dividing;
-mod examined;
-mod front;
-mod input;
 mod judging;
 mod laws;
 mod limits;
 mod lines;
 mod members;
 mod multi_input;
-mod outcome;
+mod parted;
 mod places;
+mod read;
 mod reading;
 mod refusal;
 mod run_input;
 
 pub use divider::cut;
-pub use examined::Examined;
-pub use input::Input;
 pub use judging::{compiled, examine, upgraded, verdict};
 pub use laws::{one_cut, one_input, one_verdict, upgrades_are_accepted};
 pub use limits::{
     MOST_DIVIDER, MOST_INPUT, MOST_INTERFACE, MOST_MULTI_INPUT, MOST_RUN, MOST_RUN_INPUT,
     MOST_SCRIPT,
 };
-pub use lines::TOO_LONG;
+pub use lines::{TOO_LONG, refusal_line, script_line};
 pub use members::InterfaceList;
-pub use multi_input::{MultiInput, read_multi_input};
-pub use outcome::Verdict;
+pub use multi_input::read_multi_input;
 pub use places::{column_of, line_of};
+pub use read::Read;
 pub use reading::read_input;
 pub use refusal::RefusalKind;
-pub use run_input::{RunInput, read_run};
+pub use run_input::read_run;
 pub use sg_check_statements::{CheckFault, Protos, Statement, Tree, fun_number, says_of};
 pub use sg_entries::History;
 pub use sg_print::{ParseError, parse};

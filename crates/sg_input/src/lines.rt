@@ -1,8 +1,9 @@
 // The lines that are said of a text, and those that refuse an input.
-ghost use Rattle.std.specs.Prelude.{◌≡◌, IfOk};
-ghost use Rattle.sg_input.specs.Lines.{entries_kind_name, script_kind_name};
+ghost use Rattle.std.specs.Prelude.{◌≡◌, codes, IfOk};
+ghost use Rattle.sg_input.specs.Lines.{entries_kind_name, refused_line, script_kind_name};
 ghost use Rattle.sg_input.specs.MultiInputs.{member_line};
-ghost use Rattle.sg_input.specs.Inside.Said.{accepted_line, refusal_line, run_line, script_line};
+ghost use Rattle.sg_input.specs.Verdicts.{refusal_name};
+ghost use Rattle.sg_input.specs.Inside.Said.{accepted_line, run_line};
 
 use crate::places::{column_of, line_of};
 use crate::refusal::{RefusalKind, name_of};
@@ -28,7 +29,7 @@ pub fn refusal_line(
     kind: RefusalKind,
     at: usize,
 ) -> Result<Bytes, NoMemory>
-    ensures { IfOk result (λ line. line ≡ refusal_line text.now kind at) }
+    ensures { IfOk result (λ line. line ≡ refused_line (codes "interface refused at ") text.now at (refusal_name kind)) }
 {
     let line = line_of(text, at);
     let column = column_of(text, at);
@@ -60,9 +61,9 @@ pub const NO_DIVIDER: &[u8] = b"input refused: NoDivider\n";
 /// The line of an input that is too long, or of which a part is.
 pub const TOO_LONG: &[u8] = b"input refused: TooLong\n";
 
-/// The line of a script that has this fault.
+/// The line of a script that is refused for this fault.
 pub fn script_line(alloc: Global, script: &[u8], fault: ScriptFault) -> Result<Bytes, NoMemory>
-    ensures { IfOk result (λ line. line ≡ script_line script.now fault) }
+    ensures { IfOk result (λ line. line ≡ refused_line (codes "script refused at ") script.now fault.at (script_kind_name fault.kind)) }
 {
     let line = line_of(script, fault.at);
     let column = column_of(script, fault.at);

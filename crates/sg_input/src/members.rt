@@ -10,9 +10,10 @@ ghost use Rattle.sg_input.specs.Inside.Members.{AreFitMembers, IsGathered, IsMem
 ghost use Rattle.sg_input.specs.MultiInputs.{has_service, member_line};
 ghost use Rattle.sg_input.specs.Verdicts.{IsRefused};
 
+use crate::Read;
 use crate::lines::member_line;
 use crate::refusal::{RefusalKind, name_of};
-use sg_facts::{Bytes, Interface, ListOf, NoMemory, Shape, TryCopy};
+use sg_facts::{Interface, ListOf, NoMemory, Shape, TryCopy};
 use sg_print::{ParseError, Tree, parse};
 use sg_stub::{CheckError, check};
 use std::alloc::Global;
@@ -20,26 +21,13 @@ use std::alloc::Global;
 /// Interfaces, in the order of their texts.
 pub type InterfaceList = ListOf<Interface>;
 
-/// What comes of the texts of interfaces.
-#[derive(Debug, Drop)]
-pub enum Gathered {
-    /// A text is refused, with this line.
-    Refused(Bytes),
-    /// All are accepted, with these interfaces.
-    Ready(InterfaceList),
-}
-
-/// What comes of a text after the texts of some members.
-#[derive(Debug, Drop)]
-pub enum Member {
-    /// It is refused, with this line.
-    Refused(Bytes),
-    /// It is accepted, with this interface, and none of these members is of its service.
-    Ready(Interface),
-}
-
-/// What comes of the texts of interfaces, which may be of these shapes.
-pub fn members_of(alloc: Global, texts: &[&[u8]], shapes: &[Shape]) -> Result<Gathered, NoMemory>
+/// The interfaces that texts are accepted with, which may be of these shapes, or the line of the first text that is refused after
+/// those before it.
+pub fn members_of(
+    alloc: Global,
+    texts: &[&[u8]],
+    shapes: &[Shape],
+) -> Result<Read<InterfaceList>, NoMemory>
     requires shapes { are_shapes (map facts_of shapes.now) ≡ true }
     requires few { length shapes.now ≤ most_members }
     ensures gathered { IfOk result (IsGathered (map facts_of shapes.now) (map (λ t. t.now) texts.now)) }
@@ -47,20 +35,20 @@ pub fn members_of(alloc: Global, texts: &[&[u8]], shapes: &[Shape]) -> Result<Ga
     let mut members = InterfaceList::new(alloc);
     'texts: for text in texts {
         match member_of(alloc, members.as_slice(), text, shapes)? {
-            Member::Ready(iface) => members.push(iface)?,
-            Member::Refused(line) => return Ok(Gathered::Refused(line)),
+            Read::Ready(iface) => members.push(iface)?,
+            Read::Refused(line) => return Ok(Read::Refused(line)),
         }
     }
-    Ok(Gathered::Ready(members))
+    Ok(Read::Ready(members))
 }
 
-// What comes of a text after the texts of some members.
+// The interface that a text is accepted with, where none of these members is of its service; or the line that refuses it after them.
 fn member_of(
     alloc: Global,
     members: &[Interface],
     text: &[u8],
     shapes: &[Shape],
-) -> Result<Member, NoMemory>
+) -> Result<Read<Interface>, NoMemory>
     requires { are_shapes (map facts_of shapes.now) ≡ true }
     ensures { IfOk result (IsMemberOf (map facts_of shapes.now) members.now text.now) }
 {
@@ -80,7 +68,7 @@ fn member_by_tree(
     text: &[u8],
     tree: &Tree,
     shapes: &[Shape],
-) -> Result<Member, NoMemory>
+) -> Result<Read<Interface>, NoMemory>
     requires shapes { are_shapes (map facts_of shapes.now) ≡ true }
     requires sentence { Parses text.now (Ok tree.now) }
     ensures { IfOk result (IsMemberOf (map facts_of shapes.now) members.now text.now) }
@@ -90,7 +78,7 @@ fn member_by_tree(
             let iface = accepted.interface();
             if has_service(members, iface) {
                 let at = service_place(tree);
-                return Ok(Member::Refused(member_line(
+                return Ok(Read::Refused(member_line(
                     alloc,
                     members,
                     text,
@@ -98,7 +86,7 @@ fn member_by_tree(
                     "DuplicateService",
                 )?));
             }
-            Ok(Member::Ready(iface.copy(alloc)?))
+            Ok(Read::Ready(iface.copy(alloc)?))
         }
         Err(error) => {
             let (kind, at) = unaccepted(error)?;
@@ -152,9 +140,9 @@ fn refused(
     text: &[u8],
     at: usize,
     kind: RefusalKind,
-) -> Result<Member, NoMemory>
+) -> Result<Read<Interface>, NoMemory>
     ensures { IfOk result (λ made. (services : List Facts) → IsRefused services text.now kind at → IsMemberOf services members.now text.now made) }
 {
     let line = member_line(alloc, members, text, at, name_of(kind))?;
-    Ok(Member::Refused(line))
+    Ok(Read::Refused(line))
 }

@@ -1,28 +1,22 @@
 // What an input for several services is, or why it is refused.
 ghost use Rattle.std.specs.Prelude.{◌≡◌, ◌≤◌, ℕ, List, length, map, true, IfOk};
 ghost use Rattle.sg_facts.specs.Facts.{Facts, facts_of};
+ghost use Rattle.sg_facts.specs.Interface.{Declared};
 ghost use Rattle.sg_script.specs.Scripts.{most_members};
+ghost use Rattle.sg_script.specs.declared.multi.MultiScript.{MultiScript as OneScript};
 ghost use Rattle.sg_input.specs.sg_check.Shapes.{are_shapes};
-ghost use Rattle.sg_input.specs.declared.multi_input.MultiInput.{MultiInput as OneInput};
+ghost use Rattle.sg_input.specs.declared.read.Read.{Read as AnyRead};
 ghost use Rattle.sg_input.specs.Inside.Members.{AreFit, AreFitMembers};
 ghost use Rattle.sg_input.specs.MultiInputs.{AreMembers, AreMultiTexts, IsMultiInputOf, are_short};
 
+use crate::Read;
 use crate::dividing::parts_of;
 use crate::limits::{MOST_INTERFACE, MOST_SCRIPT};
 use crate::lines::{NO_DIVIDER, TOO_LONG, script_line};
-use crate::members::{Gathered, InterfaceList, members_of};
+use crate::members::{InterfaceList, members_of};
 use sg_facts::{Bytes, NoMemory, Shape};
 use sg_script::{MultiScript, ScriptError, read_multi};
 use std::alloc::Global;
-
-/// What an input for several services is.
-#[derive(Debug, Drop)]
-pub enum MultiInput {
-    /// The input is refused, with this line.
-    Refused(Bytes),
-    /// Interfaces that are accepted, its members, and a script for them without a flaw.
-    Ready(InterfaceList, MultiScript),
-}
 
 /// What an input for several services is, where its interfaces may be of these shapes: interfaces that are accepted, its members,
 /// with a script for them without a flaw, or else the line that refuses it, by the first of these that applies. `input refused:
@@ -35,19 +29,23 @@ pub fn read_multi_input(
     alloc: Global,
     input: &[u8],
     shapes: &[Shape],
-) -> Result<MultiInput, NoMemory>
+) -> Result<Read<(InterfaceList, MultiScript)>, NoMemory>
     requires shapes { are_shapes (map facts_of shapes.now) ≡ true }
     requires few { length shapes.now ≤ most_members }
     ensures input { IfOk result (IsMultiInputOf (map facts_of shapes.now) input.now) }
     // Nothing else may be answered.
-    ensures only { (other : OneInput) → IsMultiInputOf (map facts_of shapes.now) input.now other → IfOk result (λ made. made ≡ other) }
+    ensures only { (other : AnyRead (List Declared × OneScript)) → IsMultiInputOf (map facts_of shapes.now) input.now other → IfOk result (λ made. made ≡ other) }
     ensures fit { IfOk result AreFit }
 {
     multi_input_of(alloc, input, shapes)
 }
 
 // What `read_multi_input` answers.
-fn multi_input_of(alloc: Global, input: &[u8], shapes: &[Shape]) -> Result<MultiInput, NoMemory>
+fn multi_input_of(
+    alloc: Global,
+    input: &[u8],
+    shapes: &[Shape],
+) -> Result<Read<(InterfaceList, MultiScript)>, NoMemory>
     requires shapes { are_shapes (map facts_of shapes.now) ≡ true }
     requires few { length shapes.now ≤ most_members }
     ensures input { IfOk result (IsMultiInputOf (map facts_of shapes.now) input.now) }
@@ -56,14 +54,14 @@ fn multi_input_of(alloc: Global, input: &[u8], shapes: &[Shape]) -> Result<Multi
     let parts = parts_of(alloc, input)?;
     let texts = parts.texts.as_slice();
     if texts.is_empty() {
-        return Ok(MultiInput::Refused(Bytes::from_slice(alloc, NO_DIVIDER)?));
+        return Ok(Read::Refused(Bytes::from_slice(alloc, NO_DIVIDER)?));
     }
     if !are_short(texts, parts.script) {
-        return Ok(MultiInput::Refused(Bytes::from_slice(alloc, TOO_LONG)?));
+        return Ok(Read::Refused(Bytes::from_slice(alloc, TOO_LONG)?));
     }
     match members_of(alloc, texts, shapes)? {
-        Gathered::Ready(members) => read_multi_script(alloc, members, parts.script),
-        Gathered::Refused(line) => Ok(MultiInput::Refused(line)),
+        Read::Ready(members) => read_multi_script(alloc, members, parts.script),
+        Read::Refused(line) => Ok(Read::Refused(line)),
     }
 }
 
@@ -84,7 +82,7 @@ fn read_multi_script(
     alloc: Global,
     members: InterfaceList,
     script: &[u8],
-) -> Result<MultiInput, NoMemory>
+) -> Result<Read<(InterfaceList, MultiScript)>, NoMemory>
     requires few { length members ≤ most_members }
     requires fit { AreFitMembers members }
     ensures input { IfOk result (λ made. (input : List ℕ) (texts : List (List ℕ)) (services : List Facts) → AreMultiTexts input texts script.now
@@ -92,10 +90,8 @@ fn read_multi_script(
     ensures fit { IfOk result AreFit }
 {
     match read_multi(alloc, script, members.as_slice()) {
-        Ok(script) => Ok(MultiInput::Ready(members, script)),
+        Ok(script) => Ok(Read::Ready((members, script))),
         Err(ScriptError::NoMemory) => Err(NoMemory),
-        Err(ScriptError::Fault(fault)) => {
-            Ok(MultiInput::Refused(script_line(alloc, script, fault)?))
-        }
+        Err(ScriptError::Fault(fault)) => { Ok(Read::Refused(script_line(alloc, script, fault)?)) }
     }
 }

@@ -1,16 +1,18 @@
 // What an input is, or why it is refused.
 ghost use Rattle.std.specs.Prelude.{◌≡◌, ℕ, List, map, true, IfOk};
 ghost use Rattle.sg_facts.specs.Facts.{Facts, facts_of};
+ghost use Rattle.sg_facts.specs.Interface.{Declared};
+ghost use Rattle.sg_script.specs.declared.script.Script.{Script as OneScript};
 ghost use Rattle.sg_input.specs.sg_check.Shapes.{are_shapes};
-ghost use Rattle.sg_input.specs.declared.input.Input.{Input as OneInput};
+ghost use Rattle.sg_input.specs.declared.read.Read.{Read as AnyRead};
 ghost use Rattle.sg_input.specs.Inputs.{AreTexts, IsInputOf, IsInterface, most_script};
 
-use crate::front::{Front, front_of};
 use crate::limits::MOST_SCRIPT;
 use crate::lines::script_line;
-use crate::{Accepted, Input};
+use crate::parted::{InputParts, input_parts};
+use crate::{Accepted, Read};
 use sg_facts::{NoMemory, Shape};
-use sg_script::{ScriptError, read};
+use sg_script::{Script, ScriptError, read};
 use std::alloc::Global;
 
 /// What an input is, where its interface may be of one of these shapes: an interface that is accepted with a script for it
@@ -19,34 +21,46 @@ use std::alloc::Global;
 /// it. `interface refused at L:C: KIND`: as `verdict` says. `script refused at L:C: KIND`: the script's first flaw. L and C are
 /// the line and the byte in the line, from 1, in that text alone. The shapes are as for `verdict`. The only error is want of
 /// memory.
-pub fn read_input(alloc: Global, input: &[u8], shapes: &[Shape]) -> Result<Input, NoMemory>
+pub fn read_input(
+    alloc: Global,
+    input: &[u8],
+    shapes: &[Shape],
+) -> Result<Read<(Accepted, Script)>, NoMemory>
     requires { are_shapes (map facts_of shapes.now) ≡ true }
     ensures input { IfOk result (IsInputOf (map facts_of shapes.now) input.now) }
     // Nothing else may be answered.
-    ensures only { (other : OneInput) → IsInputOf (map facts_of shapes.now) input.now other → IfOk result (λ made. made ≡ other) }
+    ensures only { (other : AnyRead (Declared × OneScript)) → IsInputOf (map facts_of shapes.now) input.now other → IfOk result (λ made. made ≡ other) }
 {
     input_of(alloc, input, shapes)
 }
 
 // What `read_input` answers.
-fn input_of(alloc: Global, input: &[u8], shapes: &[Shape]) -> Result<Input, NoMemory>
+fn input_of(
+    alloc: Global,
+    input: &[u8],
+    shapes: &[Shape],
+) -> Result<Read<(Accepted, Script)>, NoMemory>
     requires { are_shapes (map facts_of shapes.now) ≡ true }
     ensures { IfOk result (IsInputOf (map facts_of shapes.now) input.now) }
 {
-    match front_of(alloc, input, MOST_SCRIPT, shapes)? {
-        Front::Ready(accepted, script) => read_script(alloc, accepted, script),
-        Front::Refused(line) => Ok(Input::Refused(line)),
+    match input_parts(alloc, input, MOST_SCRIPT, shapes)? {
+        Read::Ready(InputParts { accepted, second }) => read_script(alloc, accepted, second),
+        Read::Refused(line) => Ok(Read::Refused(line)),
     }
 }
 
 // What an input with this script is, whose interface is accepted.
-fn read_script(alloc: Global, accepted: Accepted, script: &[u8]) -> Result<Input, NoMemory>
+fn read_script(
+    alloc: Global,
+    accepted: Accepted,
+    script: &[u8],
+) -> Result<Read<(Accepted, Script)>, NoMemory>
     ensures { IfOk result (λ made. (input interface : List ℕ) (services : List Facts) → AreTexts most_script input interface script.now
         → IsInterface services interface accepted → IsInputOf services input made) }
 {
     match read(alloc, script, accepted.interface()) {
-        Ok(script) => Ok(Input::Ready(accepted, script)),
+        Ok(script) => Ok(Read::Ready((accepted, script))),
         Err(ScriptError::NoMemory) => Err(NoMemory),
-        Err(ScriptError::Fault(fault)) => Ok(Input::Refused(script_line(alloc, script, fault)?)),
+        Err(ScriptError::Fault(fault)) => Ok(Read::Refused(script_line(alloc, script, fault)?)),
     }
 }

@@ -17,11 +17,11 @@ use Rattle.sg_lex.proofs.Steps.{answers_after, answers_step}
 -- ---- the answers are a reading
 
 -- what is read after a first part of a text, where that part has bytes
-behind_part : (n at b : ℕ) (bs : List ℕ) → 1 ≤ n → n ≤ length (b ∷ bs)
+after_part : (n at b : ℕ) (bs : List ℕ) → 1 ≤ n → n ≤ length (b ∷ bs)
     → ((m place : ℕ) → m ≤ length bs → IsReading (place + m) (drop m bs) (later_answers m place bs))
     → IsReading (at + length (take n (b ∷ bs))) (drop n (b ∷ bs)) (later_answers (n - 1) (at + 1) bs)
-behind_part zero at b bs l f ih = absurd (omega arith)
-behind_part (suc n) at b bs l f ih =
+after_part zero at b bs l f ih = absurd (omega arith)
+after_part (suc n) at b bs l f ih =
     let less : suc n - 1 ≡ n = omega arith in
     let long : length (take (suc n) (b ∷ bs)) ≡ suc n = length-take-le (suc n) (b ∷ bs) f in
     let place : (at + 1) + n ≡ at + length (take (suc n) (b ∷ bs)) = omega arith in
@@ -33,7 +33,7 @@ reads_front : (front : Front) (at b : ℕ) (bs : List ℕ) → Means (b ∷ bs) 
 reads_front Ended at b bs m h ih = absurd (not_empty b bs (sym m))
 reads_front (Gap n) at b bs m h ih =
     subst (λ xs. IsReading at xs (later_answers (n - 1) (at + 1) bs)) (take-append-drop n (b ∷ bs))
-    (passes at (take n (b ∷ bs)) (drop n (b ∷ bs)) (later_answers (n - 1) (at + 1) bs) m.1 (behind_part n at b bs h m.0 ih))
+    (passes at (take n (b ∷ bs)) (drop n (b ∷ bs)) (later_answers (n - 1) (at + 1) bs) m.1 (after_part n at b bs h m.0 ih))
 reads_front (Token kind n) at b bs m h ih =
     let answers : List Answer = later_answers (n - 1) (at + 1) bs in
     let text : List ℕ = b ∷ bs in
@@ -41,22 +41,22 @@ reads_front (Token kind n) at b bs m h ih =
     let most : AtMost (length (take n text)) (take n text ++ drop n text)
     = subst (λ xs. AtMost (length (take n text)) xs) (sym (take-append-drop n text)) (subst (λ k. AtMost k text) (sym long) m.2) in
     subst (λ xs. IsReading at xs (Ok (record { kind = kind; bytes = take n text; at = at }) ∷ answers)) (take-append-drop n text)
-    (gives at kind (take n text) (drop n text) answers m.1 most (behind_part n at b bs h m.0 ih))
+    (gives at kind (take n text) (drop n text) answers m.1 most (after_part n at b bs h m.0 ih))
 reads_front Fault at b bs m h ih = faults at (b ∷ bs) m.0 m.1
 
-reads_behind : (n at : ℕ) (text : List ℕ) → n ≤ length text → IsReading (at + n) (drop n text) (later_answers n at text)
-reads_behind zero at [] l = ends (at + 0)
-reads_behind (suc n) at [] l = absurd (omega arith)
-reads_behind zero at (b ∷ bs) l =
+reads_after : (n at : ℕ) (text : List ℕ) → n ≤ length text → IsReading (at + n) (drop n text) (later_answers n at text)
+reads_after zero at [] l = ends (at + 0)
+reads_after (suc n) at [] l = absurd (omega arith)
+reads_after zero at (b ∷ bs) l =
     let place : at ≡ at + 0 = omega arith in
     subst (λ m. IsReading m (b ∷ bs) (later_answers 0 at (b ∷ bs))) place
-    (reads_front (front_of (b ∷ bs)) at b bs (means_front (b ∷ bs)) (has_bytes (b ∷ bs)) (λ m place l. reads_behind m place bs l))
-reads_behind (suc n) at (b ∷ bs) l =
+    (reads_front (front_of (b ∷ bs)) at b bs (means_front (b ∷ bs)) (has_bytes (b ∷ bs)) (λ m place l. reads_after m place bs l))
+reads_after (suc n) at (b ∷ bs) l =
     let place : (at + 1) + n ≡ at + suc n = omega arith in
-    subst (λ m. IsReading m (drop n bs) (later_answers n (at + 1) bs)) place (reads_behind n (at + 1) bs (omega arith))
+    subst (λ m. IsReading m (drop n bs) (later_answers n (at + 1) bs)) place (reads_after n (at + 1) bs (omega arith))
 
 pub reads : (text : List ℕ) → IsReading 0 text (answers_of text)
-reads text = reads_behind 0 0 text (omega arith)
+reads text = reads_after 0 0 text (omega arith)
 
 -- ---- and the only one
 

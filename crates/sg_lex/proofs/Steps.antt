@@ -28,18 +28,18 @@ answers_after (Token kind n) at text =
     Ok (record { kind = kind; bytes = take n text; at = at }) ∷ later_answers 0 (at + n) (drop n text)
 answers_after Fault at text = Err (record { at = at }) ∷ []
 
-behind_more : (n at b : ℕ) (bs : List ℕ) → 1 ≤ n → later_answers (n - 1) (at + 1) bs ≡ later_answers 0 (at + n) (drop n (b ∷ bs))
-behind_more zero at b bs l = absurd (omega arith)
-behind_more (suc n) at b bs l =
+after_more : (n at b : ℕ) (bs : List ℕ) → 1 ≤ n → later_answers (n - 1) (at + 1) bs ≡ later_answers 0 (at + n) (drop n (b ∷ bs))
+after_more zero at b bs l = absurd (omega arith)
+after_more (suc n) at b bs l =
     let e : suc n - 1 ≡ n = omega arith in
     rw e (answers_skip n (at + 1) bs ∙ ap (λ m. later_answers 0 m (drop n bs)) (omega arith))
 
 step_at : (f : Front) (at b : ℕ) (bs : List ℕ) → HasBytes f
     → answers_at f at (b ∷ bs) (λ n. later_answers n (at + 1) bs) ≡ answers_after f at (b ∷ bs)
 step_at Ended at b bs h = refl
-step_at (Gap n) at b bs h = behind_more n at b bs h
+step_at (Gap n) at b bs h = after_more n at b bs h
 step_at (Token kind n) at b bs h =
-    ap (λ rest. Ok (record { kind = kind; bytes = take n (b ∷ bs); at = at }) ∷ rest) (behind_more n at b bs h)
+    ap (λ rest. Ok (record { kind = kind; bytes = take n (b ∷ bs); at = at }) ∷ rest) (after_more n at b bs h)
 step_at Fault at b bs h = refl
 
 pub answers_step : (at : ℕ) (text : List ℕ) → later_answers 0 at text ≡ answers_after (front_of text) at text

@@ -51,7 +51,7 @@ impl<'a> Iterator for Lexer<'a> {
     /// None at the end of the text, and after a fault.
     fn next(&mut self) -> Option<Result<Token<'a>, LexFault>> {
         let text = self.text;
-        let (at, front) = behind_gaps(text, self.at);
+        let (at, front) = after_gaps(text, self.at);
         match front {
             Front::Token(kind, len) => {
                 self.at = at + len;
@@ -91,7 +91,7 @@ fn token_at(text: &[u8], kind: TokenKind, at: usize, len: usize) -> Token<'_>
 }
 
 // The first place at or after this one at which no gap stands, and what stands there.
-fn behind_gaps(text: &[u8], from: usize) -> (usize, Front)
+fn after_gaps(text: &[u8], from: usize) -> (usize, Front)
     requires { from ≤ length text.now }
     ensures front { result.1 ≡ front_of (drop result.0 text.now) }
     ensures no_gap { IsNoGap result.1 }

@@ -11,7 +11,7 @@ use Rattle.sg_world.specs.sg_clients.declared.phase.Phase.{Phase}
 use Rattle.sg_world.specs.sg_clients.declared.phase.Phase.TheVariants.{Idle, Asked, Held, Receipted, Blocked, Left}
 use Rattle.sg_world.specs.sg_clients.declared.withdrawn.Withdrawn.{Withdrawn}
 use Rattle.sg_world.specs.Marked.{TellsAll, IsPhaseAfter, last_kind, marked_as, is_entry_mark, is_withdrawal_mark}
-use Rattle.sg_world.specs.Steps.{WantsMemory}
+use Rattle.sg_world.specs.Steps.{LackedMemory}
 use Rattle.sg_world.specs.sg_world_laws.Setting.{Setting}
 use Rattle.sg_turn.specs.declared.log.LogMark.{LogMark}
 use Rattle.sg_turn.specs.declared.log.LogMarkKind.TheVariants.{Offer as TOffer, Withdraw as TWithdraw}
@@ -83,7 +83,7 @@ leave_log w c first last t f = go (is_left_phase (seat_of w c).phase) refl
         inl ((λ i. log_from (call_in v.seats) v.marks (sym (append-nil w.history) i) (sym (append-nil w.withdrawn) i))
         ∙ marked w.seats v.seats w.marks w.history [] w.withdrawn [] (record { client = c; kind = Leave }) a (set_call w.seats (c - 1) _ refl) (λ p. absurd (l p)))
 
-pub wants_log : (z : Setting) (w : WorldView) (c : ℕ) (now : WorldView) → WantsMemory z w c now → log_of now ≡ log_of w
+pub wants_log : (z : Setting) (w : WorldView) (c : ℕ) (now : WorldView) → LackedMemory z w c now → log_of now ≡ log_of w
 wants_log z w c now s = ap log_of s.counted
 
 -- ---- what the log tells

@@ -10,7 +10,7 @@ ghost use Rattle.sg_turn.specs.declared.log.LogMarkKind.TheVariants.{Offer, With
 ghost use Rattle.sg_log.specs.Dids.{stepped_of};
 ghost use Rattle.sg_log.specs.Log.{log_of};
 ghost use Rattle.sg_log.specs.Names.{MayOffer, TellsWorld, phases_of};
-ghost use Rattle.sg_world.specs.Steps.{AnswersLast, HasStepped, WantsMemory};
+ghost use Rattle.sg_world.specs.Steps.{AnswersLast, HasStepped, LackedMemory};
 ghost use Rattle.sg_world.specs.Worlded.{setting_of};
 ghost use Rattle.sg_world.specs.sg_clients.WorldView.{MayWithdraw, happened, offered, seat_of, with_leave, withdrawn_by};
 
@@ -129,7 +129,7 @@ impl<S: Service, T: Stops, N: WorldNames> NamedWorld<S, T, N> {
         requires first { 1 ≤ client }
         requires last { client ≤ N.clients }
         ensures did { IfOk result (λ did. HasStepped (setting_of S.ask S.sound S.parts N.tables) self.old.world.view client did self.new.world.view) }
-        ensures wants { OnErr result (WantsMemory (setting_of S.ask S.sound S.parts N.tables) self.old.world.view client self.new.world.view) }
+        ensures wants { OnErr result (LackedMemory (setting_of S.ask S.sound S.parts N.tables) self.old.world.view client self.new.world.view) }
         ensures answers { IfOk result (AnswersLast self.new.world.view client) }
         ensures stepped { IfOk result (λ did. AddsStep client (log_of self.old.world.view) (stepped_of did) (log_of self.new.world.view)) }
         ensures same { OnErr result (log_of self.new.world.view ≡ log_of self.old.world.view) }

@@ -10,7 +10,7 @@ use Rattle.sg_multi.specs.declared.member.Member.{Member}
 use Rattle.sg_multi.specs.sg_sim.sg_plain.Calls.{ascending_from, most_client}
 use Rattle.sg_multi.specs.sg_sim.sg_script.declared.multi.MultiScript.{MultiScript}
 use Rattle.sg_multi.specs.Calls.{has_multi_calls}
-use Rattle.sg_multi.specs.Inside.Turns.{NobodyGoesNow, NoneBehind, end_by, end_of_client, ends_up_to, may_go_now}
+use Rattle.sg_multi.specs.Inside.Turns.{NobodyGoesNow, NoneAfter, end_by, end_of_client, ends_up_to, may_go_now}
 use Rattle.sg_multi.specs.declared.ended.MultiEnd.{MultiEnd}
 use Rattle.sg_multi.specs.declared.running.Running.{Running}
 
@@ -57,7 +57,7 @@ some_first (y ∷ xs) (Some x) is = some (length xs)
 -- ---- turns
 
 -- one client more can't take a turn
-pub none_more : (script : MultiScript) (r : Running) (behind client : ℕ) → NoneBehind script r behind client → may_go_now script r (client + 1) ≡ false → NoneBehind script r behind (client + 1)
+pub none_more : (script : MultiScript) (r : Running) (behind client : ℕ) → NoneAfter script r behind client → may_go_now script r (client + 1) ≡ false → NoneAfter script r behind (client + 1)
 none_more script r behind client before not other above within = by (cases_lt client other)
   where
     by : (client < other) ⊎ (other ≤ client) → may_go_now script r other ≡ false
@@ -65,7 +65,7 @@ none_more script r behind client before not other above within = by (cases_lt cl
     by (inr less) = before other above less
 
 -- nobody can, behind a client and up to it
-pub nobody : (script : MultiScript) (r : Running) (last : ℕ) → NoneBehind script r last (most_client script.clients) → NoneBehind script r 0 last → NobodyGoesNow script r
+pub nobody : (script : MultiScript) (r : Running) (last : ℕ) → NoneAfter script r last (most_client script.clients) → NoneAfter script r 0 last → NobodyGoesNow script r
 nobody script r last behind around client first within = by (cases_lt last client)
   where
     by : (last < client) ⊎ (client ≤ last) → may_go_now script r client ≡ false

@@ -28,7 +28,7 @@ use Rattle.sg_multi.specs.sg_sim.sg_clients.WorldView.{Seat, WorldView, happened
 use Rattle.sg_multi.specs.sg_sim.sg_clients.declared.phase.Phase.{Phase}
 use Rattle.sg_multi.specs.sg_sim.sg_clients.declared.phase.Phase.TheVariants.{Idle, Asked, Held, Receipted, Blocked, Left}
 use Rattle.sg_multi.specs.sg_sim.sg_world.declared.did.Did.{Did}
-use Rattle.sg_multi.specs.sg_sim.sg_world.Steps.{HasStepped, WantsMemory}
+use Rattle.sg_multi.specs.sg_sim.sg_world.Steps.{HasStepped, LackedMemory}
 use Rattle.sg_multi.specs.sg_sim.sg_world_laws.Setting.{Setting}
 use Rattle.sg_multi.specs.Calls.{multi_calls}
 use Rattle.sg_multi.specs.Inside.Ended.{AreEndedMembers}
@@ -167,7 +167,7 @@ module _ (members later : List Member) (script : MultiScript) (given : List (Lis
   happened_never counted a = never_wanted (setting_in m) w now (ap (λ x. x.run.boots) counted) (ap (λ x. x.running) counted) (ap (λ x. x.history) counted) (ap (λ x. x.seats) counted) a
 
   -- a step wanted memory
-  module _ (c : ℕ) (wants : WantsMemory (setting_in m) w c now) where
+  module _ (c : ℕ) (wants : LackedMemory (setting_in m) w c now) where
     pub wanted_stays : (d : ℕ) → 1 ≤ d → phase_at (seat_of now d) ≡ phase_at (seat_of w d)
     wanted_stays d from = ap (λ (x : WorldView). phase_at (seat_of x d)) wants.counted
 

@@ -27,7 +27,7 @@ use Rattle.sg_multi.specs.sg_sim.sg_clients.declared.phase.Phase.{Phase}
 use Rattle.sg_multi.specs.sg_sim.sg_clients.declared.phase.Phase.TheVariants.{Idle, Asked, Held, Receipted, Blocked, Left}
 use Rattle.sg_multi.specs.sg_sim.sg_world.declared.did.Did.{Did}
 use Rattle.sg_multi.specs.sg_sim.sg_world.declared.did.Did.TheVariants.{Answered, Blocked as Waits, Booted, Loaded, Lost, Replayed, Served, Skipped, Struck}
-use Rattle.sg_multi.specs.sg_sim.sg_world.Steps.{AnswersLast, HasStepped, WantsMemory}
+use Rattle.sg_multi.specs.sg_sim.sg_world.Steps.{AnswersLast, HasStepped, LackedMemory}
 use Rattle.sg_multi.specs.Calls.{AreFirstMultiCalls, IsCallOf, multi_calls}
 use Rattle.sg_multi.specs.Inside.Callers.{HasReceipt, IsSeatOf, Offers}
 use Rattle.sg_multi.specs.Inside.Keeps.{IsAllHanded, IsMultiCaller, KeepsMulti, all_of_first, interfaces_of, is_multi_setting_up}
@@ -537,7 +537,7 @@ module _ (members later : List Member) (script : MultiScript) (given : List (Lis
       clients_kept (setting_in m) w c first within (call_is_own (setting_in m).iface.facts own.script w.history c (seat_of w c) (own.playing.callers.each c first within)) did now steps
 
   -- a step wanted memory
-  pub kept_wanted : (c : ℕ) → WantsMemory (setting_in m) w c now → KeepsMulti later script given order
+  pub kept_wanted : (c : ℕ) → LackedMemory (setting_in m) w c now → KeepsMulti later script given order
   kept_wanted c wants = kept_still (member_wanted (setting_in m) w c now wants (is.each place m changes.there))
       (subst (IsQuiet w) (sym wants.counted) (record { same = refl; clients = refl; each = λ client from. goes_same (seat_of w client) }))
 

@@ -41,7 +41,7 @@ use Rattle.sg_multi.specs.sg_sim.sg_clients.declared.phase.Phase.{Phase}
 use Rattle.sg_multi.specs.sg_sim.sg_clients.declared.phase.Phase.TheVariants.{Asked, Idle, Receipted}
 use Rattle.sg_multi.specs.sg_sim.sg_world.declared.did.Did.{Did}
 use Rattle.sg_multi.specs.sg_sim.sg_world.declared.did.Did.TheVariants.{Answered, Blocked as Waits, Booted, Loaded, Lost, Replayed, Served, Skipped, Struck}
-use Rattle.sg_multi.specs.sg_sim.sg_world.Steps.{AnswersLast, HasStepped, WantsMemory}
+use Rattle.sg_multi.specs.sg_sim.sg_world.Steps.{AnswersLast, HasStepped, LackedMemory}
 use Rattle.sg_multi.specs.sg_sim.sg_world_laws.Setting.{Setting}
 use Rattle.sg_multi.specs.Inside.Member.{KeepsMember}
 use Rattle.sg_multi.proofs.Stepping.{Answers, Enters, GoesQuietly, goes_quietly, is_answered}
@@ -74,7 +74,7 @@ member_new z w n none_waits some within new = subst (KeepsMember z) (sym new) (r
 pub member_happened : (z : Setting) (w : WorldView) → KeepsMember z w → KeepsMember z (happened w)
 member_happened z w is = record { script = is.script; given = is.given; no_setup = is.no_setup; all = is.all; playing = is.playing; numbered = is.numbered; waking = is.waking; none_waits = is.none_waits; none_withdrawn = is.none_withdrawn }
 
-pub member_wanted : (z : Setting) (w : WorldView) (c : ℕ) (now : WorldView) → WantsMemory z w c now → KeepsMember z w → KeepsMember z now
+pub member_wanted : (z : Setting) (w : WorldView) (c : ℕ) (now : WorldView) → LackedMemory z w c now → KeepsMember z w → KeepsMember z now
 member_wanted z w c now wants is = subst (KeepsMember z) (sym wants.counted)
     (record { script = is.script; given = is.given; no_setup = is.no_setup; all = is.all; playing = is.playing; numbered = is.numbered; waking = is.waking; none_waits = is.none_waits; none_withdrawn = is.none_withdrawn })
 

@@ -20,7 +20,7 @@ use Rattle.sg_multi.specs.sg_sim.sg_clients.declared.phase.Phase.{Phase}
 use Rattle.sg_multi.specs.sg_sim.sg_clients.declared.phase.Phase.TheVariants.{Idle, Asked, Held, Receipted, Blocked, Left}
 use Rattle.sg_multi.specs.Inside.Following.{IsNextMultiTurn, phase_at, player_now, stage_now}
 use Rattle.sg_multi.specs.Inside.Keeps.{is_multi_setting_up}
-use Rattle.sg_multi.specs.Inside.Turns.{IsFirstBehind, KeepsRunning, NoneBehind, NoneScheduled, TakesNextTurn, is_at_setup, may_go_now}
+use Rattle.sg_multi.specs.Inside.Turns.{IsFirstAfter, KeepsRunning, NoneAfter, NoneScheduled, TakesNextTurn, is_at_setup, may_go_now}
 use Rattle.sg_multi.specs.Inside.Whose.{NobodyGoesOn, may_go_on, next_of, seat_at}
 use Rattle.sg_multi.specs.Merged.{MultiEntry}
 use Rattle.sg_multi.specs.SeveralServices.{multi_workload}
@@ -196,19 +196,19 @@ module _ (members : List Member) (script : MultiScript) (given : List (List ℕ)
       ends_schedule = drop_whole script.schedule ∙ sym (left_is ∙ skipped.1)
 
       -- then the next after the last turn's client that can
-      pub turn_behind : (client : ℕ) → last < client → client ≤ n → may_go_on members script given client ≡ true → ((other : ℕ) → last < other → other < client → may_go_on members script given other ≡ false)
+      pub turn_after : (client : ℕ) → last < client → client ≤ n → may_go_on members script given client ≡ true → ((other : ℕ) → last < other → other < client → may_go_on members script given other ≡ false)
           → IsNextMultiTurn script s client (length script.schedule)
-      turn_behind client above within may before = record {
+      turn_after client above within may before = record {
         turn = circle_is ∙ first_front s (ascending_from (last + 1) (length s.players - last)) (ascending_from 1 last) client
             (first_above s (last + 1) (length s.players - last) client (omega (arith, above)) (omega (arith, above, within, clients_alike)) (may_alike client (omega (arith, above)) within ∙ may)
             (λ other from below. none_may other (omega (arith, from)) (λ to. before other (omega (arith, from)) below)));
         schedule = ends_schedule;
       }
 
-      module _ (none_behind : (other : ℕ) → last < other → other ≤ n → may_go_on members script given other ≡ false) where
+      module _ (none_later : (other : ℕ) → last < other → other ≤ n → may_go_on members script given other ≡ false) where
         back : first_of s (in_a_circle s) ≡ first_of s (ascending_from 1 last)
         back = first_back s (ascending_from (last + 1) (length s.players - last)) (ascending_from 1 last)
-            (none_above s (last + 1) (length s.players - last) (λ other from below. none_may other (omega (arith, from)) (none_behind other (omega (arith, from)))))
+            (none_above s (last + 1) (length s.players - last) (λ other from below. none_may other (omega (arith, from)) (none_later other (omega (arith, from)))))
 
         -- and then the first from 1 on
         pub turn_around : (client : ℕ) → 1 ≤ client → client ≤ last → client ≤ n → may_go_on members script given client ≡ true → ((other : ℕ) → 1 ≤ other → other < client → may_go_on members script given other ≡ false)
@@ -243,11 +243,11 @@ module _ (script : MultiScript) (r : Running) (is : KeepsRunning script r) where
       none_left : (k other : ℕ) → r.passed ≤ k → slice_get script.schedule k ≡ Some other → 1 ≤ other → other ≤ most_client script.clients → may_go_now script r other ≡ false
       none_left k other from there = none k other from (omega (arith, there_within script.schedule k other there)) there
 
-      pub from_behind : (client : ℕ) → IsFirstBehind script r r.last (most_client script.clients) client → TakesNextTurn script r client (length script.schedule)
-      from_behind client found merged =
-          turn_behind r.members script (lists_of r.given) merged r.passed r.last there_is_one is.keeps.playable.turns settled none_left client found.above found.within found.may found.before
+      pub from_after : (client : ℕ) → IsFirstAfter script r r.last (most_client script.clients) client → TakesNextTurn script r client (length script.schedule)
+      from_after client found merged =
+          turn_after r.members script (lists_of r.given) merged r.passed r.last there_is_one is.keeps.playable.turns settled none_left client found.above found.within found.may found.before
 
-      pub from_around : (client : ℕ) → NoneBehind script r r.last (most_client script.clients) → IsFirstBehind script r 0 r.last client → TakesNextTurn script r client (length script.schedule)
+      pub from_around : (client : ℕ) → NoneAfter script r r.last (most_client script.clients) → IsFirstAfter script r 0 r.last client → TakesNextTurn script r client (length script.schedule)
       from_around client behind found merged =
           turn_around r.members script (lists_of r.given) merged r.passed r.last there_is_one is.keeps.playable.turns settled none_left behind client (omega (arith, found.above)) found.within
           (omega (arith, found.within, is.last_there)) found.may (λ other from. found.before other (omega (arith, from)))

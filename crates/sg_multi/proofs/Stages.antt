@@ -17,7 +17,7 @@ use Rattle.sg_facts.specs.Object.{object_of}
 use Rattle.sg_facts.proofs.Replaying.Found.{other_test, same_test}
 use Rattle.sg_multi.proofs.sg_sim.sg_play.Waking.Shapes.{call_is_next}
 use Rattle.sg_multi.proofs.sg_sim.sg_play.sg_plain.sg_clients.Lines.{length_map, same_or_other, seat_here, seat_there, seat_woken}
-use Rattle.sg_multi.proofs.sg_sim.sg_play.sg_world.sg_world_laws.Ending.Shapes.{seat_behind, woken}
+use Rattle.sg_multi.proofs.sg_sim.sg_play.sg_world.sg_world_laws.Ending.Shapes.{seat_after, woken}
 use Rattle.sg_multi.specs.Members.{ChangesAt, kind_in, setting_by, setting_in, view_in, world_in}
 use Rattle.sg_multi.specs.sg_load.declared.kind.ServiceKind.{ServiceKind}
 use Rattle.sg_multi.specs.declared.member.Member.{Member}
@@ -421,7 +421,7 @@ module _ (members : List Member) (script : MultiScript) (given : List (List ℕ)
         merged_then = is.merged ++ entry_with reply ∷ []
 
         abbrev new_seat : Seat
-        new_seat = seat_behind z.iface.facts w c reply p kept
+        new_seat = seat_after z.iface.facts w c reply p kept
 
         abbrev woken_players : List Player
         woken_players = map (woken_player s.call reply) clients

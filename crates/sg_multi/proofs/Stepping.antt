@@ -4,7 +4,7 @@ use Rattle.sg_facts.specs.sg_base.declared.call.Call.{Call}
 use Rattle.sg_facts.specs.sg_base.declared.reply.Reply.{Reply}
 use Rattle.sg_facts.specs.Facts.{Facts}
 use Rattle.sg_facts.specs.Object.{object_of}
-use Rattle.sg_multi.proofs.sg_sim.sg_play.sg_world.sg_world_laws.Ending.Shapes.{answered_seats, given_seats, seat_behind, woken}
+use Rattle.sg_multi.proofs.sg_sim.sg_play.sg_world.sg_world_laws.Ending.Shapes.{answered_seats, given_seats, seat_after, woken}
 use Rattle.sg_multi.proofs.sg_sim.sg_play.sg_world.sg_world_laws.Woken.{woken_is}
 use Rattle.sg_multi.proofs.sg_sim.sg_play.sg_plain.sg_clients.Lines.{length_map, length_set, same_or_other, seat_here, seat_there, seat_woken}
 use Rattle.sg_multi.specs.sg_sim.sg_plain.Playing.Callers.{is_receipted}
@@ -110,19 +110,19 @@ module _ (z : Setting) (w : WorldView) (c : ℕ) (first : 1 ≤ c) (last : c ≤
 
   -- an entry wakes clients
   entered : (reply : Reply) (p : Phase) (kept : Reply) (later : WorldView) → is_offered s.phase ≡ true → later.history ≡ w.history ++ record { call = s.call; reply = reply } ∷ []
-      → later.seats ≡ slice_set (woken facts w c reply) (c - 1) (seat_behind facts w c reply p kept) → Enters w c p reply later
+      → later.seats ≡ slice_set (woken facts w c reply) (c - 1) (seat_after facts w c reply p kept) → Enters w c p reply later
   entered reply p kept later offers history seats =
       let wakes = wakes_seat facts (object_of facts w.history).rows s.call reply in
       let within : c ≤ length (woken facts w c reply) = omega (arith, last, length_map (woken_seat wakes) w.seats) in
-      let here = ap (λ l. seat_in l c) seats ∙ seat_here (woken facts w c reply) c (seat_behind facts w c reply p kept) first within in
+      let here = ap (λ l. seat_in l c) seats ∙ seat_here (woken facts w c reply) c (seat_after facts w c reply p kept) first within in
       record {
         offered = offers;
         entered = history;
-        clients = ap length seats ∙ length_set (woken facts w c reply) (c - 1) (seat_behind facts w c reply p kept) ∙ length_map (woken_seat wakes) w.seats;
+        clients = ap length seats ∙ length_set (woken facts w c reply) (c - 1) (seat_after facts w c reply p kept) ∙ length_map (woken_seat wakes) w.seats;
         phase = ap (λ (t : Seat). t.phase) here;
         number = ap (λ (t : Seat). t.seq) here;
         others = λ client from other. subst (GoesOn (seat_of w client))
-            (sym (ap (λ l. seat_in l client) seats ∙ seat_there (woken facts w c reply) c client (seat_behind facts w c reply p kept) first from other ∙ seat_woken wakes w.seats client))
+            (sym (ap (λ l. seat_in l client) seats ∙ seat_there (woken facts w c reply) c client (seat_after facts w c reply p kept) first from other ∙ seat_woken wakes w.seats client))
             (goes_woken wakes (seat_of w client));
       }
 

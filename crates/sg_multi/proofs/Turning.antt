@@ -35,7 +35,7 @@ use Rattle.sg_multi.specs.sg_sim.sg_script.declared.multi.MultiScript.{MultiScri
 use Rattle.sg_multi.specs.sg_sim.sg_clients.WorldView.{IsFree, Seat, WorldView, happened, no_seat, offered, seat_of}
 use Rattle.sg_multi.specs.sg_sim.sg_clients.declared.phase.Phase.{Phase}
 use Rattle.sg_multi.specs.sg_sim.sg_clients.declared.phase.Phase.TheVariants.{Idle, Asked, Held, Receipted, Blocked, Left}
-use Rattle.sg_multi.specs.sg_sim.sg_world.Steps.{AnswersLast, HasStepped, WantsMemory}
+use Rattle.sg_multi.specs.sg_sim.sg_world.Steps.{AnswersLast, HasStepped, LackedMemory}
 use Rattle.sg_multi.specs.sg_sim.sg_world.declared.did.Did.{Did}
 use Rattle.sg_multi.specs.Calls.{IsCallOf, multi_calls}
 use Rattle.sg_multi.specs.Inside.Keeps.{KeepsMulti, interfaces_of, is_multi_setting_up}
@@ -336,10 +336,10 @@ module _ (members : List Member) (script : MultiScript) (given : List (List ℕ)
           ∙ ap (λ v. cond (nat_lt (seat_of (view_in m) client).seq (seat_of v client).seq) (order ++ member ∷ []) order) (sym view)) kept passed latest taken turn follows none
 
   -- a step that wanted memory
-  pub wanted_at : ((y : Member) → slice_get members (n - 1) ≡ Some y → (now : WorldView) × ChangesAt members (n - 1) y now later × WantsMemory (setting_in y) (view_in y) client now) → StillKeeps members later script given order is
+  pub wanted_at : ((y : Member) → slice_get members (n - 1) ≡ Some y → (now : WorldView) × ChangesAt members (n - 1) y now later × LackedMemory (setting_in y) (view_in y) client now) → StillKeeps members later script given order is
   wanted_at came = by (came m place_there)
     where
-      by : (now : WorldView) × ChangesAt members (n - 1) m now later × WantsMemory (setting_in m) (view_in m) client now → StillKeeps members later script given order is
+      by : (now : WorldView) × ChangesAt members (n - 1) m now later × LackedMemory (setting_in m) (view_in m) client now → StillKeeps members later script given order is
       by (now, changes, wants) =
           still members later script given order (n - 1) m now changes is (ap (λ (y : WorldView). y.history) wants.counted) (wanted_back members later script given order (n - 1) m now changes is client wants)
           (wanted_never members later script given order (n - 1) m now changes is client wants) (wanted_stays members later script given order (n - 1) m now changes is client wants)
@@ -412,9 +412,9 @@ idle_turn script r client taken is first last none turn = record {
 }
 
 -- where it was a client's turn, it is so behind its offer
-pub turn_behind_offer : (script : MultiScript) (r q : Running) (client taken : ℕ) → players_now q.members script (lists_of q.given) ≡ players_now r.members script (lists_of r.given) → q.passed ≡ r.passed → q.last ≡ r.last
+pub turn_after_offer : (script : MultiScript) (r q : Running) (client taken : ℕ) → players_now q.members script (lists_of q.given) ≡ players_now r.members script (lists_of r.given) → q.passed ≡ r.passed → q.last ≡ r.last
     → TakesNextTurn script r client taken → TakesNextTurn script q client taken
-turn_behind_offer script r q client taken players passed last turn merged =
+turn_after_offer script r q client taken players passed last turn merged =
     subst (λ ps. IsNextMultiTurn script (record { history = merged; players = ps; schedule = drop q.passed script.schedule; last = q.last }) client taken) (sym players)
     (subst (λ k. IsNextMultiTurn script (record { history = merged; players = players_now r.members script (lists_of r.given); schedule = drop k script.schedule; last = q.last }) client taken) (sym passed)
     (subst (λ k. IsNextMultiTurn script (record { history = merged; players = players_now r.members script (lists_of r.given); schedule = drop r.passed script.schedule; last = k }) client taken) (sym last) (turn merged)))

@@ -23,7 +23,7 @@ use Rattle.sg_multi.proofs.sg_sim.sg_play.Following.Seats.{HeldFirst, asked_firs
 use Rattle.sg_multi.proofs.sg_sim.sg_play.Following.There.{none_loaded, none_walked, nothing_there, there_committed, there_hidden, there_noted, there_refused}
 use Rattle.sg_multi.proofs.sg_sim.sg_play.Waking.Shapes.{call_is_next, call_is_own}
 use Rattle.sg_multi.proofs.sg_sim.sg_play.sg_plain.sg_clients.Lines.{length_map}
-use Rattle.sg_multi.proofs.sg_sim.sg_play.sg_world.sg_world_laws.Ending.Shapes.{answered_seats, given_seats, seat_behind, woken}
+use Rattle.sg_multi.proofs.sg_sim.sg_play.sg_world.sg_world_laws.Ending.Shapes.{answered_seats, given_seats, seat_after, woken}
 use Rattle.sg_multi.specs.sg_sim.sg_plain.Calls.{script_calls}
 use Rattle.sg_multi.specs.sg_sim.sg_plain.Playing.Callers.{IsCaller}
 use Rattle.sg_multi.specs.sg_sim.sg_plain.Playing.Turns.{is_free_phase}
@@ -125,7 +125,7 @@ module _ (z : Setting) (w : WorldView) (c : ℕ) where
 -- an entry of the client's call is made, which wakes who waited for it, and the client's seat is in a phase then, with a reply
 pub record EntersAs (z : Setting) (w : WorldView) (c : ℕ) (p : Phase) (reply kept : Reply) (later : WorldView) : Type 0 where
   pub history : later.history ≡ w.history ++ record { call = (seat_of w c).call; reply = reply } ∷ []
-  pub seats : later.seats ≡ slice_set (woken z.iface.facts w c reply) (c - 1) (seat_behind z.iface.facts w c reply p kept)
+  pub seats : later.seats ≡ slice_set (woken z.iface.facts w c reply) (c - 1) (seat_after z.iface.facts w c reply p kept)
 
 -- no entry is made, and the client's seat alone changes
 pub record Reseats (w : WorldView) (c : ℕ) (new : Seat) (later : WorldView) : Type 0 where
@@ -250,9 +250,9 @@ module _ (z : Setting) (w : WorldView) (c : ℕ) (first : 1 ≤ c) (last : c ≤
   }
 
   keeps_entered : (later : WorldView) (reply kept : Reply) (p : Phase) (items : List Item) → EntersAs z w c p reply kept later → later.run.boots ≡ record { items = items; stop = None } ∷ [] → IsSome later.running
-      → IsAllThere facts (w.history ++ entry_by reply ∷ []) items → HoldsSo facts (seat_behind facts w c reply p kept) → HeldFirst (seat_behind facts w c reply p kept) → NeverStruck z later
+      → IsAllThere facts (w.history ++ entry_by reply ∷ []) items → HoldsSo facts (seat_after facts w c reply p kept) → HeldFirst (seat_after facts w c reply p kept) → NeverStruck z later
   keeps_entered later reply kept p items enters one up there holds held =
-      let new = seat_behind facts w c reply p kept in
+      let new = seat_after facts w c reply p kept in
       record {
         hold = subst (HoldAll facts) (sym enters.seats)
             (each_set (HoldsSo facts) (woken facts w c reply) c new first (within_woken reply) (each_woken (HoldsSo facts) (test reply) w.seats (asked_holds facts) a.hold) holds);
@@ -302,7 +302,7 @@ module _ (z : Setting) (w : WorldView) (c : ℕ) (first : 1 ≤ c) (last : c ≤
   entered : (reply : Reply) (later : WorldView) → is_offered s.phase ≡ true → later ≡ answered_to (committed facts w (entry_by reply)) (entry_by reply) → IsAllThere facts (w.history ++ entry_by reply ∷ []) a.items
       → NeverStruck z later × EntersAs z w c Idle reply no_reply later
   entered reply later offers now there =
-      let new = seat_behind facts w c reply Idle no_reply in
+      let new = seat_after facts w c reply Idle no_reply in
       let enters : EntersAs z w c Idle reply no_reply later = record { history = ap (λ y. y.history) now; seats = ap (λ y. y.seats) now ∙ answered_seats facts w c reply (its offers) } in (
         keeps_entered later reply no_reply Idle a.items enters (ap (λ (y : WorldView). y.run.boots) now ∙ a.one) (ap (λ (y : WorldView). is_some y.running) now ∙ a.up) there
             (plain_holds facts new (λ held. cc held) (λ receipted. cc receipted)) (λ held. absurd (cc held)),
@@ -388,7 +388,7 @@ module _ (z : Setting) (w : WorldView) (c : ℕ) (first : 1 ≤ c) (last : c ≤
     answering = asked z (object_of facts w.history) s.call (Some l.reply) passing l.answers
 
     abbrev new_seat : Seat
-    new_seat = seat_behind facts w c l.reply Receipted l.reply
+    new_seat = seat_after facts w c l.reply Receipted l.reply
 
     history_now : between.history ≡ w.history ++ entry_by l.reply ∷ []
     history_now = ap (λ (y : WorldView). y.history) l.now

@@ -11,7 +11,7 @@ ghost use Rattle.sg_sim.specs.sg_play.Recovering.{RecoversSoFar};
 ghost use Rattle.sg_sim.specs.sg_play.sg_clients.Clients.{IsClient};
 ghost use Rattle.sg_sim.specs.sg_play.sg_hist.Recovered.{IsRecovered, struck_in};
 ghost use Rattle.sg_sim.specs.sg_clients.WorldView.{IsFree, happened, offered, seat_of, unanswered, with_leave};
-ghost use Rattle.sg_sim.specs.sg_world.Steps.{AnswersLast, HasStepped, WantsMemory};
+ghost use Rattle.sg_sim.specs.sg_world.Steps.{AnswersLast, HasStepped, LackedMemory};
 ghost use Rattle.sg_sim.specs.sg_world.Worlded.{setting_of};
 ghost use Rattle.sg_sim.specs.sg_world_laws.Setting.{stubs_of};
 
@@ -159,7 +159,7 @@ impl Member {
     pub fn step(&mut self, alloc: Global, client: u8) -> Result<Did, NoMemory>
         requires client { IsClient (length (view_in self.old).seats) client }
         ensures did { IfOk result (λ did. HasStepped (setting_in self.old) (view_in self.old) client did (view_in self.new)) }
-        ensures err { OnErr result (WantsMemory (setting_in self.old) (view_in self.old) client (view_in self.new)) }
+        ensures err { OnErr result (LackedMemory (setting_in self.old) (view_in self.old) client (view_in self.new)) }
         ensures answers { IfOk result (AnswersLast (view_in self.new) client) }
         ensures clients { length (view_in self.new).seats ≡ length (view_in self.old).seats }
         ensures tables { (world_in self.new).tables ≡ (world_in self.old).tables }

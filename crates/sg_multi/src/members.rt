@@ -9,7 +9,7 @@ ghost use Rattle.sg_multi.specs.Members.{ChangesAt, IsNewMember, setting_in, vie
 ghost use Rattle.sg_multi.specs.declared.member.Member.{Member as One};
 ghost use Rattle.sg_sim.specs.sg_play.sg_clients.Clients.{IsClient};
 ghost use Rattle.sg_sim.specs.sg_clients.WorldView.{IsFree, WorldView, happened, offered, seat_of, with_leave};
-ghost use Rattle.sg_sim.specs.sg_world.Steps.{AnswersLast, HasStepped, WantsMemory};
+ghost use Rattle.sg_sim.specs.sg_world.Steps.{AnswersLast, HasStepped, LackedMemory};
 
 use crate::member::{Member, discard_member};
 use sg_edge::AtPoints;
@@ -118,7 +118,7 @@ impl Members {
         ensures did { (m : One) → slice_get self.old place ≡ Some m → IfOk result (λ did. (now : WorldView)
             × ChangesAt self.old place m now self.new × HasStepped (setting_in m) (view_in m) client did now × AnswersLast now client did) }
         ensures err { (m : One) → slice_get self.old place ≡ Some m → OnErr result ((now : WorldView)
-            × ChangesAt self.old place m now self.new × WantsMemory (setting_in m) (view_in m) client now) }
+            × ChangesAt self.old place m now self.new × LackedMemory (setting_in m) (view_in m) client now) }
     {
         self.list[place].step(alloc, client)
     }

@@ -1,7 +1,7 @@
 // Whose turn it is.
 ghost use Rattle.std.specs.Prelude.{◌≡◌, ◌≤◌, ◌<◌, IfSome, None, false, length, true};
 ghost use Rattle.sg_multi.specs.sg_sim.sg_plain.Calls.{most_client};
-ghost use Rattle.sg_multi.specs.Inside.Turns.{IsFirstBehind, IsOverNow, KeepsRunning, NobodyGoesNow, NoneBehind, NoneScheduled, TakesNextTurn, is_at_setup};
+ghost use Rattle.sg_multi.specs.Inside.Turns.{IsFirstAfter, IsOverNow, KeepsRunning, NobodyGoesNow, NoneAfter, NoneScheduled, TakesNextTurn, is_at_setup};
 
 use crate::most_client;
 use crate::running::Running;
@@ -73,21 +73,21 @@ fn next_in_circle(running: &Running, script: &MultiScript) -> Option<NextTurn>
 {
     let passed = script.schedule.len();
     let clients = most_client(script.clients.as_slice());
-    if let Some(client) = next_behind(running, script, running.last, clients) {
+    if let Some(client) = next_after(running, script, running.last, clients) {
         return Some(NextTurn { client, passed });
     }
-    match next_behind(running, script, 0, running.last) {
+    match next_after(running, script, 0, running.last) {
         Some(client) => Some(NextTurn { client, passed }),
         None => None,
     }
 }
 
 // The first client after one, and up to another, that can take a turn.
-fn next_behind(running: &Running, script: &MultiScript, behind: u8, last: u8) -> Option<u8>
+fn next_after(running: &Running, script: &MultiScript, behind: u8, last: u8) -> Option<u8>
     requires keeps { KeepsRunning script.now running.now }
     requires last { last ≤ most_client script.now.clients }
-    ensures found { IfSome result (IsFirstBehind script.now running.now behind last) }
-    ensures none { result ≡ None → NoneBehind script.now running.now behind last }
+    ensures found { IfSome result (IsFirstAfter script.now running.now behind last) }
+    ensures none { result ≡ None → NoneAfter script.now running.now behind last }
 {
     'clients: for before in behind..last {
         if running.can_go(script, before + 1) {

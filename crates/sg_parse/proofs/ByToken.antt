@@ -7,7 +7,7 @@ use Rattle.sg_lex.specs.Lexeme.{Lexeme, Spelling as Named}
 use Rattle.sg_lex.specs.Tokens.{Answer}
 use Rattle.sg_parse.specs.declared.error.ParseError.{ParseError}
 use Rattle.sg_parse.specs.declared.error.ParseError.TheVariants.{Lex, Syntax}
-use Rattle.sg_parse.specs.Grammar.Inside.States.{State, dead, due, fork, want, names, stars, either, listed, statements, param, declared, type_of, with_statement, statement_behind, one_rest, two_rest, plain_rest, returned_rest, has_sort, fits, named_by, step, tree_at, trees}
+use Rattle.sg_parse.specs.Grammar.Inside.States.{State, dead, due, fork, want, names, stars, either, listed, statements, param, declared, type_of, with_statement, statement_after, one_rest, two_rest, plain_rest, returned_rest, has_sort, fits, named_by, step, tree_at, trees}
 use Rattle.sg_lex.specs.Inside.Automata.{Reading, read, read_on}
 use Rattle.sg_parse.proofs.Grammar.Basics.{if_then, if_else}
 use Rattle.sg_lex.proofs.Automata.{read_failed, read_next, read_end, alike}
@@ -169,7 +169,7 @@ declared_starred go front last n old h =
 -- ---- statements
 
 pub statement_came : (facts : Facts) (before : List Statement) (old new : Reading) (token : Lexeme) → old.rest ≡ Ok token ∷ new.rest → new.end ≡ old.end
-    → read trees (statements facts before) old ≡ read_on trees (statement_behind (with_statement facts before) token) token new
+    → read trees (statements facts before) old ≡ read_on trees (statement_after (with_statement facts before) token) token new
 unfolding step
 statement_came facts before old new token e g = read_next trees (statements facts before) old new token e g
 
@@ -180,23 +180,23 @@ statement_end facts before old e = read_end trees (statements facts before) old 
 -- after the first token of a statement, by the tests that fail and the one that holds
 
 pub is_one : (go : Statement → State) (token : Lexeme) (r : Reading) → has_sort one_word token ≡ true
-    → read_on trees (statement_behind go token) token r ≡ read trees (one_rest go (named_by token)) r
+    → read_on trees (statement_after go token) token r ≡ read trees (one_rest go (named_by token)) r
 is_one go token r h = ap (λ v. read_on trees v token r) (if_then (has_sort one_word token) _ _ h)
 
 pub is_two : (go : Statement → State) (token : Lexeme) (r : Reading) → has_sort one_word token ≡ false → has_sort two_word token ≡ true
-    → read_on trees (statement_behind go token) token r ≡ read trees (two_rest go (named_by token)) r
+    → read_on trees (statement_after go token) token r ≡ read trees (two_rest go (named_by token)) r
 is_two go token r a h = ap (λ v. read_on trees v token r) (if_else (has_sort one_word token) _ _ a ∙ if_then (has_sort two_word token) _ _ h)
 
 pub is_set : (go : Statement → State) (token : Lexeme) (r : Reading) → has_sort one_word token ≡ false → has_sort two_word token ≡ false
     → fits (word (codes "desc_data_retval")) token ≡ true
-    → read_on trees (statement_behind go token) token r ≡ read trees (returned_rest go Set) r
+    → read_on trees (statement_after go token) token r ≡ read trees (returned_rest go Set) r
 is_set go token r a b h =
     ap (λ v. read_on trees v token r) (if_else (has_sort one_word token) _ _ a ∙ if_else (has_sort two_word token) _ _ b
     ∙ if_then (fits (word (codes "desc_data_retval")) token) _ _ h)
 
 pub is_add : (go : Statement → State) (token : Lexeme) (r : Reading) → has_sort one_word token ≡ false → has_sort two_word token ≡ false
     → fits (word (codes "desc_data_retval")) token ≡ false → fits (word (codes "desc_data_retval_add")) token ≡ true
-    → read_on trees (statement_behind go token) token r ≡ read trees (returned_rest go Add) r
+    → read_on trees (statement_after go token) token r ≡ read trees (returned_rest go Add) r
 is_add go token r a b c h =
     ap (λ v. read_on trees v token r) (if_else (has_sort one_word token) _ _ a ∙ if_else (has_sort two_word token) _ _ b
     ∙ if_else (fits (word (codes "desc_data_retval")) token) _ _ c
@@ -204,7 +204,7 @@ is_add go token r a b c h =
 
 pub is_sub : (go : Statement → State) (token : Lexeme) (r : Reading) → has_sort one_word token ≡ false → has_sort two_word token ≡ false
     → fits (word (codes "desc_data_retval")) token ≡ false → fits (word (codes "desc_data_retval_add")) token ≡ false → fits kept token ≡ true
-    → read_on trees (statement_behind go token) token r ≡ read trees (returned_rest go Sub) r
+    → read_on trees (statement_after go token) token r ≡ read trees (returned_rest go Sub) r
 is_sub go token r a b c d h =
     ap (λ v. read_on trees v token r) (if_else (has_sort one_word token) _ _ a ∙ if_else (has_sort two_word token) _ _ b
     ∙ if_else (fits (word (codes "desc_data_retval")) token) _ _ c
@@ -214,7 +214,7 @@ is_sub go token r a b c d h =
 pub is_plain : (go : Statement → State) (token : Lexeme) (r : Reading) → has_sort one_word token ≡ false → has_sort two_word token ≡ false
     → fits (word (codes "desc_data_retval")) token ≡ false → fits (word (codes "desc_data_retval_add")) token ≡ false → fits kept token ≡ false
     → has_sort Name token ≡ true
-    → read_on trees (statement_behind go token) token r ≡ read trees (plain_rest go (named_by token)) r
+    → read_on trees (statement_after go token) token r ≡ read trees (plain_rest go (named_by token)) r
 is_plain go token r a b c d e h =
     ap (λ v. read_on trees v token r) (if_else (has_sort one_word token) _ _ a ∙ if_else (has_sort two_word token) _ _ b
     ∙ if_else (fits (word (codes "desc_data_retval")) token) _ _ c
@@ -225,7 +225,7 @@ is_plain go token r a b c d e h =
 pub is_none : (go : Statement → State) (token : Lexeme) (r : Reading) → has_sort one_word token ≡ false → has_sort two_word token ≡ false
     → fits (word (codes "desc_data_retval")) token ≡ false → fits (word (codes "desc_data_retval_add")) token ≡ false → fits kept token ≡ false
     → has_sort Name token ≡ false
-    → read_on trees (statement_behind go token) token r ≡ Err (Syntax token.at)
+    → read_on trees (statement_after go token) token r ≡ Err (Syntax token.at)
 is_none go token r a b c d e h =
     ap (λ v. read_on trees v token r) (if_else (has_sort one_word token) _ _ a ∙ if_else (has_sort two_word token) _ _ b
     ∙ if_else (fits (word (codes "desc_data_retval")) token) _ _ c

@@ -4,7 +4,7 @@ ghost use Rattle.sg_parse.specs.declared.tree.Param.{Param as Declared};
 ghost use Rattle.sg_parse.specs.declared.words.Sort.TheVariants.{Name as a_name};
 ghost use Rattle.sg_lex.specs.Lexeme.{Spelling as Named};
 ghost use Rattle.sg_parse.specs.Grammar.Inside.Forms.{open_bracket, close_bracket};
-ghost use Rattle.sg_parse.specs.Grammar.Inside.States.{State, due, want, either, listed, declared, param, param_behind, with_param, type_of, trees};
+ghost use Rattle.sg_parse.specs.Grammar.Inside.States.{State, due, want, either, listed, declared, param, param_after, with_param, type_of, trees};
 ghost use Rattle.sg_lex.specs.Inside.Automata.{read, Leads};
 ghost use Rattle.sg_parse.specs.Inside.{either_of};
 
@@ -39,16 +39,16 @@ fn param<'a>(reader: &mut Reader<'a>, alloc: Global) -> Result<Param<'a>, ParseE
 {
     let first = word_of(reader, Sort::Name)?;
     let spelled = spelling(reader, alloc, first)?;
-    behind_type(reader, spelled)
+    after_type(reader, spelled)
 }
 
 /// A parameter after its type: its form, if one comes, and its name.
-fn behind_type<'a>(
+fn after_type<'a>(
     reader: &mut Reader<'a>,
     spelled: SpelledType<'a>,
 ) -> Result<Param<'a>, ParseError>
     ensures leads { (params : List Declared) (k : List Declared → State) →
-        Leads trees (read trees (param_behind k params spelled.entry.front spelled.entry.last spelled.entry.stars) reader.old)
+        Leads trees (read trees (param_after k params spelled.entry.front spelled.entry.last spelled.entry.stars) reader.old)
         result (λ p. listed (params ++ p ∷ []) k) reader.new }
     ensures fewer { OnOk result (length reader.new.rest ≤ length reader.old.rest) }
 {

@@ -5,7 +5,7 @@ ghost use Rattle.sg_parse.specs.declared.tree.Statement.{Statement as Stated};
 ghost use Rattle.sg_parse.specs.declared.tree.TypeName.{TypeName as Typed};
 ghost use Rattle.sg_parse.specs.declared.words.Sort.TheVariants.{Name as a_name};
 ghost use Rattle.sg_lex.specs.Lexeme.{Spelling as Named};
-ghost use Rattle.sg_parse.specs.Grammar.Inside.States.{State, want, statements, statement_behind, one_rest, two_rest, proto_rest, plain_rest, returned_rest, trees};
+ghost use Rattle.sg_parse.specs.Grammar.Inside.States.{State, want, statements, statement_after, one_rest, two_rest, proto_rest, plain_rest, returned_rest, trees};
 ghost use Rattle.sg_lex.specs.Inside.Automata.{read, Leads, Answers, read_on};
 
 use crate::error::ParseError;
@@ -42,7 +42,7 @@ fn statement<'a>(
     token: Token<'a>,
 ) -> Result<Statement<'a>, ParseError>
     ensures leads { (go : Stated → State) →
-        Leads trees (read_on trees (statement_behind go token.entry) token.entry reader.old) result go reader.new }
+        Leads trees (read_on trees (statement_after go token.entry) token.entry reader.old) result go reader.new }
     ensures fewer { OnOk result (length reader.new.rest ≤ length reader.old.rest) }
 {
     if has_sort(&token, Sort::One) {

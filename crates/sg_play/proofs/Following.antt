@@ -1,4 +1,5 @@
 -- That a play follows the play without stops until the service stops.
+pub mod Asks
 pub mod Created
 pub mod Following
 pub mod Numbered

@@ -35,7 +35,7 @@ use Rattle.sg_play.specs.Turning.{with_call}
 use Rattle.sg_play.specs.Waking.Waking.{IsWaking}
 use Rattle.sg_world.specs.declared.did.Did.{Did}
 use Rattle.sg_world.specs.declared.did.Did.TheVariants.{Answered, Blocked as Waits, Booted, Loaded, Lost, Replayed, Served, Skipped, Struck}
-use Rattle.sg_world.specs.Steps.{AnswersLast, HasStepped, WantsMemory}
+use Rattle.sg_world.specs.Steps.{AnswersLast, HasStepped, LackedMemory}
 use Rattle.sg_world.specs.sg_world_laws.Setting.{Setting}
 
 -- ---- what the clients were given
@@ -124,7 +124,7 @@ goes_happened z script w is = record {
 }
 
 -- a step that wanted memory
-pub goes_wanted : (z : Setting) (script : Script) (w : WorldView) (c : ℕ) (now : WorldView) → MayGoOn z script w → WantsMemory z w c now → MayGoOn z script now
+pub goes_wanted : (z : Setting) (script : Script) (w : WorldView) (c : ℕ) (now : WorldView) → MayGoOn z script w → LackedMemory z w c now → MayGoOn z script now
 goes_wanted z script w c now is wants = subst (MayGoOn z script) (sym wants.counted) (record {
   playable = is.playable;
   clients = is.clients;

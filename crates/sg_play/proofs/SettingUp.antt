@@ -29,7 +29,7 @@ use Rattle.sg_plain.specs.sg_clients.declared.phase.Phase.TheVariants.{Asked, Le
 use Rattle.sg_play.proofs.Fronts.{up_to_end, up_to_front}
 use Rattle.sg_play.proofs.Waking.Shapes.{call_is_next}
 use Rattle.sg_play.specs.SettingUp.{IsSettingUpFirst}
-use Rattle.sg_play.specs.Turning.{StepsInTurn, behind_step, with_call, with_leaving, with_offer}
+use Rattle.sg_play.specs.Turning.{StepsInTurn, after_step, with_call, with_leaving, with_offer}
 use Rattle.sg_world.proofs.sg_world_laws.Ending.Calls.{test_same}
 use Rattle.sg_world.specs.declared.did.Did.{Did}
 use Rattle.sg_world.specs.declared.did.Did.TheVariants.{Answered, Blocked as Waits, Booted, Loaded, Lost, Replayed, Served, Skipped, Struck}
@@ -176,7 +176,7 @@ module _ (z : Setting) (script : Script) (w : WorldView) (given : List (List ℕ
       by false true = refl
       by false false = refl
 
-  behind : (did : Did) (later : WorldView) → (behind_step script c did later).run ≡ later.run
+  behind : (did : Did) (later : WorldView) → (after_step script c did later).run ≡ later.run
   behind Skipped later = refl
   behind (Answered reply) later = leaving later
   behind Lost later = refl

@@ -10,7 +10,7 @@ use Rattle.sg_plain.specs.sg_clients.declared.mark.MarkKind.TheVariants.{Leave}
 use Rattle.sg_plain.specs.sg_clients.declared.phase.Phase.TheVariants.{Idle, Left}
 use Rattle.sg_world.specs.declared.did.Did.{Did}
 use Rattle.sg_world.specs.declared.did.Did.TheVariants.{Answered, Blocked as Waits, Booted, Loaded, Lost, Replayed, Served, Skipped, Struck}
-use Rattle.sg_world.specs.Steps.{AnswersLast, HasStepped, WantsMemory}
+use Rattle.sg_world.specs.Steps.{AnswersLast, HasStepped, LackedMemory}
 use Rattle.sg_world.specs.sg_world_laws.Seats.{last_of}
 use Rattle.sg_world.specs.sg_world_laws.Setting.{Setting}
 use Rattle.sg_plain.specs.Playing.Callers.{handed, is_receipted, is_setting_up}
@@ -20,7 +20,7 @@ use Rattle.sg_plain.proofs.Playing.Calling.{callers_step, its_client, next_of}
 use Rattle.sg_plain.proofs.Playing.Lines.{line_set}
 use Rattle.sg_plain.proofs.sg_clients.Lines.{seat_here}
 use Rattle.sg_plain.proofs.Playing.Playing.{playing_step, playing_still}
-use Rattle.sg_play.specs.Turning.{behind_step, handed_by}
+use Rattle.sg_play.specs.Turning.{after_step, handed_by}
 use Rattle.sg_play.proofs.Stepping.{IsHandedTo, handed_step, quiet_step}
 
 -- ---- the last of some entries
@@ -38,7 +38,7 @@ front_last (x ∷ y ∷ es) e is = let more = front_last (y ∷ es) e is in (x �
 pub record IsPlainStep (did : Did) : Type 0 where
   pub none : (reply : Reply) → did ≡ Answered reply → ⊥
   pub told : None ≡ handed_by did
-  pub same : (script : Script) (client : ℕ) (later : WorldView) → later ≡ behind_step script client did later
+  pub same : (script : Script) (client : ℕ) (later : WorldView) → later ≡ after_step script client did later
 
 pub plain_step : (did : Did) → (did ≡ Skipped) ⊎ ((did ≡ Struck) ⊎ ((did ≡ Booted) ⊎ ((did ≡ Replayed) ⊎ ((did ≡ Loaded) ⊎ ((did ≡ Served) ⊎ ((did ≡ Waits) ⊎ (did ≡ Lost))))))) → IsPlainStep did
 plain_step Skipped is = record { none = λ reply answered. cc answered; told = refl; same = λ script client later. refl }
@@ -118,7 +118,7 @@ module _ (z : Setting) (script : Script) (w : WorldView) (given : List (List ℕ
         (playing_step z.iface script w.history w.seats given c first last turn is stepped.later.history stepped.later.seats (Some (desc_of reply)) handed_to.on hands_reply)
 
   -- a step that wanted memory
-  pub wanted : (now : WorldView) → WantsMemory z w c now → IsPlaying z.iface script now.history now.seats given
+  pub wanted : (now : WorldView) → LackedMemory z w c now → IsPlaying z.iface script now.history now.seats given
   wanted now wants = subst (λ (x : WorldView). IsPlaying z.iface script x.history x.seats given) (sym wants.counted) is
 
 -- a client leaves, which has no call under way

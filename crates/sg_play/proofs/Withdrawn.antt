@@ -3,7 +3,7 @@ use Rattle.std.proofs.Common.{◌≡◌, ℕ, ap, ◌∙◌, inl, inr}
 use Rattle.sg_plain.specs.sg_clients.WorldView.{WorldView}
 use Rattle.sg_world.specs.declared.did.Did.{Did}
 use Rattle.sg_world.specs.declared.did.Did.TheVariants.{Answered, Blocked as Waits, Booted, Loaded, Lost, Replayed, Served, Skipped, Struck}
-use Rattle.sg_world.specs.Steps.{Commits, HasStepped, Steps, WantsMemory}
+use Rattle.sg_world.specs.Steps.{Commits, HasStepped, Steps, LackedMemory}
 use Rattle.sg_world.specs.sg_world_laws.Setting.{Setting}
 
 module _ (z : Setting) (w : WorldView) (c : ℕ) where
@@ -30,5 +30,5 @@ module _ (z : Setting) (w : WorldView) (c : ℕ) where
   pub withdrawn_stepped : (did : Did) (now : WorldView) → HasStepped z w c did now → now.withdrawn ≡ w.withdrawn
   withdrawn_stepped did now steps = ap (λ x. x.withdrawn) steps.counted ∙ stepped did steps.later steps.steps
 
-  pub withdrawn_wanted : (now : WorldView) → WantsMemory z w c now → now.withdrawn ≡ w.withdrawn
+  pub withdrawn_wanted : (now : WorldView) → LackedMemory z w c now → now.withdrawn ≡ w.withdrawn
   withdrawn_wanted now wants = ap (λ x. x.withdrawn) wants.counted

@@ -1,3 +1,4 @@
+pub mod Asked
 pub mod Following
 pub mod GoingOn
 pub mod NextCall

@@ -45,9 +45,9 @@ abbrev pub with_leaving : Script → WorldView → ℕ → WorldView
 with_leaving script w client = if nat_lt (seat_of w client).seq (length (script_calls script client)) then w else happened (with_leave w client)
 
 -- a world after a client's step and what follows it: the client leaves where its last call was answered
-abbrev pub behind_step : Script → ℕ → Did → WorldView → WorldView
-behind_step script client (Answered reply) later = with_leaving script later client
-behind_step script client _ later = later
+abbrev pub after_step : Script → ℕ → Did → WorldView → WorldView
+after_step script client (Answered reply) later = with_leaving script later client
+after_step script client _ later = later
 
 -- a client made a step, and left where its last call was answered
 pub record StepsInTurn (z : Setting) (script : Script) (w : WorldView) (client : ℕ) (handed : Option ℕ) (now : WorldView) : Type 0 where
@@ -55,4 +55,4 @@ pub record StepsInTurn (z : Setting) (script : Script) (w : WorldView) (client :
   pub later : WorldView
   pub stepped : HasStepped z w client did later
   pub told : handed ≡ handed_by did
-  pub is : now ≡ behind_step script client did later
+  pub is : now ≡ after_step script client did later

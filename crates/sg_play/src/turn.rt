@@ -8,7 +8,7 @@ ghost use Rattle.sg_plain.specs.Playing.Playable.{AreClients};
 ghost use Rattle.sg_plain.specs.Playing.Plays.{IsPlaying};
 ghost use Rattle.sg_play.specs.Turning.{StepsInTurn, with_leaving, with_offer};
 ghost use Rattle.sg_plain.specs.sg_clients.WorldView.{happened, seat_of};
-ghost use Rattle.sg_world.specs.Steps.{WantsMemory};
+ghost use Rattle.sg_world.specs.Steps.{LackedMemory};
 ghost use Rattle.sg_world.specs.Worlded.{setting_of};
 ghost use Rattle.sg_plain.specs.sg_clients.declared.phase.Phase.TheVariants.{Idle};
 ghost use Rattle.sg_plain.specs.Playing.Turns.{is_free_phase};
@@ -63,7 +63,7 @@ pub fn make_step<S: Service, T: Stops>(
     requires setup { is_setting_up script.now world.old.view.seats ≡ true → client ≡ 1 }
     requires playing { (all : List (List ℕ)) × IsPlaying world.old.tables.iface script.now world.old.view.history world.old.view.seats all }
     ensures steps { IfOk result (λ handed. StepsInTurn (setting_of S.ask S.sound S.parts world.old.tables) script.now world.old.view client handed world.new.view) }
-    ensures wants { OnErr result (WantsMemory (setting_of S.ask S.sound S.parts world.old.tables) world.old.view client world.new.view) }
+    ensures wants { OnErr result (LackedMemory (setting_of S.ask S.sound S.parts world.old.tables) world.old.view client world.new.view) }
     ensures ok { (all : List (List ℕ)) → IsPlaying world.old.tables.iface script.now world.old.view.history world.old.view.seats all
         → IfOk result (λ handed. IsPlaying world.old.tables.iface script.now world.new.view.history world.new.view.seats (with_handed all client handed)) }
     ensures err { (all : List (List ℕ)) → IsPlaying world.old.tables.iface script.now world.old.view.history world.old.view.seats all

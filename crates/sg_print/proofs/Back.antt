@@ -21,7 +21,7 @@ use Rattle.sg_parse.specs.sg_lex.Sentences.{ArePieces}
 use Rattle.sg_parse.specs.Grammar.Sentence.{recovery_word, type_pieces, param_pieces, ret_pieces, statement_pieces, tree_pieces, IsStatement}
 use Rattle.sg_parse.specs.Grammar.Inside.Forms.{open_brace, equals, open_bracket, close_bracket, comma, semicolon, star, fact_pieces, last_pieces, form_pieces, more_params, params_pieces, returned_pieces, IsType, IsRet, IsHead, IsWellFormed}
 use Rattle.sg_parse.specs.Grammar.Plain.{plain_name, plain_type, plain_param, plain_ret, plain_statement, plain_facts, plain}
-use Rattle.sg_print.proofs.Heads.{shared_pieces, end_by, behind_brace}
+use Rattle.sg_print.proofs.Heads.{shared_pieces, end_by, after_brace}
 use Rattle.sg_print.proofs.Leads.{AreLike, IsLike}
 
 -- tokens begin with what is like the pieces of a part: they begin with the pieces of an equal part, but for places
@@ -521,8 +521,8 @@ newer_pieces [] (p ∷ ps) l = absurd l
 newer_pieces (t ∷ ts) [] l = absurd l
 newer_pieces (t ∷ ts) (p ∷ ps) l = (l.0, newer_pieces ts ps l.1)
 
-brace_back : (version : Bool) (tree : Tree) (tokens : List Lexeme) → AreLike tokens (behind_brace version tree.facts (flat_map statement_pieces tree.statements))
-    → AgainParts version tree tokens behind_brace
+brace_back : (version : Bool) (tree : Tree) (tokens : List Lexeme) → AreLike tokens (after_brace version tree.facts (flat_map statement_pieces tree.statements))
+    → AgainParts version tree tokens after_brace
 brace_back false tree tokens l =
     let p = parts_back false tree tokens l in
     record { again = p.again; pieces = p.pieces; same = p.same; version_is = p.version_is; eager_is = p.eager_is; each = p.each }
@@ -548,14 +548,14 @@ head_kept one other v e (inr h) = inr (v ∙ h)
 
 pub tree_back : (tree : Tree) (tokens : List Lexeme) → AreLike tokens (tree_pieces tree) → AgainTree tree tokens
 tree_back tree tokens l =
-    let more : List Piece = behind_brace (tree.facts.version == 2) tree.facts (flat_map statement_pieces tree.statements) in
+    let more : List Piece = after_brace (tree.facts.version == 2) tree.facts (flat_map statement_pieces tree.statements) in
     let w = word_back (codes "service_global_info") (equals ∷ open_brace ∷ more) tokens l in
     let q = mark_back 0x3D (open_brace ∷ more) w.behind w.left in
     let o = mark_back 0x7B more q.behind q.left in
     let p = brace_back (tree.facts.version == 2) tree o.behind o.left in
     record {
       again = p.again;
-      pieces = subst (λ n. ArePieces IsPiece tokens (word (codes "service_global_info") ∷ equals ∷ open_brace ∷ behind_brace (n == 2) p.again.facts (flat_map statement_pieces p.again.statements)))
+      pieces = subst (λ n. ArePieces IsPiece tokens (word (codes "service_global_info") ∷ equals ∷ open_brace ∷ after_brace (n == 2) p.again.facts (flat_map statement_pieces p.again.statements)))
           (sym p.version_is) (w.back _ (q.back _ (o.back _ p.pieces)));
       same = p.same;
       kept = λ h. (head_kept p.again.facts tree.facts p.version_is p.eager_is h.0, p.each h.1);

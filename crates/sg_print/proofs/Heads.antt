@@ -15,7 +15,7 @@ end_by version eager more =
     if version then comma ∷ word (codes "desc_recover") ∷ equals ∷ word (recovery_word eager) ∷ last_pieces more else last_pieces more
 
 -- all that follows the brace of the head
-abbrev pub behind_brace : (version : Bool) → Facts → List Piece → List Piece
-behind_brace version f more =
+abbrev pub after_brace : (version : Bool) → Facts → List Piece → List Piece
+after_brace version f more =
     if version then word (codes "version") ∷ equals ∷ two ∷ comma ∷ map newer (shared_pieces f (end_by version f.eager more))
     else shared_pieces f (end_by version f.eager more)

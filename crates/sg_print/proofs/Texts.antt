@@ -20,7 +20,7 @@ use Rattle.sg_parse.specs.Grammar.Inside.Forms.{open_brace, equals, open_bracket
 use Rattle.sg_print.specs.Printed.{type_text, ret_text, statement_text, shared_text, printed, param_text, returned_text}
 use Rattle.sg_print.specs.Inside.Pieces.{names_text, stars_text, type_before_comma, params_text, form_text}
 use Rattle.sg_facts.specs.Words.{line_end as line_feed}
-use Rattle.sg_print.proofs.Heads.{shared_pieces, end_by, behind_brace}
+use Rattle.sg_print.proofs.Heads.{shared_pieces, end_by, after_brace}
 use Rattle.sg_print.proofs.Leads.{Leads, Stops, IsFixed, end_leads, blank_leads, mark_leads, fixed_leads, name_leads, kept_leads, two_leads, newer_leads, AreProper, proper_left, proper_right, proper_newer}
 
 -- ---- types
@@ -249,24 +249,24 @@ head_text version f rest =
     ++ (shared_text f ++ end_text version f.eager rest)))
 
 -- what follows the head is as a text of the version has it
-behind_lead : (version : Bool) (f : Facts) (rest : List ℕ) (more : List Piece) → AreProper false (behind_brace version f more)
+after_lead : (version : Bool) (f : Facts) (rest : List ℕ) (more : List Piece) → AreProper false (after_brace version f more)
     → (AreProper version more → Leads version rest more)
-    → Leads false ((if version then codes "    version = 2," ++ line_feed else []) ++ (shared_text f ++ end_text version f.eager rest)) (behind_brace version f more)
-behind_lead false f rest more h k =
+    → Leads false ((if version then codes "    version = 2," ++ line_feed else []) ++ (shared_text f ++ end_text version f.eager rest)) (after_brace version f more)
+after_lead false f rest more h k =
     let behind = shared_proper false f (end_by false f.eager more) h in
     shared_lead f _ _ h (end_stops false f.eager rest) (end_lead false f.eager rest more (k (end_proper false false f.eager more behind)))
-behind_lead true f rest more h k =
+after_lead true f rest more h k =
     let its = proper_newer (shared_pieces f (end_by true f.eager more)) h.1.1.1.1 in
     let behind = shared_proper true f (end_by true f.eager more) its in
     fact_leads (codes "version") two _ _ ((refl, refl), refl) (two_leads _ _ (comma_line _ _ (newer_leads _ _
     (shared_lead f _ _ its (end_stops true f.eager rest) (end_lead true f.eager rest more (k (end_proper true true f.eager more behind)))))))
 
-head_lead : (version : Bool) (f : Facts) (rest : List ℕ) (more : List Piece) → AreProper false (behind_brace version f more)
+head_lead : (version : Bool) (f : Facts) (rest : List ℕ) (more : List Piece) → AreProper false (after_brace version f more)
     → (AreProper version more → Leads version rest more)
-    → Leads false (head_text version f rest) (word (codes "service_global_info") ∷ equals ∷ open_brace ∷ behind_brace version f more)
+    → Leads false (head_text version f rest) (word (codes "service_global_info") ∷ equals ∷ open_brace ∷ after_brace version f more)
 head_lead version f rest more h k =
     fixed_leads (codes "service_global_info") _ _ ((refl, refl), refl) refl (blank_leads 0x20 _ _ refl (mark_leads 0x3D _ _ refl (blank_leads 0x20 _ _ refl
-    (mark_leads 0x7B _ _ refl (blank_leads 0x0A _ _ refl (behind_lead version f rest more h k))))))
+    (mark_leads 0x7B _ _ refl (blank_leads 0x0A _ _ refl (after_lead version f rest more h k))))))
 
 -- the canonical text of a proper tree leads to its pieces
 pub printed_leads : (tree : Tree) → IsWellFormed tree → AreProper false (tree_pieces tree) → Leads false (printed tree) (tree_pieces tree)

@@ -98,13 +98,13 @@ fn put_pairs(
     ensures { OnOk result (out.new ≡ out.old ++ pair_lines word.now (facts_of shape.now).funs pairs.now) }
 {
     'firsts: for first in 1..END_OF_FUNS {
-        put_pairs_behind(out, word, shape, pairs, first)?;
+        put_pairs_after(out, word, shape, pairs, first)?;
     }
     Ok(())
 }
 
 // Adds the lines of the listed pairs with this first function.
-fn put_pairs_behind(
+fn put_pairs_after(
     out: &mut Bytes,
     word: &[u8],
     shape: &Shape,

@@ -20,9 +20,9 @@ pub behind : (found : Option ℕ) (at : ℕ) → option_map suc found ≡ Some a
 behind None at is = absurd (cc is)
 behind (Some k) at is = (k, refl, cc is)
 
-none_behind : (found : Option ℕ) → option_map suc found ≡ None → found ≡ None
-none_behind None is = refl
-none_behind (Some k) is = absurd (cc is)
+none_later : (found : Option ℕ) → option_map suc found ≡ None → found ≡ None
+none_later None is = refl
+none_later (Some k) is = absurd (cc is)
 
 -- whether the first file has a path decides its place
 pub first_place : (files : List (List ℕ × List ℕ)) (f : List ℕ × List ℕ) (path : List ℕ) → bytes_eq f.0 path ≡ false → place_at (f ∷ files) path ≡ option_map suc (place_at files path)
@@ -47,7 +47,7 @@ none_there [] path none = refl
 none_there (f ∷ files) path none = elim (told f.0 path) [
   | inl same ↦ absurd (let some : Some 0 ≡ None = sym (ap (λ b. cond b (Some 0) (option_map suc (place_at files path))) same.0) ∙ none in cc some)
   | inr apart ↦
-      none_there files path (none_behind (place_at files path) (sym (first_place files f path apart.0) ∙ none))
+      none_there files path (none_later (place_at files path) (sym (first_place files f path apart.0) ∙ none))
       ∙ ap (λ b. cond b f.1 (file_at files path)) (sym apart.0)
 ]
 
@@ -57,7 +57,7 @@ set_new [] path bytes none = refl
 set_new (f ∷ files) path bytes none = elim (told f.0 path) [
   | inl same ↦ absurd (let some : Some 0 ≡ None = sym (ap (λ b. cond b (Some 0) (option_map suc (place_at files path))) same.0) ∙ none in cc some)
   | inr apart ↦
-      ap (λ l. f ∷ l) (set_new files path bytes (none_behind (place_at files path) (sym (first_place files f path apart.0) ∙ none)))
+      ap (λ l. f ∷ l) (set_new files path bytes (none_later (place_at files path) (sym (first_place files f path apart.0) ∙ none)))
       ∙ ap (λ b. cond b ((path, bytes) ∷ files) (f ∷ set_file files path bytes)) (sym apart.0)
 ]
 
@@ -68,7 +68,7 @@ place_new [] new bytes path none = refl
 place_new (f ∷ files) new bytes path none = elim (told f.0 new) [
   | inl same ↦ absurd (let some : Some 0 ≡ None = sym (ap (λ b. cond b (Some 0) (option_map suc (place_at files new))) same.0) ∙ none in cc some)
   | inr apart ↦
-      ap (λ x. cond (bytes_eq f.0 path) (Some 0) (option_map suc x)) (place_new files new bytes path (none_behind (place_at files new) (sym (first_place files f new apart.0) ∙ none)))
+      ap (λ x. cond (bytes_eq f.0 path) (Some 0) (option_map suc x)) (place_new files new bytes path (none_later (place_at files new) (sym (first_place files f new apart.0) ∙ none)))
       ∙ at (bytes_eq f.0 path) (bytes_eq new path) refl refl apart.1
 ]
   where

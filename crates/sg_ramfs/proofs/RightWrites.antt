@@ -79,11 +79,11 @@ module _ (held : Held OpenFile) (files : List (List ℕ × List ℕ)) (client se
     asked : ramfs_table o call ≡ Some (Ok good)
     asked =
         ap (λ row. write_answer old (place_of twrite row) (first_text args)) (file_row held desc f there) ∙ ap (write_answer old f.place) its
-        ∙ ap (λ b. cond b (Some (Refused Gap)) (cond (nat_lt most_file (f.place + length bytes)) (Some (Refused TooBig)) (moved_by (length bytes) []))) not_behind
+        ∙ ap (λ b. cond b (Some (Refused Gap)) (cond (nat_lt most_file (f.place + length bytes)) (Some (Refused TooBig)) (moved_by (length bytes) []))) not_after
         ∙ ap (λ b. cond b (Some (Refused TooBig)) (moved_by (length bytes) [])) not_big
       where
-        not_behind : nat_lt (length old) f.place ≡ false
-        not_behind = grind (arith, nat_tests, begins)
+        not_after : nat_lt (length old) f.place ≡ false
+        not_after = grind (arith, nat_tests, begins)
 
         not_big : nat_lt most_file (f.place + length bytes) ≡ false
         not_big = grind (arith, nat_tests, ends)
@@ -143,14 +143,14 @@ module _ (held : Held OpenFile) (files : List (List ℕ × List ℕ)) (client se
 
       answer : (behind big : Bool) → nat_lt (length old) f.place ≡ behind → nat_lt most_file (f.place + length bytes) ≡ big
           → ramfs_table o call ≡ cond behind (Some (Refused Gap)) (cond big (Some (Refused TooBig)) (moved_by (length bytes) []))
-      answer behind big behind_is big_is =
+      answer behind big after_is big_is =
           ap (λ row. write_answer old (place_of twrite row) bytes) (file_row held desc f there)
-          ∙ ap (λ b. cond b (Some (Refused Gap)) (cond (nat_lt most_file (f.place + length bytes)) (Some (Refused TooBig)) (moved_by (length bytes) []))) behind_is
+          ∙ ap (λ b. cond b (Some (Refused Gap)) (cond (nat_lt most_file (f.place + length bytes)) (Some (Refused TooBig)) (moved_by (length bytes) []))) after_is
           ∙ ap (λ b. cond behind (Some (Refused Gap)) (cond b (Some (Refused TooBig)) (moved_by (length bytes) []))) big_is
 
       at : (behind big : Bool) → nat_lt (length old) f.place ≡ behind → nat_lt most_file (f.place + length bytes) ≡ big
           → WritesFile held files desc (cond behind (RefuseWrite Gap) (cond big (RefuseWrite TooBig) (put_at its_path f bytes))) points outcome new files' later → DoesIt outcome new files' later
-      at true big behind_is big_is written = refused Gap (answer true big behind_is big_is) outcome new files' later written
-      at false true behind_is big_is written = refused TooBig (answer false true behind_is big_is) outcome new files' later written
-      at false false behind_is big_is written =
-          puts bytes refl few (grind (arith, nat_tests, behind_is)) (grind (arith, nat_tests, big_is)) outcome new files' later bytes refl written
+      at true big after_is big_is written = refused Gap (answer true big after_is big_is) outcome new files' later written
+      at false true after_is big_is written = refused TooBig (answer false true after_is big_is) outcome new files' later written
+      at false false after_is big_is written =
+          puts bytes refl few (grind (arith, nat_tests, after_is)) (grind (arith, nat_tests, big_is)) outcome new files' later bytes refl written

@@ -23,9 +23,9 @@ pub own_item : (older : List Item) (b : Boot) (boots : List Boot) (item : Item) 
 own_item older b [] item = refl
 own_item older b (c ∷ boots) item = own_item (older ++ b.items) c boots item
 
-pub no_behind : (older : List Item) (b : Boot) (boots : List Boot) (item : Item) → items_after (place_after older (b ∷ boots) item) ≡ []
-no_behind older b [] item = refl
-no_behind older b (c ∷ boots) item = no_behind (older ++ b.items) c boots item
+pub no_after : (older : List Item) (b : Boot) (boots : List Boot) (item : Item) → items_after (place_after older (b ∷ boots) item) ≡ []
+no_after older b [] item = refl
+no_after older b (c ∷ boots) item = no_after (older ++ b.items) c boots item
 
 -- what holds of each place, grown, and of the last, holds of all places
 carried : (item : Item) (P Q : Position → Type 0) (ps qs : List Position) → ((p q : Position) → IsGrown item p q → P p → Q q) → AreGrown item ps qs → Each P ps → Each Q qs

@@ -1,5 +1,5 @@
 -- That a run's last item has what it owes.
-pub mod Behind
+pub mod Later
 pub mod Making
 pub mod Noting
 pub mod Reached

@@ -10,6 +10,7 @@ pub mod Points
 pub mod Same
 pub mod Served
 pub mod Stays
+pub mod StoppedAfter
 pub mod UnderWay
 pub use Rattle.sg_hist.proofs as sg_hist
 pub use Rattle.sg_track.proofs as sg_track

@@ -12,7 +12,7 @@ use Rattle.sg_facts.specs.declared.trace.Tag.{Tag}
 use Rattle.sg_facts.specs.declared.trace.Tag.TheVariants.{Walk, Load, Client}
 use Rattle.sg_facts.specs.Facts.{Facts, is_visible}
 use Rattle.sg_facts.specs.Trace.{Boot, Run}
-use Rattle.sg_recovery_laws.proofs.Events.{no_behind, own_item, reboots_noted, stopped_booted, stopped_struck, with_last}
+use Rattle.sg_recovery_laws.proofs.Events.{no_after, own_item, reboots_noted, stopped_booted, stopped_struck, with_last}
 use Rattle.sg_recovery_laws.proofs.Given.{IsGiven, committed_given, each_front, given_same, names_same, refused_same}
 use Rattle.sg_hist.proofs.Growing.{past_all, places-booted, places-more, places-struck}
 use Rattle.sg_recovery_laws.proofs.Lists.{each_both, each_map, each_push}
@@ -52,7 +52,7 @@ noted_stays s h b boots points later u u' item none hidden kept next r =
     let old : Run = record { boots = b ∷ boots; points = points } in
     let new : Run = record { boots = noted (b ∷ boots) item; points = later } in
     let same : (p q : Position) → IsGrown item p q → IsSame s.interface.facts s.walks h u h u' p q.rest q.newer
-    = λ p q g. same_noted s.interface.facts s.walks h u u' item p q.rest q.newer none g.behind_it kept in
+    = λ p q g. same_noted s.interface.facts s.walks h u u' item p q.rest q.newer none g.after_it kept in
     record {
       reboots = reboots_noted s.interface.facts s.ask b boots points later item next.running next.table r.reboots;
       served = record {
@@ -130,7 +130,7 @@ come_last facts h b boots points item (e ∷ es) none has =
 
     none_at : is_item_of e last_of.item || list_any (is_item_of e) (items_after last_of) ≡ false
     none_at = ap (λ i. is_item_of e i || list_any (is_item_of e) (items_after last_of)) (own_item [] b boots item)
-        ∙ ap (λ v. is_item_of e item || list_any (is_item_of e) v) (no_behind [] b boots item) ∙ ap (λ v. v || false) none.0
+        ∙ ap (λ v. is_item_of e item || list_any (is_item_of e) v) (no_after [] b boots item) ∙ ap (λ v. v || false) none.0
 
     by : (g : Bool) → When (not g) (GivesEntry facts h e (item_of (record { boots = b ∷ boots; points = points }) e))
         → g || (not g && list_any (is_item_of e) (past last_of) && not (is_item_of e last_of.item || list_any (is_item_of e) (items_after last_of))) ≡ true
@@ -157,7 +157,7 @@ committed_stays s h b boots points later u u' item e none of_it last_call kept n
     let given : Each (λ p. IsGiven s.interface.facts h p.item) before = each_map (IsCommitted s.interface.facts h) (λ p. IsGiven s.interface.facts h p.item) before (committed_given s.interface.facts h) r.served.committed in
     let fronts : Each (λ p. Each (IsGiven s.interface.facts h) p.front) before = each_front (IsGiven s.interface.facts h) [] (b ∷ boots) given in
     let same : (p q : Position) → IsGrown item p q → Each (IsGiven s.interface.facts h) p.front → IsSame s.interface.facts s.walks h u h' u' p q.rest q.newer
-    = λ p q g ids. same_committed s.interface.facts s.walks h u u' e item p q.rest q.newer none tagged g.behind_it kept last_call ids in
+    = λ p q g ids. same_committed s.interface.facts s.walks h u u' e item p q.rest q.newer none tagged g.after_it kept last_call ids in
     let its : item_of new e ≡ Some last = item_of-own item e last old new more own tagged in
     record {
       reboots = reboots_noted s.interface.facts s.ask b boots points later item next.running next.table r.reboots;
@@ -170,7 +170,7 @@ committed_stays s h b boots points later u u' item e none of_it last_call kept n
             (each_both (λ p. Each (IsGiven s.interface.facts h) p.front) (λ p. IsGiven s.interface.facts h p.item) before fronts given)) r.served.items)
             (subst (λ v. When (not v) (GivesEntry s.interface.facts h' e (item_of new e))) (sym of_it.served) (subst (GivesEntry s.interface.facts h' e) (sym its) (of_it.shown, of_it.reply)));
         committed = with_last item last (IsCommitted s.interface.facts h) (IsCommitted s.interface.facts h') before now more
-            (λ p q g c. committed_stay s.interface.facts item h (e ∷ []) p q g none c) (last_entered last of_it.tagged (no_behind [] b boots item)) r.served.committed;
+            (λ p q g c. committed_stay s.interface.facts item h (e ∷ []) p q g none c) (last_entered last of_it.tagged (no_after [] b boots item)) r.served.committed;
         order = order_push s.interface.facts new [] h e (order_stays s.interface.facts item last old new [] h more own tt none r.served.order)
             (always (is_visible s.interface.facts e.call.fun && not (is_by_guard e.reply)) (subst (ComeBefore h) (sym its) (come_last s.interface.facts h b boots points item h none r.served.items)));
       };
@@ -260,7 +260,7 @@ given_named facts h e p both = names_same facts h (h ++ e ∷ []) (p.front ++ p.
 
 pub held_stays : (s : Stubs) (h : List Entry) (run : Run) (u u' : List Call) (e : Entry) → IsHeldReply s.interface.facts h run e → IsLastCall h u e.call → AreKept h u (h ++ e ∷ []) u'
     → Each (λ p. stands_before p e ≡ true → IsSettled s (h ++ e ∷ []) u' p) (places_of run) → IsRecovering s h run u → IsRecovering s (h ++ e ∷ []) run u'
-held_stays s h run u u' e held last kept behind_it r =
+held_stays s h run u u' e held last kept after_it r =
     let h' : List Entry = h ++ e ∷ [] in
     let ps : List Position = places_of run in
     let given : Each (λ p. IsGiven s.interface.facts h p.item) ps = each_map (IsCommitted s.interface.facts h) (λ p. IsGiven s.interface.facts h p.item) ps (committed_given s.interface.facts h) r.served.committed in
@@ -270,7 +270,7 @@ held_stays s h run u u' e held last kept behind_it r =
     let before : Each (λ p. IsSettled s h u p) ps = settled_each ps r.walks r.on_demand r.tracked_state in
     let now : Each (λ p. IsSettled s h' u' p) ps = each_map
     (λ p. (stands_before p e ≡ true → IsSettled s h' u' p) × (Each (IsGiven s.interface.facts h) p.front × IsSettled s h u p)) (λ p. IsSettled s h' u' p) ps settled
-    (each_both (λ p. stands_before p e ≡ true → IsSettled s h' u' p) (λ p. Each (IsGiven s.interface.facts h) p.front × IsSettled s h u p) ps behind_it
+    (each_both (λ p. stands_before p e ≡ true → IsSettled s h' u' p) (λ p. Each (IsGiven s.interface.facts h) p.front × IsSettled s h u p) ps after_it
     (each_both (λ p. Each (IsGiven s.interface.facts h) p.front) (λ p. IsSettled s h u p) ps fronts before)) in
     record {
       reboots = r.reboots;

@@ -143,12 +143,12 @@ has_same facts h h' run named e has =
 -- ---- visible replies have their entries
 
 -- no item more is of an entry that has another
-behind_more : (item : Item) (p q : Position) (e : Entry) → IsGrown item p q → is_item_of e item ≡ false
+after_more : (item : Item) (p q : Position) (e : Entry) → IsGrown item p q → is_item_of e item ≡ false
     → (not (is_by_guard e.reply) && is_item_of e q.item && not (list_any (is_item_of e) (items_after q)))
     ≡ (not (is_by_guard e.reply) && is_item_of e p.item && not (list_any (is_item_of e) (items_after p)))
-behind_more item p q e g none =
+after_more item p q e g none =
     let later : list_any (is_item_of e) (items_after q) ≡ list_any (is_item_of e) (items_after p)
-    = ap (list_any (is_item_of e)) g.behind_it ∙ list_any-append (is_item_of e) (items_after p) (item ∷ []) ∙ ap (λ b. list_any (is_item_of e) (items_after p) || (b || false)) none
+    = ap (list_any (is_item_of e)) g.after_it ∙ list_any-append (is_item_of e) (items_after p) (item ∷ []) ∙ ap (λ b. list_any (is_item_of e) (items_after p) || (b || false)) none
     ∙ or_none (list_any (is_item_of e) (items_after p)) in
     ap (λ i. not (is_by_guard e.reply) && is_item_of e i && not (list_any (is_item_of e) (items_after q))) g.own
     ∙ ap (λ b. not (is_by_guard e.reply) && is_item_of e p.item && not b) later
@@ -160,7 +160,7 @@ behind_more item p q e g none =
 pub entered_more : (item : Item) (p q : Position) (h : List Entry) → IsGrown item p q → IsOfNoEntry item h → is_entered h q ≡ is_entered h p
 entered_more item p q [] g none = refl
 entered_more item p q (e ∷ h) g none =
-    ap (λ b. b || is_entered h q) (behind_more item p q e g none.0)
+    ap (λ b. b || is_entered h q) (after_more item p q e g none.0)
     ∙ ap (λ b. (not (is_by_guard e.reply) && is_item_of e p.item && not (list_any (is_item_of e) (items_after p))) || b) (entered_more item p q h g none.1)
 
 -- what was entered is so with entries more

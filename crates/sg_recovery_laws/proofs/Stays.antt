@@ -125,7 +125,7 @@ under_more facts h e u u' q stands last kept client call w = record {
 pub same_noted : (facts : Facts) (walks : List WalkLine) (h : List Entry) (u u' : List Call) (item : Item) (p : Position) (r n : List Item)
     → IsOfNoEntry item h → r ++ n ≡ items_after p ++ item ∷ [] → AreKept h u h u' → IsSame facts walks h u h u' p r n
 same_noted facts walks h u u' item p r n none more kept =
-    let g : IsGrown item p (again p r n) = record { older = refl; front = refl; own = refl; behind_it = more } in
+    let g : IsGrown item p (again p r n) = record { older = refl; front = refl; own = refl; after_it = more } in
     record {
       object = ap (object_of facts) (entries_before-more item p (again p r n) h g none);
       names = refl;
@@ -139,7 +139,7 @@ pub same_committed : (facts : Facts) (walks : List WalkLine) (h : List Entry) (u
     → IsLastCall h u e.call
     → Each (IsGiven facts h) p.front → IsSame facts walks h u (h ++ e ∷ []) u' p r n
 same_committed facts walks h u u' e item p r n none own more kept last given =
-    let g : IsGrown item p (again p r n) = record { older = refl; front = refl; own = refl; behind_it = more } in
+    let g : IsGrown item p (again p r n) = record { older = refl; front = refl; own = refl; after_it = more } in
     let ids : Each (IsSameId facts h (h ++ e ∷ [])) p.front = each_map (IsGiven facts h) (IsSameId facts h (h ++ e ∷ [])) p.front (given_same facts h e) given in
     record {
       object = ap (object_of facts) (entries_before-committed item p (again p r n) h e g none own);
@@ -225,13 +225,13 @@ rebuilt_earlier facts walks h e id older done (x ∷ items) newer is =
 pub same_held : (facts : Facts) (walks : List WalkLine) (h : List Entry) (u u' : List Call) (e : Entry) (p : Position)
     → stands_before p e ≡ false → AreKept h u (h ++ e ∷ []) u' → IsLastCall h u e.call
     → Each (IsGiven facts h) p.front → IsSame facts walks h u (h ++ e ∷ []) u' p p.rest p.newer
-same_held facts walks h u u' e p behind_it kept last given =
+same_held facts walks h u u' e p after_it kept last given =
     let ids : Each (IsSameId facts h (h ++ e ∷ [])) p.front = each_map (IsGiven facts h) (IsSameId facts h (h ++ e ∷ [])) p.front (given_same facts h e) given in
     record {
-      object = ap (object_of facts) (entries_before-not_yet p h e behind_it);
+      object = ap (object_of facts) (entries_before-not_yet p h e after_it);
       names = names_same facts h (h ++ e ∷ []) p.front ids;
       made = λ id. made_same facts h (h ++ e ∷ []) id p.front ids;
       whole = λ id. ap (λ b. b || list_any (is_rebuilt_at facts walks (h ++ e ∷ []) id) (places_in p.older [] p.front (p.item ∷ items_after p))) (made_same facts h (h ++ e ∷ []) id p.front ids)
-          ∙ ap (λ b. list_any (is_made facts h id) p.front || b) (rebuilt_earlier facts walks h e id p.older [] p.front (p.item ∷ items_after p) behind_it);
-      under_way = under_more facts h e u u' p behind_it last kept;
+          ∙ ap (λ b. list_any (is_made facts h id) p.front || b) (rebuilt_earlier facts walks h e id p.older [] p.front (p.item ∷ items_after p) after_it);
+      under_way = under_more facts h e u u' p after_it last kept;
     }

@@ -1,5 +1,5 @@
 // What stays as it is where a run grows: an entry more, an item more, a stop, a boot.
-ghost use Rattle.std.specs.Prelude.{◌≡◌, ◌⊎◌, ◌+◌, ◌++◌, ◌∷◌, [], ℕ, Bool, List, None, Some, IsSome, false, true};
+ghost use Rattle.std.specs.Prelude.{◌≡◌, ◌≤◌, ◌⊎◌, ◌+◌, ◌++◌, ◌∷◌, [], ℕ, Bool, List, None, Some, IsSome, false, true};
 ghost use Rattle.sg_facts.specs.sg_base.Lists.{Each};
 ghost use Rattle.sg_facts.specs.sg_base.Stops.{asked_after};
 ghost use Rattle.sg_facts.specs.sg_base.declared.call.Call.{Call};
@@ -14,7 +14,7 @@ ghost use Rattle.sg_hist.specs.Growing.{AreKept, HasOneMore, IsGrown, IsHeldRepl
 ghost use Rattle.sg_hist.specs.Reading.{Position, is_by_guard, is_item_of, last_items, names_at, places_from, places_of, stands_before, value_at};
 ghost use Rattle.sg_hist.specs.Inside.Reads.{after_item, entries_before, names_in};
 ghost use Rattle.sg_hist.specs.Recovered.{AreInBoots, ArePointsOf, IsCount, Stubs, asked_with_commit, ends_committed, is_visible_reply};
-ghost use Rattle.sg_hist.specs.Inside.Parts.{IsPointOf, answer_to, is_stopped};
+ghost use Rattle.sg_hist.specs.Inside.Parts.{IsCommitted, IsPointOf, answer_to, is_stopped};
 
 /// A legal history stays so with an entry that is the answer after it.
 pub fn legal_stays()
@@ -112,19 +112,32 @@ pub fn points_go_on()
         → ArePointsOf exact facts ask parts asked boots points → ArePointsOf exact facts ask parts asked boots later }
 {}
 
-/// Along the history the boots of the entries' items never go back: where an entry is appended whose item stands in the last boot,
-/// or a refusal by the guard; where an item is noted that is of no entry; where the service stops, and is booted again. The item that
-/// is noted last stands in the last boot, and one that stood there goes on to do so until the next boot.
+/// Along the history the boots of the entries' items never go back: where an entry is appended whose item stands in the last boot, which
+/// goes on, or a refusal by the guard; where an item is noted that is of no entry; where points more are counted, and where the
+/// service is booted again. They don't where it stops either: as it is about to be used; within an item that is of no entry; or right after the commit of an entry, which
+/// is the last then whose item is in its boot. The item that is noted last stands in the last boot, and one that stood there goes on to
+/// do so until the next boot.
 pub fn held_stay_in_boots()
-    ensures appended { (run : Run) (h : List Entry) (e : Entry) → is_by_guard e.reply ≡ false → IsInLast run e → AreInBoots run 0 h
-        → AreInBoots run 0 (h ++ e ∷ []) }
-    ensures refused { (run : Run) (h : List Entry) (e : Entry) → is_by_guard e.reply ≡ true → AreInBoots run 0 h → AreInBoots run 0 (h ++ e ∷ []) }
-    ensures noted { (b : Boot) (boots : List Boot) (points later : ℕ) (item : Item) (h : List Entry) → IsOfNoEntry item h
-        → AreInBoots (record { boots = b ∷ boots; points = points }) 0 h → AreInBoots (record { boots = noted (b ∷ boots) item; points = later }) 0 h }
-    ensures stopped { (boots : List Boot) (points later stop : ℕ) (h : List Entry) → AreInBoots (record { boots = boots; points = points }) 0 h
-        → AreInBoots (record { boots = struck boots stop; points = later }) 0 h }
-    ensures again { (boots : List Boot) (points later : ℕ) (h : List Entry) → AreInBoots (record { boots = boots; points = points }) 0 h
-        → AreInBoots (record { boots = booted boots; points = later }) 0 h }
+    ensures appended { (facts : Facts) (run : Run) (entries h : List Entry) (e : Entry) → last_stop run.boots ≡ None → Each (IsCommitted facts entries) (places_of run)
+        → is_by_guard e.reply ≡ false → IsInLast run e → AreInBoots facts run 0 h → AreInBoots facts run 0 (h ++ e ∷ []) }
+    ensures refused { (facts : Facts) (run : Run) (h : List Entry) (e : Entry) → is_by_guard e.reply ≡ true → AreInBoots facts run 0 h → AreInBoots facts run 0 (h ++ e ∷ []) }
+    ensures noted { (facts : Facts) (b : Boot) (boots : List Boot) (points later : ℕ) (item : Item) (h : List Entry) → last_stop (b ∷ boots) ≡ None → IsOfNoEntry item h
+        → AreInBoots facts (record { boots = b ∷ boots; points = points }) 0 h → AreInBoots facts (record { boots = noted (b ∷ boots) item; points = later }) 0 h }
+    ensures between { (facts : Facts) (asked : ℕ) (boots : List Boot) (points later stop : ℕ) (h : List Entry) → last_stop boots ≡ None
+        → asked_after (asked_over facts asked boots) 1 ≤ stop
+        → AreInBoots facts (record { boots = boots; points = points }) 0 h → AreInBoots facts (record { boots = struck boots stop; points = later }) 0 h }
+    ensures within { (facts : Facts) (b : Boot) (boots : List Boot) (points later stop : ℕ) (item : Item) (h : List Entry) → last_stop (b ∷ boots) ≡ None
+        → IsOfNoEntry item h
+        → AreInBoots facts (record { boots = b ∷ boots; points = points }) 0 h → AreInBoots facts (record { boots = struck (noted (b ∷ boots) item) stop; points = later }) 0 h }
+    ensures behind { (facts : Facts) (b : Boot) (boots : List Boot) (points later stop : ℕ) (item : Item) (entries h : List Entry) (e : Entry) → last_stop (b ∷ boots) ≡ None
+        → IsOfNoEntry item h → is_item_of e item ≡ true → is_by_guard e.reply ≡ false
+        → Each (IsCommitted facts entries) (places_of (record { boots = struck (noted (b ∷ boots) item) stop; points = later }))
+        → AreInBoots facts (record { boots = b ∷ boots; points = points }) 0 h
+        → AreInBoots facts (record { boots = struck (noted (b ∷ boots) item) stop; points = later }) 0 (h ++ e ∷ []) }
+    ensures counted { (facts : Facts) (boots : List Boot) (points later : ℕ) (h : List Entry) → AreInBoots facts (record { boots = boots; points = points }) 0 h
+        → AreInBoots facts (record { boots = boots; points = later }) 0 h }
+    ensures again { (facts : Facts) (boots : List Boot) (points later : ℕ) (h : List Entry) → AreInBoots facts (record { boots = boots; points = points }) 0 h
+        → AreInBoots facts (record { boots = booted boots; points = later }) 0 h }
     ensures own { (b : Boot) (boots : List Boot) (points later : ℕ) (item : Item) (e : Entry) → is_item_of e item ≡ true
         → IsInLast (record { boots = noted (b ∷ boots) item; points = later }) e }
     ensures still { (b : Boot) (boots : List Boot) (points later : ℕ) (item : Item) (e : Entry) → is_item_of e item ≡ false

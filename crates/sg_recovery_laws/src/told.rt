@@ -36,7 +36,7 @@ ghost use Rattle.sg_recovery_laws.specs.Midway.Stepping.{told_after};
 ghost use Rattle.sg_recovery_laws.specs.LastItem.Asked.{IsComeTo};
 ghost use Rattle.sg_hist.specs.Clients.{IsClientsCall};
 ghost use Rattle.sg_recovery_laws.specs.LastItem.LastPlace.{HaveItems, last_place};
-ghost use Rattle.sg_recovery_laws.specs.LastItem.Told.{IsKnown, IsRead, whole_behind};
+ghost use Rattle.sg_recovery_laws.specs.LastItem.Told.{IsKnown, IsRead, whole_after};
 
 use sg_facts::Service;
 
@@ -46,7 +46,7 @@ pub fn last_place()
     ensures object { (facts : Facts) (older front : List Item) (item : Item) (history : List Entry) → IsOfNoEntry item history → HaveItems (older ++ front) history
         → object_before facts history (last_place older front item) ≡ object_of facts history }
     ensures whole { (facts : Facts) (walks : List WalkLine) (older front : List Item) (item : Item) (history : List Entry) (id : ℕ) → IsOfNoEntry item history
-        → is_whole_at facts walks history (last_place older front item) id ≡ whole_behind facts walks history older front id }
+        → is_whole_at facts walks history (last_place older front item) id ≡ whole_after facts walks history older front id }
     ensures noted { (b : Boot) (boots : List Boot) (item : Item)
         → place_after [] (b ∷ boots) item ≡ last_place (older_items [] (b ∷ boots)) (last_items (b ∷ boots)) item }
 {}

@@ -2,7 +2,6 @@
 use Rattle.std.specs.Prelude.{ℕ, ◌+◌, ◌==◌, Bool, true, false, ◌&&◌, ◌||◌, if◌then◌else◌, List, [], ◌∷◌, ◌++◌, None, Some, length, filter, min, codes}
 use Rattle.std.specs.Fmt.{decimal}
 use Rattle.std.specs.List.{flat_map}
-use Rattle.std.specs.Str.{bytes_eq}
 use Rattle.sg_facts.specs.sg_base.Counts.{last_count}
 use Rattle.sg_facts.specs.sg_base.declared.call.Call.{Call}
 use Rattle.sg_facts.specs.sg_base.declared.reply.Reply.{Reply}
@@ -16,7 +15,7 @@ use Rattle.sg_facts.specs.declared.outcome.Outcome.TheVariants.{Replied, Blocks,
 use Rattle.sg_facts.specs.declared.trace.Item.{Item}
 use Rattle.sg_facts.specs.declared.trace.Tag.{Tag}
 use Rattle.sg_facts.specs.declared.trace.Tag.TheVariants.{Walk, Load, Client}
-use Rattle.sg_facts.specs.Facts.{Facts, Fun, fun_at, takes_desc, takes_parent}
+use Rattle.sg_facts.specs.Facts.{Facts, Fun, fun_at, shows_bytes, takes_desc, takes_parent}
 use Rattle.sg_facts.specs.Trace.{Boot, Run, run_of}
 use Rattle.sg_facts.specs.sg_base.Codes.{code_name}
 use Rattle.sg_hist.specs.declared.ended.End.{End}
@@ -45,13 +44,13 @@ abbrev pub call_text : Facts → Call → List ℕ
 call_text facts call =
     (fun_at facts.funs call.fun).name ++ codes "(" ++ listed (if takes_id facts call.fun then Word call.desc ∷ call.args else call.args) ++ codes ")"
 
--- a reply to a function: of an Ok its descriptor, where it has one, its words, and its bytes, which the function that reads a file shows
+-- a reply to a function: of an Ok its descriptor, where it has one, its words, and its bytes, where the function shows them
 abbrev pub reply_text : Fun → Reply → List ℕ
 reply_text f (Refused code) = codes "refused " ++ code_name code
 reply_text f (Ok good) =
     codes "ok" ++ (if good.desc == 0 then [] else codes " #" ++ decimal good.desc)
     ++ flat_map (λ word. codes " " ++ decimal word) good.words
-    ++ (if bytes_eq f.name (codes "tread") then codes " " ++ value_text (Text good.bytes) else [])
+    ++ (if shows_bytes f then codes " " ++ value_text (Text good.bytes) else [])
 
 -- the line of an entry
 abbrev pub entry_line : Facts → Entry → List ℕ

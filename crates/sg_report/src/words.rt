@@ -2,7 +2,6 @@
 ghost use Rattle.std.specs.Prelude.{◌≡◌, ◌++◌, ◌==◌, if◌then◌else◌, [], ◌∷◌, OnOk, codes, map};
 ghost use Rattle.std.specs.Fmt.{decimal};
 ghost use Rattle.std.specs.List.{flat_map};
-ghost use Rattle.std.specs.Str.{bytes_eq};
 ghost use Rattle.sg_facts.specs.sg_base.declared.value.Value.TheVariants.{Word as IsWord};
 ghost use Rattle.sg_facts.specs.sg_base.Lent.{args_in, call_in, good_in, reply_in};
 ghost use Rattle.sg_facts.specs.Facts.{fun_at, fun_of_shape};
@@ -143,7 +142,7 @@ fn push_good(out: &mut Bytes, fun: &FunShape, good: &LentGood) -> Result<(), NoM
         push_number(out, good.desc)?;
     }
     push_words(out, good.words)?;
-    if fun.name == b"tread".as_slice() {
+    if fun.shows_bytes() {
         out.extend_from_slice(b" ")?;
         push_quoted(out, good.bytes)?;
     }

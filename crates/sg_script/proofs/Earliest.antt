@@ -7,7 +7,7 @@ use Rattle.std.proofs.lemmas.Bool.Decides.{leb_tells, nat_tests}
 use Rattle.sg_script.specs.declared.fault.ScriptFault.{ScriptFault}
 use Rattle.sg_script.specs.declared.fault.ScriptKind.{ScriptKind}
 use Rattle.sg_script.specs.declared.fault.ScriptKind.TheVariants.{Syntax, UnknownFunction, UnknownService, BadArgs, BadClient, Twice, NotAscending, Blocking, Limit}
-use Rattle.sg_script.specs.Inside.Firsts.{first_behind, is_not_after}
+use Rattle.sg_script.specs.Inside.Firsts.{first_after, is_not_after}
 use Rattle.sg_script.specs.Flaws.{IsFirstFlaw, script_kind_rank}
 
 -- ---- the order
@@ -109,7 +109,7 @@ gives_way f x xs g le one = record {
   ];
 }
 
-kept_is_first : (f : ScriptFault) (xs : List ScriptFault) → (g : ScriptFault) × (first_behind (Some f) xs ≡ Some g) × IsFirstFlaw (f ∷ xs) g
+kept_is_first : (f : ScriptFault) (xs : List ScriptFault) → (g : ScriptFault) × (first_after (Some f) xs ≡ Some g) × IsFirstFlaw (f ∷ xs) g
 kept_is_first f [] = (
   f,
   refl,
@@ -124,17 +124,17 @@ kept_is_first f [] = (
 kept_is_first f (x ∷ xs) = elim (one_first f x) [
   | inl le ↦
       let more = kept_is_first f xs in
-      (more.0, ap (λ b. first_behind (Some (if b then f else x)) xs) le.0 ∙ more.1, passes f x xs more.0 le.1 more.2)
+      (more.0, ap (λ b. first_after (Some (if b then f else x)) xs) le.0 ∙ more.1, passes f x xs more.0 le.1 more.2)
   | inr ge ↦
       let more = kept_is_first x xs in
-      (more.0, ap (λ b. first_behind (Some (if b then f else x)) xs) ge.0 ∙ more.1, gives_way f x xs more.0 ge.1 more.2)
+      (more.0, ap (λ b. first_after (Some (if b then f else x)) xs) ge.0 ∙ more.1, gives_way f x xs more.0 ge.1 more.2)
 ]
 
 abbrev no_flaw : List ScriptFault
 no_flaw = []
 
 -- what is kept of flaws is the first of them
-pub judged : (first : Option ScriptFault) (flaws : List ScriptFault) → first ≡ first_behind None flaws → MatchOption first (flaws ≡ []) (IsFirstFlaw flaws)
+pub judged : (first : Option ScriptFault) (flaws : List ScriptFault) → first ≡ first_after None flaws → MatchOption first (flaws ≡ []) (IsFirstFlaw flaws)
 judged first [] is = subst (λ o. MatchOption o (no_flaw ≡ no_flaw) (IsFirstFlaw no_flaw)) (sym is) refl
 judged first (x ∷ xs) is =
     let kept = kept_is_first x xs in

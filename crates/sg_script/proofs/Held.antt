@@ -19,7 +19,7 @@ use Rattle.sg_script.specs.declared.fault.ScriptKind.{ScriptKind}
 use Rattle.sg_script.specs.declared.fault.ScriptKind.TheVariants.{BadClient, Limit}
 use Rattle.sg_script.specs.Numbers.{counts_as, is_text}
 use Rattle.sg_script.specs.Scripts.{calls_of_setup, function_named}
-use Rattle.sg_script.specs.Flaws.{written_arg_fits, written_args_fit, call_flaws, calls_before, calls_flaws, calls_in, client_flaws, script_flaw_if, flaws_behind, flaws_of, part_flaws}
+use Rattle.sg_script.specs.Flaws.{written_arg_fits, written_args_fit, call_flaws, calls_before, calls_flaws, calls_in, client_flaws, script_flaw_if, flaws_after, flaws_of, part_flaws}
 use Rattle.sg_script.specs.Inside.Parts.{arg_flaws, fun_flaws, inner_flaws}
 use Rattle.sg_script.proofs.Parts.{by_part}
 use Rattle.sg_script.specs.Inside.Held.{is_client_number, is_held, is_held_arg, is_held_call}
@@ -116,15 +116,15 @@ counted front p =
     ∙ length-append (flat_map calls_in front) (calls_in p)
 
 -- what is wrong within the next part, and after it
-pub inner_none : (members : List Declared) (setup : ℕ) (front : List Part) (p : Part) (parts : List Part) → flaws_behind members setup front (p ∷ parts) ≡ []
+pub inner_none : (members : List Declared) (setup : ℕ) (front : List Part) (p : Part) (parts : List Part) → flaws_after members setup front (p ∷ parts) ≡ []
     → inner_flaws members setup (length (flat_map calls_in front)) p ≡ []
 inner_none members setup front p parts e =
     back_none _ (inner_flaws members setup (length (flat_map calls_in front)) p)
-    (sym (by_part members setup front p) ∙ front_none (part_flaws members setup front p) (flaws_behind members setup (front ++ p ∷ []) parts) e)
+    (sym (by_part members setup front p) ∙ front_none (part_flaws members setup front p) (flaws_after members setup (front ++ p ∷ []) parts) e)
 
-pub behind_none : (members : List Declared) (setup : ℕ) (front : List Part) (p : Part) (parts : List Part) → flaws_behind members setup front (p ∷ parts) ≡ []
-    → flaws_behind members setup (front ++ p ∷ []) parts ≡ []
-behind_none members setup front p parts e = back_none (part_flaws members setup front p) (flaws_behind members setup (front ++ p ∷ []) parts) e
+pub after_none : (members : List Declared) (setup : ℕ) (front : List Part) (p : Part) (parts : List Part) → flaws_after members setup front (p ∷ parts) ≡ []
+    → flaws_after members setup (front ++ p ∷ []) parts ≡ []
+after_none members setup front p parts e = back_none (part_flaws members setup front p) (flaws_after members setup (front ++ p ∷ []) parts) e
 
 setups_few : (p : Part) → length (calls_of_setup p) ≤ length (calls_in p)
 setups_few (Setup at calls) = omega arith
@@ -132,7 +132,7 @@ setups_few (Client at n calls) = omega arith
 setups_few (Schedule at numbers) = omega arith
 setups_few (Stop at service numbers) = omega arith
 
-all_few : (members : List Declared) (setup : ℕ) (front parts : List Part) → length (flat_map calls_in front) ≤ 65536 → flaws_behind members setup front parts ≡ []
+all_few : (members : List Declared) (setup : ℕ) (front parts : List Part) → length (flat_map calls_in front) ≤ 65536 → flaws_after members setup front parts ≡ []
     → length (flat_map calls_in front) + length (flat_map calls_of_setup parts) ≤ 65536
 all_few members setup front [] le e = omega (arith, le)
 all_few members setup front (p ∷ parts) le e =
@@ -140,7 +140,7 @@ all_few members setup front (p ∷ parts) le e =
     let few : length (flat_map calls_in front) + length (calls_in p) ≤ 65536 = part_few members setup (length (flat_map calls_in front)) p le inner in
     let more : length (flat_map calls_in (front ++ p ∷ [])) ≤ 65536 = subst (λ v. v ≤ 65536) (sym (counted front p)) few in
     let rest : length (flat_map calls_in (front ++ p ∷ [])) + length (flat_map calls_of_setup parts) ≤ 65536 =
-    all_few members setup (front ++ p ∷ []) parts more (behind_none members setup front p parts e) in
+    all_few members setup (front ++ p ∷ []) parts more (after_none members setup front p parts e) in
     let own : length (calls_of_setup p) ≤ length (calls_in p) = setups_few p in
     let sum : length (flat_map calls_of_setup (p ∷ parts)) ≡ length (calls_of_setup p) + length (flat_map calls_of_setup parts) =
     length-append (calls_of_setup p) (flat_map calls_of_setup parts) in
@@ -217,14 +217,14 @@ part_held members setup before (Client at n calls) s le e =
 part_held members setup before (Schedule at numbers) s le e = numbers_held numbers e
 part_held members setup before (Stop at service numbers) s le e = refl
 
-parts_held : (members : List Declared) (setup : ℕ) (front parts : List Part) → setup ≤ 65536 → length (flat_map calls_in front) ≤ 65536 → flaws_behind members setup front parts ≡ []
+parts_held : (members : List Declared) (setup : ℕ) (front parts : List Part) → setup ≤ 65536 → length (flat_map calls_in front) ≤ 65536 → flaws_after members setup front parts ≡ []
     → list_all is_held parts ≡ true
 parts_held members setup front [] s le e = refl
 parts_held members setup front (p ∷ parts) s le e =
     let inner = inner_none members setup front p parts e in
     let few = part_few members setup (length (flat_map calls_in front)) p le inner in
     both (is_held p) _ (part_held members setup (length (flat_map calls_in front)) p s le inner)
-    (parts_held members setup (front ++ p ∷ []) parts s (subst (λ v. v ≤ 65536) (sym (counted front p)) few) (behind_none members setup front p parts e))
+    (parts_held members setup (front ++ p ∷ []) parts s (subst (λ v. v ≤ 65536) (sym (counted front p)) few) (after_none members setup front p parts e))
 
 -- flawless parts have room
 pub flawless_held : (members : List Declared) (parts : List Part) → flaws_of members parts ≡ [] → list_all is_held parts ≡ true

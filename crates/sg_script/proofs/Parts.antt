@@ -7,7 +7,7 @@ use Rattle.sg_script_parse.specs.declared.tree.Part.TheVariants.{Setup, Client, 
 use Rattle.sg_script.specs.declared.fault.ScriptFault.{ScriptFault}
 use Rattle.sg_script.specs.declared.fault.ScriptKind.TheVariants.{Twice}
 use Rattle.sg_script.specs.Flaws.{calls_in, part_flaws, script_flaw_if}
-use Rattle.sg_script.specs.Inside.Firsts.{first_behind, first_of_two}
+use Rattle.sg_script.specs.Inside.Firsts.{first_after, first_of_two}
 use Rattle.sg_script.specs.Inside.Parts.{comes_again, inner_flaws, part_place}
 
 pub by_part : (members : List Declared) (setup : ℕ) (front : List Part) (p : Part)
@@ -18,19 +18,19 @@ by_part members setup front (Schedule at numbers) = refl
 by_part members setup front (Stop at service numbers) = refl
 
 -- the first behind some flaws and more
-behind_more : (f : Option ScriptFault) (xs ys : List ScriptFault) → first_behind f (xs ++ ys) ≡ first_behind (first_behind f xs) ys
-behind_more f [] ys = refl
-behind_more f (x ∷ xs) ys = behind_more (Some (first_of_two f x)) xs ys
+after_more : (f : Option ScriptFault) (xs ys : List ScriptFault) → first_after f (xs ++ ys) ≡ first_after (first_after f xs) ys
+after_more f [] ys = refl
+after_more f (x ∷ xs) ys = after_more (Some (first_of_two f x)) xs ys
 
 -- what is kept of a part's flaws, where it is kept of whether the part comes again, and then of what is wrong within it
 pub part_judged : (members : List Declared) (setup : ℕ) (front : List Part) (p : Part) (f g h : Option ScriptFault) (again : Bool) (place before : ℕ)
     → again ≡ comes_again members front p → place ≡ part_place p → before ≡ length (flat_map calls_in front)
-    → g ≡ first_behind f (script_flaw_if again Twice place) → h ≡ first_behind g (inner_flaws members setup before p)
-    → h ≡ first_behind f (part_flaws members setup front p)
+    → g ≡ first_after f (script_flaw_if again Twice place) → h ≡ first_after g (inner_flaws members setup before p)
+    → h ≡ first_after f (part_flaws members setup front p)
 part_judged members setup front p f g h again place before a b c one two =
-    let own : g ≡ first_behind f (script_flaw_if (comes_again members front p) Twice (part_place p)) =
-    one ∙ ap (λ x. first_behind f (script_flaw_if x Twice place)) a ∙ ap (λ x. first_behind f (script_flaw_if (comes_again members front p) Twice x)) b in
-    two ∙ ap (λ x. first_behind x (inner_flaws members setup before p)) own
-    ∙ ap (λ n. first_behind (first_behind f (script_flaw_if (comes_again members front p) Twice (part_place p))) (inner_flaws members setup n p)) c
-    ∙ sym (behind_more f (script_flaw_if (comes_again members front p) Twice (part_place p)) (inner_flaws members setup (length (flat_map calls_in front)) p))
-    ∙ ap (first_behind f) (sym (by_part members setup front p))
+    let own : g ≡ first_after f (script_flaw_if (comes_again members front p) Twice (part_place p)) =
+    one ∙ ap (λ x. first_after f (script_flaw_if x Twice place)) a ∙ ap (λ x. first_after f (script_flaw_if (comes_again members front p) Twice x)) b in
+    two ∙ ap (λ x. first_after x (inner_flaws members setup before p)) own
+    ∙ ap (λ n. first_after (first_after f (script_flaw_if (comes_again members front p) Twice (part_place p))) (inner_flaws members setup n p)) c
+    ∙ sym (after_more f (script_flaw_if (comes_again members front p) Twice (part_place p)) (inner_flaws members setup (length (flat_map calls_in front)) p))
+    ∙ ap (first_after f) (sym (by_part members setup front p))

@@ -105,13 +105,13 @@ part_flaws members setup front (Stop at service numbers) =
     ++ (option_map_or (λ (s : Spelling). script_flaw_if (is_none (stop_member members service)) UnknownService s.at) service [] ++ stops_flaws 1 0 numbers)
 
 -- parts after others
-abbrev pub flaws_behind : List Declared → ℕ → List Part → List Part → List ScriptFault
-flaws_behind members setup front [] = []
-flaws_behind members setup front (p ∷ parts) = part_flaws members setup front p ++ flaws_behind members setup (front ++ p ∷ []) parts
+abbrev pub flaws_after : List Declared → ℕ → List Part → List Part → List ScriptFault
+flaws_after members setup front [] = []
+flaws_after members setup front (p ∷ parts) = part_flaws members setup front p ++ flaws_after members setup (front ++ p ∷ []) parts
 
 -- all that is wrong with a script; all calls of its setups count, wherever these stand
 abbrev pub flaws_of : List Declared → List Part → List ScriptFault
-flaws_of members parts = flaws_behind members (length (flat_map calls_of_setup parts)) [] parts
+flaws_of members parts = flaws_after members (length (flat_map calls_of_setup parts)) [] parts
 
 -- ---- the first of them
 

@@ -1,7 +1,7 @@
 // The first of the flaws that were noted.
 ghost use Rattle.std.specs.Prelude.{◌≡◌, ◌++◌, ◌∷◌, [], None};
 ghost use Rattle.sg_script.specs.Flaws.{script_flaw_if, script_kind_rank};
-ghost use Rattle.sg_script.specs.Inside.Firsts.{first_of_two, first_behind, is_not_after};
+ghost use Rattle.sg_script.specs.Inside.Firsts.{first_of_two, first_after, is_not_after};
 
 use crate::fault::{ScriptFault, ScriptKind};
 use std::marker::Model;
@@ -38,7 +38,7 @@ impl First {
 
     /// Notes a flaw of a kind at a place, where there is one.
     pub fn note_if(&mut self, flawed: bool, kind: ScriptKind, at: usize)
-        ensures { self.new ≡ first_behind self.old (script_flaw_if flawed kind at) }
+        ensures { self.new ≡ first_after self.old (script_flaw_if flawed kind at) }
     {
         if flawed {
             self.fault = Some(first_of_two(self.fault, ScriptFault { at, kind }));

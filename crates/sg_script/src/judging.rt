@@ -2,9 +2,9 @@
 ghost use Rattle.std.specs.Prelude.{◌≡◌, ◌<◌, ◌+◌, ◌^◌, ◌&&◌, ◌≤◌, [], None, List, length, nat_le, nat_lt, MatchOption};
 ghost use Rattle.std.specs.List.{flat_map};
 ghost use Rattle.sg_script_parse.specs.declared.tree.Part.{Part as OnePart};
-ghost use Rattle.sg_script.specs.Inside.Firsts.{first_behind};
+ghost use Rattle.sg_script.specs.Inside.Firsts.{first_after};
 ghost use Rattle.sg_script.specs.Inside.Fronts.{IsFront};
-ghost use Rattle.sg_script.specs.Flaws.{IsFirstFlaw, written_arg_fits, written_args_fit, call_flaws, calls_before, calls_flaws, client_flaws, flaws_behind, flaws_of, number_flaws, part_flaws, stops_flaws};
+ghost use Rattle.sg_script.specs.Flaws.{IsFirstFlaw, written_arg_fits, written_args_fit, call_flaws, calls_before, calls_flaws, client_flaws, flaws_after, flaws_of, number_flaws, part_flaws, stops_flaws};
 ghost use Rattle.sg_script.specs.Inside.Parts.{arg_flaws, fun_flaws, inner_flaws, part_place, service_flaws};
 ghost use Rattle.sg_script.specs.Scripts.{calls_of_setup, function_named, most_members};
 ghost use Rattle.sg_script.specs.Numbers.{counts_as};
@@ -30,14 +30,14 @@ const TOO_MANY_STOPS: usize = MOST_STOPS + 1;
 
 // Notes a number above the greatest of 64 bits.
 fn judge_number(first: &mut First, number: &Spelled)
-    ensures { first.new ≡ first_behind first.old (number_flaws number.now) }
+    ensures { first.new ≡ first_after first.old (number_flaws number.now) }
 {
     first.note_if(is_above(number.slice), ScriptKind::Limit, number.at);
 }
 
 // Notes what is wrong with the number of a client.
 fn judge_client(first: &mut First, number: &Spelled)
-    ensures { first.new ≡ first_behind first.old (client_flaws number.now) }
+    ensures { first.new ≡ first_after first.old (client_flaws number.now) }
 {
     let known = is_known_client(counts_as(number.slice));
     first.note_if(!known, ScriptKind::BadClient, number.at);
@@ -46,7 +46,7 @@ fn judge_client(first: &mut First, number: &Spelled)
 
 // Notes what is wrong with the numbers of clients.
 fn judge_clients(first: &mut First, numbers: &[Spelled])
-    ensures { first.new ≡ first_behind first.old (flat_map client_flaws numbers.now) }
+    ensures { first.new ≡ first_after first.old (flat_map client_flaws numbers.now) }
 {
     'each: for number in numbers {
         judge_client(first, number);
@@ -55,7 +55,7 @@ fn judge_clients(first: &mut First, numbers: &[Spelled])
 
 // Notes what is wrong with an argument by itself.
 fn judge_arg(first: &mut First, arg: &WrittenArg)
-    ensures { first.new ≡ first_behind first.old (arg_flaws arg.now) }
+    ensures { first.new ≡ first_after first.old (arg_flaws arg.now) }
 {
     match arg {
         WrittenArg::Number(number) | WrittenArg::Back(number) => judge_number(first, number),
@@ -67,7 +67,7 @@ fn judge_arg(first: &mut First, arg: &WrittenArg)
 
 // Notes what is wrong with arguments by themselves.
 fn judge_args(first: &mut First, args: &[WrittenArg])
-    ensures { first.new ≡ first_behind first.old (flat_map arg_flaws args.now) }
+    ensures { first.new ≡ first_after first.old (flat_map arg_flaws args.now) }
 {
     'each: for arg in args {
         judge_arg(first, arg);
@@ -117,7 +117,7 @@ fn judge_fun(
     own: u128,
     call: &WrittenCall,
 )
-    ensures { first.new ≡ first_behind first.old (fun_flaws in_setup own call.now (function_named members.now call.now.name.bytes)) }
+    ensures { first.new ≡ first_after first.old (fun_flaws in_setup own call.now (function_named members.now call.now.name.bytes)) }
 {
     let at = call.name.at;
     match function_named(members, call.name.slice) {
@@ -139,7 +139,7 @@ fn judge_call(
     own: u128,
     call: &WrittenCall,
 )
-    ensures { first.new ≡ first_behind first.old (call_flaws members.now in_setup nth own call.now) }
+    ensures { first.new ≡ first_after first.old (call_flaws members.now in_setup nth own call.now) }
 {
     judge_fun(first, members, in_setup, own, call);
     first.note_if(nth == TOO_MANY_CALLS, ScriptKind::Limit, call.name.at);
@@ -157,7 +157,7 @@ fn judge_calls(
 )
     requires nth { nth + 2 ^ 64 < 2 ^ 128 }
     requires own { own + 2 ^ 64 < 2 ^ 128 }
-    ensures { first.new ≡ first_behind first.old (calls_flaws members.now in_setup nth own calls.now) }
+    ensures { first.new ≡ first_after first.old (calls_flaws members.now in_setup nth own calls.now) }
 {
     'each: for call in calls {
         judge_call(first, members, in_setup, nth, own, call);
@@ -171,7 +171,7 @@ fn judge_calls(
 // Notes the name of a service of which no member is.
 fn judge_service(first: &mut First, members: &[Interface], service: &Option<Spelled>)
     requires few { length members.now ≤ most_members }
-    ensures { first.new ≡ first_behind first.old (service_flaws members.now service.now) }
+    ensures { first.new ≡ first_after first.old (service_flaws members.now service.now) }
 {
     if let Some(name) = service {
         let unknown = stop_member(members, service).is_none();
@@ -181,7 +181,7 @@ fn judge_service(first: &mut First, members: &[Interface], service: &Option<Spel
 
 // Notes what is wrong with stops.
 fn judge_stops(first: &mut First, stops: &[Spelled])
-    ensures { first.new ≡ first_behind first.old (stops_flaws 1 0 stops.now) }
+    ensures { first.new ≡ first_after first.old (stops_flaws 1 0 stops.now) }
 {
     let mut before = 0;
     'each: for (place, stop) in stops.iter().enumerate() {
@@ -219,7 +219,7 @@ fn judge_inside(first: &mut First, members: &[Interface], setup: u128, before: u
     requires few { length members.now ≤ most_members }
     requires setup { setup + 2 ^ 65 < 2 ^ 128 }
     requires before { before + 2 ^ 65 < 2 ^ 128 }
-    ensures { first.new ≡ first_behind first.old (inner_flaws members.now setup before part.now) }
+    ensures { first.new ≡ first_after first.old (inner_flaws members.now setup before part.now) }
 {
     match part {
         Part::Setup { calls, .. } => {
@@ -247,7 +247,7 @@ fn judge_part(first: &mut First, members: &[Interface], setup: u128, front: &See
     requires few { length members.now ≤ most_members }
     requires setup { setup + 2 ^ 65 < 2 ^ 128 }
     requires before { front.now.calls + 2 ^ 65 < 2 ^ 128 }
-    ensures { (parts : List OnePart) → IsFront members.now front.now parts → first.new ≡ first_behind first.old (part_flaws members.now setup parts part.now) }
+    ensures { (parts : List OnePart) → IsFront members.now front.now parts → first.new ≡ first_after first.old (part_flaws members.now setup parts part.now) }
 {
     first.note_if(
         front.comes_again(members, part),
@@ -274,7 +274,7 @@ fn setup_calls(parts: &[Part]) -> u128
 // The first flaw of parts.
 fn first_in(parts: &[Part], members: &[Interface]) -> First
     requires few { length members.now ≤ most_members }
-    ensures { result ≡ first_behind None (flaws_of members.now parts.now) }
+    ensures { result ≡ first_after None (flaws_of members.now parts.now) }
 {
     let setup = setup_calls(parts);
     let mut first = First::new();

@@ -10,7 +10,7 @@ use Rattle.sg_script_parse.specs.declared.tree.WrittenArg.{WrittenArg}
 use Rattle.sg_script_parse.specs.declared.tree.WrittenArg.TheVariants.{Number as number_arg, Text as text_arg, Back as back_arg}
 use Rattle.sg_script_parse.specs.declared.tree.WrittenCall.{WrittenCall}
 use Rattle.sg_script_parse.specs.declared.tree.Part.{Part}
-use Rattle.sg_script_parse.specs.Grammar.Inside.States.{ScriptState, dead, due, want, want_word, argument, bracketed, listed, body, counts, script, spelt_by, argument_behind, call_rest, setup_rest, client_rest, schedule_rest, stop_rest, part_behind, with_part, step, parts_at, scripts}
+use Rattle.sg_script_parse.specs.Grammar.Inside.States.{ScriptState, dead, due, want, want_word, argument, bracketed, listed, body, counts, script, spelt_by, argument_after, call_rest, setup_rest, client_rest, schedule_rest, stop_rest, part_after, with_part, step, parts_at, scripts}
 use Rattle.sg_lex.specs.Inside.Tests.{has_kind, is_this_mark, is_fixed}
 use Rattle.sg_lex.specs.Inside.Automata.{Reading, read, read_on}
 use Rattle.sg_script_parse.proofs.Grammar.Basics.{if_then, if_else}
@@ -102,7 +102,7 @@ pub some_argument : (k : List WrittenArg → ScriptState) (old : Reading) → Of
 unfolding step parts_at
 some_argument k old o =
     alike scripts (bracketed k) (argument (λ a. listed (a ∷ []) k)) (is_this_mark close_bracket_byte) old
-    (λ token h. if_else (is_this_mark close_bracket_byte token) (Some (k [])) (argument_behind (λ a. listed (a ∷ []) k) token) h) refl o
+    (λ token h. if_else (is_this_mark close_bracket_byte token) (Some (k [])) (argument_after (λ a. listed (a ∷ []) k) token) h) refl o
 
 pub comma_came : (args : List WrittenArg) (k : List WrittenArg → ScriptState) (old new : Reading) → Came (is_this_mark comma_byte) old.rest new.rest → new.end ≡ old.end
     → read scripts (listed args k) old ≡ read scripts (argument (λ a. listed (args ++ a ∷ []) k)) new
@@ -153,7 +153,7 @@ count_missing numbers k old o =
 -- ---- parts
 
 pub part_came : (several : Bool) (parts : List Part) (old new : Reading) (token : Lexeme) → old.rest ≡ Ok token ∷ new.rest → new.end ≡ old.end
-    → read scripts (script several parts) old ≡ read_on scripts (part_behind several (with_part several parts) token) token new
+    → read scripts (script several parts) old ≡ read_on scripts (part_after several (with_part several parts) token) token new
 unfolding step
 part_came several parts old new token e g = read_next scripts (script several parts) old new token e g
 
@@ -164,30 +164,30 @@ script_end several parts old e = read_end scripts (script several parts) old e
 -- after the first token of a part, by the tests that fail and the one that holds
 
 pub is_setup : (several : Bool) (go : Part → ScriptState) (token : Lexeme) (r : Reading) → is_fixed (codes "setup") token ≡ true
-    → read_on scripts (part_behind several go token) token r ≡ read scripts (setup_rest go token.at) r
+    → read_on scripts (part_after several go token) token r ≡ read scripts (setup_rest go token.at) r
 is_setup several go token r h = ap (λ v. read_on scripts v token r) (if_then (is_fixed (codes "setup") token) _ _ h)
 
 pub is_client : (several : Bool) (go : Part → ScriptState) (token : Lexeme) (r : Reading) → is_fixed (codes "setup") token ≡ false → is_fixed (codes "client") token ≡ true
-    → read_on scripts (part_behind several go token) token r ≡ read scripts (client_rest go token.at) r
+    → read_on scripts (part_after several go token) token r ≡ read scripts (client_rest go token.at) r
 is_client several go token r a h =
     ap (λ v. read_on scripts v token r) (if_else (is_fixed (codes "setup") token) _ _ a ∙ if_then (is_fixed (codes "client") token) _ _ h)
 
 pub is_schedule : (several : Bool) (go : Part → ScriptState) (token : Lexeme) (r : Reading) → is_fixed (codes "setup") token ≡ false → is_fixed (codes "client") token ≡ false
-    → is_fixed (codes "schedule") token ≡ true → read_on scripts (part_behind several go token) token r ≡ read scripts (schedule_rest go token.at) r
+    → is_fixed (codes "schedule") token ≡ true → read_on scripts (part_after several go token) token r ≡ read scripts (schedule_rest go token.at) r
 is_schedule several go token r a b h =
     ap (λ v. read_on scripts v token r) (if_else (is_fixed (codes "setup") token) _ _ a ∙ if_else (is_fixed (codes "client") token) _ _ b
     ∙ if_then (is_fixed (codes "schedule") token) _ _ h)
 
 pub is_stop : (several : Bool) (go : Part → ScriptState) (token : Lexeme) (r : Reading) → is_fixed (codes "setup") token ≡ false → is_fixed (codes "client") token ≡ false
     → is_fixed (codes "schedule") token ≡ false → is_fixed (codes "stop") token ≡ true
-    → read_on scripts (part_behind several go token) token r ≡ read scripts (stop_rest several go token.at) r
+    → read_on scripts (part_after several go token) token r ≡ read scripts (stop_rest several go token.at) r
 is_stop several go token r a b c h =
     ap (λ v. read_on scripts v token r) (if_else (is_fixed (codes "setup") token) _ _ a ∙ if_else (is_fixed (codes "client") token) _ _ b
     ∙ if_else (is_fixed (codes "schedule") token) _ _ c ∙ if_then (is_fixed (codes "stop") token) _ _ h)
 
 pub is_no_part : (several : Bool) (go : Part → ScriptState) (token : Lexeme) (r : Reading) → is_fixed (codes "setup") token ≡ false → is_fixed (codes "client") token ≡ false
     → is_fixed (codes "schedule") token ≡ false → is_fixed (codes "stop") token ≡ false
-    → read_on scripts (part_behind several go token) token r ≡ Err (Syntax token.at)
+    → read_on scripts (part_after several go token) token r ≡ Err (Syntax token.at)
 is_no_part several go token r a b c d =
     ap (λ v. read_on scripts v token r) (if_else (is_fixed (codes "setup") token) _ _ a ∙ if_else (is_fixed (codes "client") token) _ _ b
     ∙ if_else (is_fixed (codes "schedule") token) _ _ c ∙ if_else (is_fixed (codes "stop") token) (Some (stop_rest several go token.at)) None d)

@@ -3,7 +3,7 @@ ghost use Rattle.std.specs.Prelude.{◌≡◌, ◌≤◌, List, [], length, OnOk
 ghost use Rattle.std.specs.declared.option.Option.{Option as Maybe};
 ghost use Rattle.sg_script_parse.specs.declared.tree.Part.{Part as Written};
 ghost use Rattle.sg_lex.specs.Lexeme.{Spelling};
-ghost use Rattle.sg_script_parse.specs.Grammar.Inside.States.{ScriptState, script, counts, part_behind, setup_rest, client_rest, schedule_rest, stop_rest, named, scripts};
+ghost use Rattle.sg_script_parse.specs.Grammar.Inside.States.{ScriptState, script, counts, part_after, setup_rest, client_rest, schedule_rest, stop_rest, named, scripts};
 ghost use Rattle.sg_lex.specs.Inside.Automata.{read, Leads, Answers, read_on};
 
 use crate::calls::braced;
@@ -38,7 +38,7 @@ fn part<'a>(
     token: Token<'a>,
 ) -> Result<Part<'a>, ScriptSyntax>
     ensures leads { (go : Written → ScriptState) →
-        Leads scripts (read_on scripts (part_behind several go token.entry) token.entry reader.old) result go reader.new }
+        Leads scripts (read_on scripts (part_after several go token.entry) token.entry reader.old) result go reader.new }
     ensures fewer { OnOk result (length reader.new.rest ≤ length reader.old.rest) }
 {
     if token.is_word(b"setup") {

@@ -23,7 +23,7 @@ use Rattle.sg_sim.specs.sg_clients.declared.phase.Phase.{Phase}
 use Rattle.sg_sim.specs.sg_clients.declared.phase.Phase.TheVariants.{Idle, Asked, Held, Receipted, Blocked, Left}
 use Rattle.sg_sim.specs.sg_clients.declared.withdrawn.Withdrawn.{Withdrawn}
 use Rattle.sg_sim.specs.sg_world.declared.did.Did.{Did}
-use Rattle.sg_sim.specs.sg_world.Steps.{AnswersLast, HasStepped, WantsMemory}
+use Rattle.sg_sim.specs.sg_world.Steps.{AnswersLast, HasStepped, LackedMemory}
 use Rattle.sg_sim.specs.sg_world_laws.Setting.{Setting}
 
 -- who has no call under way by the log has none by its seat
@@ -64,7 +64,7 @@ module _ (z : Setting) (script : Script) (w : WorldView) (is : KeepsPlayed z scr
     }
 
     pub kept_stepped : {E : Type 0} (r : Result Did E) (now : WorldView) → RecoversSoFar z w → LegalFrom z.iface z.ask empty_object now.history
-        → IfOk r (λ did. HasStepped z w c did now) → OnErr r (WantsMemory z w c now) → IfOk r (AnswersLast now c) → KeepsPlayed z script now
+        → IfOk r (λ did. HasStepped z w c did now) → OnErr r (LackedMemory z w c now) → IfOk r (AnswersLast now c) → KeepsPlayed z script now
     kept_stepped (Ok did) now before legal steps wants answers = record {
       none_waits = is.none_waits;
       goes = λ none. goes_stepped z script w c first last (is.goes (sym (withdrawn_stepped z w c did now steps) ∙ none)) did now before legal steps answers;

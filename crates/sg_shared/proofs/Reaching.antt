@@ -7,7 +7,7 @@ use Rattle.std.specs.declared.result.Result.{Result}
 use Rattle.sg_facts.specs.sg_base.declared.call.Call.{Call}
 use Rattle.sg_shared.specs.Reached.{AreEventsOf, ComesByEvents, IsEventOf, IsReachedEnd}
 use Rattle.sg_sim.specs.Playing.{AreTurnsOf, ComesTo, EndsAs, IsTurnOf, new_of}
-use Rattle.sg_sim.specs.sg_play.Turning.{behind_step, with_call, with_leaving, with_offer}
+use Rattle.sg_sim.specs.sg_play.Turning.{after_step, with_call, with_leaving, with_offer}
 use Rattle.sg_sim.specs.sg_plain.sg_hist.Clients.{calls_of}
 use Rattle.sg_sim.specs.sg_plain.sg_hist.declared.ended.Ended.{Ended}
 use Rattle.sg_sim.specs.sg_plain.Calls.{call_after, script_calls}
@@ -45,23 +45,23 @@ module _ (z : Setting) (script : Script) where
         by true = comes
         by false = come_more start w (happened (with_leave w client)) comes (inr (inr (inl (record { client = client; is = inr refl }))))
 
-    behind_comes : (w : WorldView) (client : ℕ) (did : Did) → ComesByEvents z script start w → ComesByEvents z script start (behind_step script client did w)
-    behind_comes w client Skipped comes = comes
-    behind_comes w client (Answered reply) comes = leave_comes w client comes
-    behind_comes w client Lost comes = comes
-    behind_comes w client Booted comes = comes
-    behind_comes w client Struck comes = comes
-    behind_comes w client Replayed comes = comes
-    behind_comes w client Loaded comes = comes
-    behind_comes w client Waits comes = comes
-    behind_comes w client Served comes = comes
+    after_comes : (w : WorldView) (client : ℕ) (did : Did) → ComesByEvents z script start w → ComesByEvents z script start (after_step script client did w)
+    after_comes w client Skipped comes = comes
+    after_comes w client (Answered reply) comes = leave_comes w client comes
+    after_comes w client Lost comes = comes
+    after_comes w client Booted comes = comes
+    after_comes w client Struck comes = comes
+    after_comes w client Replayed comes = comes
+    after_comes w client Loaded comes = comes
+    after_comes w client Waits comes = comes
+    after_comes w client Served comes = comes
 
     turn_comes : (w now : WorldView) (client : ℕ) → ComesByEvents z script start w → IsTurnOf z script w client now → ComesByEvents z script start now
     turn_comes w now client comes turn =
         let x = with_offer z.iface.facts script w client in
         let later = turn.steps.later in
         let stepped = come_more start x later (offer_comes w client comes) (inr (inl (record { client = client; made = inl (turn.steps.did, turn.steps.stepped) }))) in
-        subst (ComesByEvents z script start) (sym turn.steps.is) (behind_comes later client turn.steps.did stepped)
+        subst (ComesByEvents z script start) (sym turn.steps.is) (after_comes later client turn.steps.did stepped)
 
     turns_come : (clients : List ℕ) (w now : WorldView) → ComesByEvents z script start w → AreTurnsOf z script w clients now → ComesByEvents z script start now
     turns_come [] w now comes same = subst (ComesByEvents z script start) (sym same) comes

@@ -9,7 +9,7 @@ use Rattle.sg_sim.specs.sg_plain.sg_script.declared.script.Script.{Script}
 use Rattle.sg_sim.specs.Played.{IsOfWorld}
 use Rattle.sg_sim.specs.Playing.{new_of}
 use Rattle.sg_sim.specs.sg_clients.WorldView.{WorldView, happened, offered, seat_of, with_leave, withdrawn_by}
-use Rattle.sg_sim.specs.sg_world.Steps.{HasStepped, WantsMemory}
+use Rattle.sg_sim.specs.sg_world.Steps.{HasStepped, LackedMemory}
 use Rattle.sg_sim.specs.sg_world.declared.did.Did.{Did}
 use Rattle.sg_sim.specs.sg_world_laws.Setting.{Setting}
 
@@ -24,7 +24,7 @@ pub record OffersNext (z : Setting) (script : Script) (w now : WorldView) : Type
 -- a client makes a step, which comes to something or wants memory
 pub record MakesStep (z : Setting) (w now : WorldView) : Type 0 where
   pub client : ℕ
-  pub made : ((did : Did) × HasStepped z w client did now) ⊎ WantsMemory z w client now
+  pub made : ((did : Did) × HasStepped z w client did now) ⊎ LackedMemory z w client now
 
 -- a client withdraws its call, or leaves
 pub record GoesAway (w now : WorldView) : Type 0 where

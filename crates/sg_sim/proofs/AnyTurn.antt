@@ -15,9 +15,9 @@ use Rattle.sg_play.specs.sg_plain.Playing.Turns.{may_go, may_take_turn}
 use Rattle.sg_play.specs.sg_script.declared.script.Script.{Script}
 use Rattle.sg_play.specs.sg_clients.WorldView.{Seat, WorldView, happened, seat_in, seat_of}
 use Rattle.sg_sim.proofs.Beginning.{clients_from_one, given_count}
-use Rattle.sg_sim.specs.Inside.Taken.{MissesTurn, TakesTurn, behind_offer}
+use Rattle.sg_sim.specs.Inside.Taken.{MissesTurn, TakesTurn, after_offer}
 use Rattle.sg_sim.specs.Playing.{Playing, can_step}
-use Rattle.sg_play.specs.sg_world.Steps.{WantsMemory}
+use Rattle.sg_play.specs.sg_world.Steps.{LackedMemory}
 use Rattle.sg_play.specs.sg_world_laws.Setting.{Setting}
 
 -- ---- whether a client can step
@@ -110,13 +110,13 @@ module _ (z : Setting) (script : Script) (w : WorldView) (given : List (List ℕ
   may_again : (now : WorldView) (gave : List (List ℕ)) → MissesTurn z script w given client now gave → may_take_turn script client (seat_of w client) ≡ true → may_take_turn script client (seat_of now client) ≡ true
   may_again now gave m may = by m.missed
     where
-      by : (now ≡ w) ⊎ (now ≡ happened w) ⊎ (IsPlaying z.iface script (behind_offer z script w given client).history (behind_offer z script w given client).seats given × WantsMemory z (behind_offer z script w given client) client now)
+      by : (now ≡ w) ⊎ (now ≡ happened w) ⊎ (IsPlaying z.iface script (after_offer z script w given client).history (after_offer z script w given client).seats given × LackedMemory z (after_offer z script w given client) client now)
           → may_take_turn script client (seat_of now client) ≡ true
       by (inl same) = ap (λ x. may_take_turn script client (seat_of x client)) same ∙ may
       by (inr (inl same)) = ap (λ x. may_take_turn script client (seat_of x client)) same ∙ may
       by (inr (inr both)) =
           ap (λ x. may_take_turn script client (seat_of x client)) both.1.counted
-          ∙ ap (λ ph. may_go ph (nat_lt (seat_of (behind_offer z script w given client) client).seq (length (script_calls script client)))) both.1.let_in.phase
+          ∙ ap (λ ph. may_go ph (nat_lt (seat_of (after_offer z script w given client) client).seq (length (script_calls script client)))) both.1.let_in.phase
 
   pub can_again : (now : WorldView) (gave : List (List ℕ)) → MissesTurn z script w given client now gave
       → (nat_le 1 client && nat_le client (length w.seats) && may_take_turn script client (seat_of w client)) ≡ true → (nat_le 1 client && nat_le client (length now.seats) && may_take_turn script client (seat_of now client)) ≡ true

@@ -9,7 +9,7 @@ use Rattle.sg_facts.specs.Trace.{run_of}
 use Rattle.sg_facts.specs.sg_base.declared.call.Call.{Call}
 use Rattle.sg_facts.specs.Facts.{fun_at}
 use Rattle.sg_facts.specs.Object.{Object}
-use Rattle.sg_play.proofs.Following.Following.{following_end}
+use Rattle.sg_play.proofs.Following.Following.{following_asked, following_end}
 use Rattle.sg_play.proofs.Following.Whose.{nobody_next}
 use Rattle.sg_play.specs.sg_hist.Clients.{calls_of}
 use Rattle.sg_play.specs.sg_hist.Recovered.{IsRecovered, struck_in}
@@ -116,6 +116,7 @@ module _ (z : Setting) (test : ℕ → List ℕ → List ℕ → Type 0) (script
         plain = plain.0;
         is_plain = plain.1;
         follows = following_end z script w passed last (is.following so) (nobody_next z.iface script w given passed last is.playing settled nobody) plain.0 plain.1;
+        asks = following_asked z script w passed last (is.following so) (nobody_next z.iface script w given passed last is.playing settled nobody) plain.0 plain.1;
         alone = plain_alone z.iface z.ask script blocks is.playing.playable.setup is.playing.playable.turns some (is.playing.playable.fit 1) w.history plain.0 (ends_from script 1 w.seats)
             (IsLegal-from z.iface z.ask w.history told.legal) (playing_calls z.iface script w.history w.seats given is.playing)
             (playing_ends z.iface z.ask script w.history w.seats given is.playing nobody (λ client first there. told.waits client first there)) plain.1;

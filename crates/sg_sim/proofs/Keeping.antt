@@ -17,7 +17,7 @@ use Rattle.sg_play.specs.sg_hist.Reading.{items_of}
 use Rattle.sg_play.specs.sg_plain.Playing.Callers.{is_setting_up}
 use Rattle.sg_play.specs.sg_plain.Playing.Given.{HaveGiven}
 use Rattle.sg_play.specs.sg_plain.Calls.{call_after, most_client, script_calls}
-use Rattle.sg_play.specs.Turning.{StepsInTurn, behind_step, with_call, with_offer, with_leaving}
+use Rattle.sg_play.specs.Turning.{StepsInTurn, after_step, with_call, with_offer, with_leaving}
 use Rattle.sg_play.specs.sg_plain.Playing.Playable.{IsPlayable}
 use Rattle.sg_play.specs.sg_plain.Playing.Plays.{IsPlaying}
 use Rattle.sg_play.specs.sg_plain.Playing.Turns.{is_free_phase}
@@ -28,13 +28,13 @@ use Rattle.sg_play.specs.sg_clients.declared.phase.Phase.TheVariants.{Left}
 use Rattle.sg_sim.proofs.AnyTurn.{settled_missed, settled_taken, still_settled}
 use Rattle.sg_sim.proofs.Beginning.{playing_new}
 use Rattle.sg_sim.specs.Inside.Keeps.{KeepsPlay}
-use Rattle.sg_sim.specs.Inside.Taken.{MissesTurn, TakesTurn, behind_offer}
+use Rattle.sg_sim.specs.Inside.Taken.{MissesTurn, TakesTurn, after_offer}
 use Rattle.sg_play.proofs.Waking.Waking.{waking_happened, waking_new, waking_offer, waking_turn, waking_wanted}
 use Rattle.sg_play.specs.sg_plain.Answering.{no_query_waits}
 use Rattle.sg_play.specs.Waking.Waking.{IsWaking}
 use Rattle.sg_play.specs.sg_world.declared.did.Did.{Did}
 use Rattle.sg_play.specs.sg_world.declared.did.Did.TheVariants.{Answered, Blocked as Waits, Booted, Loaded, Lost, Replayed, Served, Skipped, Struck}
-use Rattle.sg_play.specs.sg_world.Steps.{WantsMemory}
+use Rattle.sg_play.specs.sg_world.Steps.{LackedMemory}
 use Rattle.sg_play.specs.sg_world_laws.Setting.{Setting}
 
 -- ---- nothing is withdrawn
@@ -61,7 +61,7 @@ left script w client = by (nat_lt (seat_of w client).seq (length (script_calls s
     by false true = refl
     by false false = refl
 
-behind : (script : Script) (client : ℕ) (did : Did) (later : WorldView) → (behind_step script client did later).withdrawn ≡ later.withdrawn
+behind : (script : Script) (client : ℕ) (did : Did) (later : WorldView) → (after_step script client did later).withdrawn ≡ later.withdrawn
 behind script client Skipped later = refl
 behind script client (Answered reply) later = left script later client
 behind script client Lost later = refl
@@ -80,7 +80,7 @@ none_stepped z script w client handed now steps =
 
 module _ (z : Setting) (script : Script) (w : WorldView) (given : List (List ℕ)) (client : ℕ) (playing : IsPlaying z.iface script w.history w.seats given) where
   abbrev x : WorldView
-  x = behind_offer z script w given client
+  x = after_offer z script w given client
 
   -- it is done behind an offer where it was before, and the other way round
   done_offered : IsPlaying z.iface script x.history x.seats given → is_setting_up script w.seats ≡ false → is_setting_up script x.seats ≡ false
@@ -105,7 +105,7 @@ module _ (z : Setting) (script : Script) (w : WorldView) (given : List (List ℕ
   set_up_missed : (now : WorldView) (gave : List (List ℕ)) → MissesTurn z script w given client now gave → IsSettingUpFirst script w → IsSettingUpFirst script now
   set_up_missed now gave m is = setting_up_still script w now (settled_missed z script w given client playing now gave m) is (ap items_of (by m.missed))
     where
-      by : (now ≡ w) ⊎ (now ≡ happened w) ⊎ (IsPlaying z.iface script x.history x.seats given × WantsMemory z x client now) → now.run.boots ≡ w.run.boots
+      by : (now ≡ w) ⊎ (now ≡ happened w) ⊎ (IsPlaying z.iface script x.history x.seats given × LackedMemory z x client now) → now.run.boots ≡ w.run.boots
       by (inl same) = ap (λ v. v.run.boots) same
       by (inr (inl same)) = ap (λ v. v.run.boots) same
       by (inr (inr both)) = ap (λ v. v.run.boots) both.1.counted ∙ ap (λ r. r.boots) (offer_notes_none z.iface.facts script w client)
@@ -165,12 +165,12 @@ module _ (z : Setting) (script : Script) (w : WorldView) (given : List (List ℕ
       → (handed : Option ℕ) (now : WorldView) (gave : List (List ℕ)) → TakesTurn z script w given client handed now gave → KeepsPlay z script now gave later client ordered
   kept_turn client first there its later ordered next handed now gave t = record {
     playing = t.playing;
-    none_withdrawn = none_stepped z script (behind_offer z script w given client) client handed now t.steps ∙ none_offered z.iface.facts script w client ∙ is.none_withdrawn;
+    none_withdrawn = none_stepped z script (after_offer z script w given client) client handed now t.steps ∙ none_offered z.iface.facts script w client ∙ is.none_withdrawn;
     last_there = omega (arith, there, as_many z script w now given gave is.playing t.playing);
     following = λ so. following_taken z script w given client passed last is.playing first there (is.following (next so).0) now later handed (next so).1 t.offered t.told_before t.told t.steps;
     setting_up = set_up_taken z script w given client is.playing first there its handed now gave t is.setting_up;
-    waking = waking_turn z script (behind_offer z script w given client) now given client handed t.offered t.told_before t.told first
-        (subst (λ n. client ≤ n) (sym (as_many z script w (behind_offer z script w given client) given given is.playing t.offered)) there)
+    waking = waking_turn z script (after_offer z script w given client) now given client handed t.offered t.told_before t.told first
+        (subst (λ n. client ≤ n) (sym (as_many z script w (after_offer z script w given client) given given is.playing t.offered)) there)
         (waking_offer z script w given client is.playing first there is.waking) t.steps;
     none_waits = is.none_waits;
   }
@@ -187,20 +187,20 @@ module _ (z : Setting) (script : Script) (w : WorldView) (given : List (List ℕ
     none_waits = is.none_waits;
   })
     where
-      following : IsFollowing z script w passed last → (now ≡ w) ⊎ (now ≡ happened w) ⊎ (IsPlaying z.iface script (behind_offer z script w given client).history (behind_offer z script w given client).seats given × WantsMemory z (behind_offer z script w given client) client now)
+      following : IsFollowing z script w passed last → (now ≡ w) ⊎ (now ≡ happened w) ⊎ (IsPlaying z.iface script (after_offer z script w given client).history (after_offer z script w given client).seats given × LackedMemory z (after_offer z script w given client) client now)
           → IsFollowing z script now passed last
       following f (inl same) = subst (λ x. IsFollowing z script x passed last) (sym same) f
       following f (inr (inl same)) = subst (λ x. IsFollowing z script x passed last) (sym same) (following_happened z script w passed last f)
-      following f (inr (inr both)) = following_wanted z script (behind_offer z script w given client) now client passed last both.1 (following_offer z script w client passed last first there f)
+      following f (inr (inr both)) = following_wanted z script (after_offer z script w given client) now client passed last both.1 (following_offer z script w client passed last first there f)
 
-      waking : (now ≡ w) ⊎ (now ≡ happened w) ⊎ (IsPlaying z.iface script (behind_offer z script w given client).history (behind_offer z script w given client).seats given × WantsMemory z (behind_offer z script w given client) client now)
+      waking : (now ≡ w) ⊎ (now ≡ happened w) ⊎ (IsPlaying z.iface script (after_offer z script w given client).history (after_offer z script w given client).seats given × LackedMemory z (after_offer z script w given client) client now)
           → IsWaking z now
       waking (inl same) = subst (IsWaking z) (sym same) is.waking
       waking (inr (inl same)) = subst (IsWaking z) (sym same) (waking_happened z w is.waking)
-      waking (inr (inr both)) = waking_wanted z (behind_offer z script w given client) now client both.1 (waking_offer z script w given client is.playing first there is.waking)
+      waking (inr (inr both)) = waking_wanted z (after_offer z script w given client) now client both.1 (waking_offer z script w given client is.playing first there is.waking)
 
-      by : (now ≡ w) ⊎ (now ≡ happened w) ⊎ (IsPlaying z.iface script (behind_offer z script w given client).history (behind_offer z script w given client).seats given × WantsMemory z (behind_offer z script w given client) client now)
+      by : (now ≡ w) ⊎ (now ≡ happened w) ⊎ (IsPlaying z.iface script (after_offer z script w given client).history (after_offer z script w given client).seats given × LackedMemory z (after_offer z script w given client) client now)
           → now.withdrawn ≡ w.withdrawn
       by (inl same) = ap (λ x. x.withdrawn) same
       by (inr (inl same)) = ap (λ x. x.withdrawn) same
-      by (inr (inr both)) = withdrawn_wanted z (behind_offer z script w given client) client now both.1 ∙ none_offered z.iface.facts script w client
+      by (inr (inr both)) = withdrawn_wanted z (after_offer z script w given client) client now both.1 ∙ none_offered z.iface.facts script w client

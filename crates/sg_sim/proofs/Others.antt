@@ -13,7 +13,7 @@ use Rattle.sg_facts.specs.sg_base.declared.call.Call.{Call}
 use Rattle.sg_facts.specs.sg_base.declared.reply.Reply.{Reply}
 use Rattle.sg_play.proofs.sg_plain.Playing.Calling.{its_client}
 use Rattle.sg_play.proofs.sg_plain.sg_clients.Lines.{length_map, length_set, seat_here, seat_there, seat_woken}
-use Rattle.sg_play.specs.Turning.{StepsInTurn, behind_step, handed_by, with_call, with_leaving, with_offer}
+use Rattle.sg_play.specs.Turning.{StepsInTurn, after_step, handed_by, with_call, with_leaving, with_offer}
 use Rattle.sg_play.specs.sg_hist.Clients.{calls_of}
 use Rattle.sg_play.specs.sg_plain.Calls.{call_after, script_calls}
 use Rattle.sg_play.specs.sg_plain.Playing.Callers.{handed, is_setting_up}
@@ -28,10 +28,10 @@ use Rattle.sg_play.specs.sg_clients.declared.phase.Phase.{Phase}
 use Rattle.sg_play.specs.sg_clients.declared.phase.Phase.TheVariants.{Asked, Blocked, Held, Idle, Left, Receipted}
 use Rattle.sg_play.specs.sg_world.declared.did.Did.{Did}
 use Rattle.sg_play.specs.sg_world.declared.did.Did.TheVariants.{Answered, Blocked as Waits, Booted, Loaded, Lost, Replayed, Served, Skipped, Struck}
-use Rattle.sg_play.specs.sg_world.Steps.{Commits, HasStepped, Steps, WantsMemory}
+use Rattle.sg_play.specs.sg_world.Steps.{Commits, HasStepped, Steps, LackedMemory}
 use Rattle.sg_play.specs.sg_world_laws.Setting.{Setting}
 use Rattle.sg_sim.proofs.Beginning.{clients_from_one, given_count}
-use Rattle.sg_sim.specs.Inside.Taken.{MissesTurn, TakesTurn, behind_offer}
+use Rattle.sg_sim.specs.Inside.Taken.{MissesTurn, TakesTurn, after_offer}
 use Rattle.sg_sim.specs.Playing.{HasMissed}
 
 -- each client but one keeps its seat, unless it waits
@@ -142,29 +142,29 @@ others_left script w c first = by (nat_lt (seat_of w c).seq (length (script_call
     by true = keep_same c w.seats
     by false = left w c first
 
-others_behind : (script : Script) (c : ℕ) (did : Did) (later : WorldView) → 1 ≤ c → OthersKeep c later.seats (behind_step script c did later).seats
-others_behind script c Skipped later first = keep_same c later.seats
-others_behind script c (Answered reply) later first = others_left script later c first
-others_behind script c Lost later first = keep_same c later.seats
-others_behind script c Booted later first = keep_same c later.seats
-others_behind script c Struck later first = keep_same c later.seats
-others_behind script c Replayed later first = keep_same c later.seats
-others_behind script c Loaded later first = keep_same c later.seats
-others_behind script c Waits later first = keep_same c later.seats
-others_behind script c Served later first = keep_same c later.seats
+others_after : (script : Script) (c : ℕ) (did : Did) (later : WorldView) → 1 ≤ c → OthersKeep c later.seats (after_step script c did later).seats
+others_after script c Skipped later first = keep_same c later.seats
+others_after script c (Answered reply) later first = others_left script later c first
+others_after script c Lost later first = keep_same c later.seats
+others_after script c Booted later first = keep_same c later.seats
+others_after script c Struck later first = keep_same c later.seats
+others_after script c Replayed later first = keep_same c later.seats
+others_after script c Loaded later first = keep_same c later.seats
+others_after script c Waits later first = keep_same c later.seats
+others_after script c Served later first = keep_same c later.seats
 
 -- ---- a turn
 
 module _ (z : Setting) (script : Script) (w : WorldView) (given : List (List ℕ)) (c : ℕ) (first : 1 ≤ c) where
   abbrev x : WorldView
-  x = behind_offer z script w given c
+  x = after_offer z script w given c
 
   others_turned : (handed : Option ℕ) (now : WorldView) → c ≤ length x.seats → IsPlaying z.iface script x.history x.seats given → StepsInTurn z script x c handed now → OthersKeep c x.seats now.seats
   others_turned handed now last is t =
       let its : is_offered (seat_of x c).phase ≡ true → (seat_of x c).call.client ≡ c
       = λ offers. its_client z.iface.facts script x.history c (length (calls_of x.history c)) (seat_of x c).call ((is.callers.each c first last).next offers) in
       let stepped = keep_by c x.seats _ t.later.seats (ap (λ v. v.seats) t.stepped.counted) (others_step z x c first its t.did t.stepped.later t.stepped.steps) in
-      keep_by c x.seats _ now.seats (ap (λ v. v.seats) t.is) (keep_then c x.seats t.later.seats _ stepped (others_behind script c t.did t.later first))
+      keep_by c x.seats _ now.seats (ap (λ v. v.seats) t.is) (keep_then c x.seats t.later.seats _ stepped (others_after script c t.did t.later first))
 
   pub others_taken : (handed : Option ℕ) (now : WorldView) (later : List (List ℕ)) → IsPlaying z.iface script w.history w.seats given → c ≤ length w.seats → TakesTurn z script w given c handed now later
       → OthersKeep c w.seats now.seats
@@ -175,7 +175,7 @@ module _ (z : Setting) (script : Script) (w : WorldView) (given : List (List ℕ
   pub others_missed : (now : WorldView) (later : List (List ℕ)) → MissesTurn z script w given c now later → OthersKeep c w.seats now.seats
   others_missed now later m = by m.missed
     where
-      by : (now ≡ w) ⊎ (now ≡ happened w) ⊎ (IsPlaying z.iface script x.history x.seats given × WantsMemory z x c now) → OthersKeep c w.seats now.seats
+      by : (now ≡ w) ⊎ (now ≡ happened w) ⊎ (IsPlaying z.iface script x.history x.seats given × LackedMemory z x c now) → OthersKeep c w.seats now.seats
       by (inl is) = keep_by c w.seats w.seats now.seats (ap (λ v. v.seats) is) (keep_same c w.seats)
       by (inr (inl is)) = keep_by c w.seats w.seats now.seats (ap (λ v. v.seats) is) (keep_same c w.seats)
       by (inr (inr both)) = keep_by c w.seats x.seats now.seats (ap (λ v. v.seats) both.1.counted) (others_offered z.iface.facts script w c first)
@@ -276,7 +276,7 @@ free_left script w c first last idle = by (nat_lt (seat_of w c).seq (length (scr
     by false = free_gone w c first last idle
 
 module _ (z : Setting) (script : Script) (w : WorldView) (c : ℕ) (first : 1 ≤ c) (last : c ≤ length w.seats) (its : is_offered (seat_of w c).phase ≡ true → (seat_of w c).call.client ≡ c) where
-  free_told : (id : ℕ) (did : Did) (later now : WorldView) → HasStepped z w c did later → Some id ≡ handed_by did → now ≡ behind_step script c did later → is_free_phase (seat_of now c).phase ≡ true
+  free_told : (id : ℕ) (did : Did) (later now : WorldView) → HasStepped z w c did later → Some id ≡ handed_by did → now ≡ after_step script c did later → is_free_phase (seat_of now c).phase ≡ true
   free_told id (Answered reply) later now stepped told is =
       let there = idle_answered z w c first last its reply stepped.later stepped.steps in
       let clients : length later.seats ≡ length w.seats = ap (λ v. length v.seats) stepped.counted ∙ there.clients in
@@ -297,7 +297,7 @@ on_and_done a b n same on done = grind (arith, nat_tests)
 
 module _ (z : Setting) (script : Script) (w : WorldView) (given : List (List ℕ)) (c : ℕ) (first : 1 ≤ c) (last : c ≤ length w.seats) (was : IsPlaying z.iface script w.history w.seats given) where
   abbrev y : WorldView
-  y = behind_offer z script w given c
+  y = after_offer z script w given c
 
   -- where nothing was handed over the setup goes on
   none_given : (now : WorldView) → IsPlaying z.iface script now.history now.seats given → is_setting_up script w.seats ≡ true → is_setting_up script now.seats ≡ false → ⊥
@@ -326,7 +326,7 @@ module _ (z : Setting) (script : Script) (w : WorldView) (given : List (List ℕ
 pub has_missed : (z : Setting) (script : Script) (w : WorldView) (given : List (List ℕ)) (c : ℕ) (now : WorldView) (gave : List (List ℕ)) → MissesTurn z script w given c now gave → HasMissed z script w c now
 has_missed z script w given c now gave m = by m.missed
   where
-    by : (now ≡ w) ⊎ (now ≡ happened w) ⊎ (IsPlaying z.iface script (behind_offer z script w given c).history (behind_offer z script w given c).seats given × WantsMemory z (behind_offer z script w given c) c now)
+    by : (now ≡ w) ⊎ (now ≡ happened w) ⊎ (IsPlaying z.iface script (after_offer z script w given c).history (after_offer z script w given c).seats given × LackedMemory z (after_offer z script w given c) c now)
         → HasMissed z script w c now
     by (inl is) = inl is
     by (inr (inl is)) = inr (inl is)

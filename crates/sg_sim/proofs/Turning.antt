@@ -3,13 +3,13 @@ use Rattle.std.proofs.Common.{◌≡◌, ◌⊎◌, inl, inr, ℕ, zero, suc, �
 use Rattle.std.specs.Prelude.{slice_get}
 use Rattle.std.proofs.lemmas.Bool.{cases_lt}
 use Rattle.sg_play.proofs.Following.Turns.{turns_alike}
-use Rattle.sg_play.proofs.Following.Whose.{next_around, next_behind, scheduled_turn}
+use Rattle.sg_play.proofs.Following.Whose.{next_around, next_after, scheduled_turn}
 use Rattle.sg_play.specs.Following.Stages.{IsNextTurn}
 use Rattle.sg_facts.specs.Interface.{Declared}
 use Rattle.sg_play.specs.sg_plain.Playing.Callers.{is_setting_up}
 use Rattle.sg_play.specs.sg_plain.Playing.Plays.{IsPlaying}
 use Rattle.sg_play.specs.sg_plain.Playing.Turns.{NobodyGoes}
-use Rattle.sg_sim.specs.Inside.Next.{IsFirstBehind, NoneBehind, NoneScheduled, may_go_next, stage_now}
+use Rattle.sg_sim.specs.Inside.Next.{IsFirstAfter, NoneAfter, NoneScheduled, may_go_next, stage_now}
 use Rattle.sg_sim.specs.Playing.{Playing}
 
 there_below : (xs : List ℕ) (k x : ℕ) → slice_get xs k ≡ Some x → k < length xs
@@ -35,14 +35,14 @@ module _ (p : Playing) (over : is_setting_up p.script p.view.seats ≡ false) wh
     all_scheduled : (k other : ℕ) → p.passed ≤ k → slice_get p.script.schedule k ≡ Some other → may_go_next p other ≡ false
     all_scheduled k other from there = none k other from (there_below p.script.schedule k other there) there
 
-    pub from_behind : (client : ℕ) → IsFirstBehind p p.last (length p.view.seats) client → IsNextTurn p.script (stage_now p) client (length p.script.schedule)
-    from_behind client f = next_behind p.script p.view p.passed p.last over all_scheduled client f.above f.within f.may f.before
+    pub from_after : (client : ℕ) → IsFirstAfter p p.last (length p.view.seats) client → IsNextTurn p.script (stage_now p) client (length p.script.schedule)
+    from_after client f = next_after p.script p.view p.passed p.last over all_scheduled client f.above f.within f.may f.before
 
-    pub from_around : NoneBehind p p.last (length p.view.seats) → (client : ℕ) → IsFirstBehind p 0 p.last client → IsNextTurn p.script (stage_now p) client (length p.script.schedule)
-    from_around none_behind client f = next_around p.script p.view p.passed p.last over all_scheduled none_behind client (omega (arith, f.above)) f.within f.may (λ other first. f.before other (omega (arith, first)))
+    pub from_around : NoneAfter p p.last (length p.view.seats) → (client : ℕ) → IsFirstAfter p 0 p.last client → IsNextTurn p.script (stage_now p) client (length p.script.schedule)
+    from_around none_later client f = next_around p.script p.view p.passed p.last over all_scheduled none_later client (omega (arith, f.above)) f.within f.may (λ other first. f.before other (omega (arith, first)))
 
 -- nobody may
-pub nobody : (i : Declared) (p : Playing) (given : List (List ℕ)) → IsPlaying i p.script p.view.history p.view.seats given → NoneBehind p p.last (length p.view.seats) → NoneBehind p 0 p.last → NobodyGoes p.script p.view.seats
+pub nobody : (i : Declared) (p : Playing) (given : List (List ℕ)) → IsPlaying i p.script p.view.history p.view.seats given → NoneAfter p p.last (length p.view.seats) → NoneAfter p 0 p.last → NobodyGoes p.script p.view.seats
 nobody i p given is behind around client first last = sym (turns_alike i p.script p.view given is p.passed p.last client first last) ∙ by (cases_lt p.last client)
   where
     by : (p.last < client) ⊎ (client ≤ p.last) → may_go_next p client ≡ false

@@ -19,8 +19,8 @@ module _ (z : Setting) (script : Script) where
   turns_join (c ∷ clients) others w now later turns more = (turns.0, turns.1, turns_join clients others turns.0 now later turns.2 more)
 
   -- turns, and turns after them
-  pub ends_behind : (w now : WorldView) (ended : Ended) → ComesTo z script w now → EndsAs z script now ended → EndsAs z script w ended
-  ends_behind w now ended comes ends = record {
+  pub ends_after : (w now : WorldView) (ended : Ended) → ComesTo z script w now → EndsAs z script now ended → EndsAs z script w ended
+  ends_after w now ended comes ends = record {
     last = ends.last;
     turns = (comes.0 ++ ends.turns.0, turns_join comes.0 ends.turns.0 w now ends.last comes.1 ends.turns.1);
     its = ends.its;

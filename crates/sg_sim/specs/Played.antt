@@ -11,8 +11,9 @@ use Rattle.sg_play.specs.sg_hist.Recovered.{Stubs, struck_in}
 use Rattle.sg_play.specs.sg_hist.Ending.{HasRecovered}
 use Rattle.sg_play.specs.sg_plain.Calls.{AreEnds, callers}
 use Rattle.sg_play.specs.sg_plain.OneService.{one_service, workload_of}
-use Rattle.sg_play.specs.sg_plain.Plain.{IsPlay}
+use Rattle.sg_play.specs.sg_plain.Plain.{IsPlay, first_stage}
 use Rattle.sg_play.specs.sg_plain.Promises.{AreScriptsCalls, AreWoken, FollowsPlain, IsSetupFirst}
+use Rattle.sg_play.specs.Asked.{AsksPlain, asked_from}
 use Rattle.sg_play.specs.sg_script.declared.script.Script.{Script}
 use Rattle.sg_play.specs.sg_clients.WorldView.{WorldView}
 
@@ -21,11 +22,12 @@ abbrev pub IsOfWorld : WorldView → Ended → Type 0
 IsOfWorld w ended = (ended.history.items ≡ w.history) × (run_of ended.trace ≡ w.run)
 
 -- the play of the script without stops ends; up to the last visible entry of the first boot the history is its, and wholly so where
--- nothing stopped, or where client 1 alone has calls
+-- nothing stopped, or where client 1 alone has calls; and what the first boot was asked is what it asks, in its order
 pub record FollowsSchedule (i : Declared) (ask : Table) (script : Script) (run : Run) (history : List Entry) : Type 0 where
   pub plain : List Entry
   pub is_plain : IsPlay (one_service i ask script) (workload_of script) plain
   pub follows : FollowsPlain i.facts run history plain
+  pub asks : AsksPlain run (asked_from (one_service i ask script) (workload_of script) (first_stage (workload_of script)) is_plain.turns)
   pub alone : list_all (λ c. c == 1) (callers script) ≡ true → history ≡ plain
 
 -- a play came to this end, where its stops' test is told of the points asked, of those at which the service stopped, and of a plan

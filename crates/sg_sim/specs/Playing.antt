@@ -8,7 +8,7 @@ use Rattle.sg_play.specs.sg_plain.Calls.{most_client}
 use Rattle.sg_play.specs.sg_plain.Playing.Turns.{may_take_turn}
 use Rattle.sg_play.specs.sg_script.declared.script.Script.{Script}
 use Rattle.sg_play.specs.sg_clients.WorldView.{WorldView, happened, new_world, no_seat, seat_of}
-use Rattle.sg_play.specs.sg_world.Steps.{WantsMemory}
+use Rattle.sg_play.specs.sg_world.Steps.{LackedMemory}
 use Rattle.sg_play.specs.sg_world_laws.Setting.{Setting}
 use Rattle.sg_sim.specs.Played.{IsOfWorld}
 
@@ -30,7 +30,7 @@ can_step p client = nat_le 1 client && nat_le client (length p.view.seats) && ma
 -- a client missed its turn for want of memory: nothing was done, its offer counts as an event and no more, or it offered its call and
 -- its step wanted memory
 abbrev pub HasMissed : Setting → Script → WorldView → ℕ → WorldView → Type 0
-HasMissed z script w client now = (now ≡ w) ⊎ (now ≡ happened w) ⊎ WantsMemory z (with_offer z.iface.facts script w client) client now
+HasMissed z script w client now = (now ≡ w) ⊎ (now ≡ happened w) ⊎ LackedMemory z (with_offer z.iface.facts script w client) client now
 
 -- ---- turns
 

@@ -11,7 +11,7 @@ ghost use Rattle.sg_play.specs.sg_plain.Calls.{script_calls};
 ghost use Rattle.sg_play.specs.Turning.{StepsInTurn, with_offer};
 ghost use Rattle.sg_play.specs.Following.Stages.{IsNextTurn};
 ghost use Rattle.sg_play.specs.GoingOn.{MayGoOn};
-ghost use Rattle.sg_sim.specs.Inside.Next.{IsFirstBehind, NoneBehind, NoneScheduled, may_go_next, stage_now};
+ghost use Rattle.sg_sim.specs.Inside.Next.{IsFirstAfter, NoneAfter, NoneScheduled, may_go_next, stage_now};
 ghost use Rattle.sg_play.specs.sg_clients.WorldView.{is_blocked_phase, seat_of};
 ghost use Rattle.sg_sim.specs.Played.{FollowsSchedule, IsOfWorld, IsPlayed};
 ghost use Rattle.sg_sim.specs.Playing.{ComesTo, EndsAs, HasMissed, IsTurnOf, can_step, new_of};
@@ -398,20 +398,20 @@ impl<S: Service, T: Stops> Play<S, T> {
         ensures over { result ≡ None → NobodyGoes self.now.script self.now.view.seats }
     {
         let passed = self.script.schedule.len();
-        if let Some(client) = self.next_behind(self.last, self.clients()) {
+        if let Some(client) = self.next_after(self.last, self.clients()) {
             return Some(NextTurn { client, passed });
         }
-        match self.next_behind(0, self.last) {
+        match self.next_after(0, self.last) {
             Some(client) => Some(NextTurn { client, passed }),
             None => None,
         }
     }
 
     // The first client after one, and up to another, that can take a turn.
-    fn next_behind(&self, behind: u8, last: u8) -> Option<u8>
+    fn next_after(&self, behind: u8, last: u8) -> Option<u8>
         requires { last ≤ length self.now.view.seats }
-        ensures some { IfSome result (IsFirstBehind self.now behind last) }
-        ensures none { result ≡ None → NoneBehind self.now behind last }
+        ensures some { IfSome result (IsFirstAfter self.now behind last) }
+        ensures none { result ≡ None → NoneAfter self.now behind last }
     {
         'clients: for before in behind..last {
             if self.can_go(before + 1) {

@@ -145,9 +145,9 @@ module _ (major minor : Row → ℕ) where
     first_from a rows = fold sooner a (filter test rows)
 
     -- the row that it begins with isn't before it
-    not_behind : (a : Row) (rows : List Row) → before a (first_from a rows) ≡ false
-    not_behind a [] = before_itself a
-    not_behind a (x ∷ rows) = at (test x) (not_behind (sooner a x) rows) (not_behind a rows)
+    not_after : (a : Row) (rows : List Row) → before a (first_from a rows) ≡ false
+    not_after a [] = before_itself a
+    not_after a (x ∷ rows) = at (test x) (not_after (sooner a x) rows) (not_after a rows)
       where
         at : (b : Bool) → before (sooner a x) (first_from (sooner a x) rows) ≡ false → before a (first_from a rows) ≡ false
             → before a (fold sooner a (cond b (x ∷ filter test rows) (filter test rows))) ≡ false
@@ -155,10 +155,10 @@ module _ (major minor : Row → ℕ) where
         at false further rest = rest
 
     -- no row that passes is before it
-    none_behind : (a : Row) (rows : List Row) (id : ℕ) (s : Row) → row_at rows id ≡ Some s → test s ≡ true → before s (first_from a rows) ≡ false
-    none_behind a [] id s there passes = absurd (cc there)
-    none_behind a (x ∷ rows) id s there passes =
-        at (test x) (x.id == id) refl there (not_behind (sooner a x) rows) (none_behind (sooner a x) rows id s) (none_behind a rows id s)
+    none_later : (a : Row) (rows : List Row) (id : ℕ) (s : Row) → row_at rows id ≡ Some s → test s ≡ true → before s (first_from a rows) ≡ false
+    none_later a [] id s there passes = absurd (cc there)
+    none_later a (x ∷ rows) id s there passes =
+        at (test x) (x.id == id) refl there (not_after (sooner a x) rows) (none_later (sooner a x) rows id s) (none_later a rows id s)
       where
         at : (b c : Bool) → test x ≡ b → cond c (Some x) (row_at rows id) ≡ Some s → before (sooner a x) (first_from (sooner a x) rows) ≡ false
             → (row_at rows id ≡ Some s → test s ≡ true → before s (first_from (sooner a x) rows) ≡ false)
@@ -215,10 +215,10 @@ module _ (major minor : Row → ℕ) where
         at true true was is there rest =
             let one : first_from x rows ≡ m = cc is in
             let two : x ≡ s = cc there in
-            subst (λ y. before s y ≡ false) one (subst (λ y. before y (first_from x rows) ≡ false) two (not_behind x rows))
+            subst (λ y. before s y ≡ false) one (subst (λ y. before y (first_from x rows) ≡ false) two (not_after x rows))
         at true false was is there rest =
             let one : first_from x rows ≡ m = cc is in
-            subst (λ y. before s y ≡ false) one (none_behind x rows id s there passes)
+            subst (λ y. before s y ≡ false) one (none_later x rows id s there passes)
         at false true was is there rest =
             let two : x ≡ s = cc there in
             absurd (both (sym passes ∙ sym (ap test two) ∙ was))

@@ -22,8 +22,8 @@ use Rattle.sg_slots.proofs.Firsts.{by_same, by_more, sides}
 -- ---- the order of keys
 
 -- one number of two keys, and what is left
-not_behind : (a b : ℕ) (o : Ordering) (further : Bool) → is_gt (ordering_then (nat_cmp a b) o) ≡ false → (is_gt o ≡ false → further ≡ false) → by b a further ≡ false
-not_behind a b o further is then = elim (sides a b) [
+not_after : (a b : ℕ) (o : Ordering) (further : Bool) → is_gt (ordering_then (nat_cmp a b) o) ≡ false → (is_gt o ≡ false → further ≡ false) → by b a further ≡ false
+not_after a b o further is then = elim (sides a b) [
   | inl less ↦ by_more b a further less
   | inr (inl same) ↦
       let even : nat_cmp a b ≡ Equal = sym (nat_cmp_is a b Equal same) in
@@ -49,9 +49,9 @@ abbrev pub key_at : ℕ → Standing → Key
 key_at id s = record { first = s.first; second = s.second; id = id }
 
 -- what hasn't a less key doesn't go before
-goes_behind : (m n : ℕ) (s t : Standing) → is_gt (key_cmp (key_at m s) (key_at n t)) ≡ false → stands_before t n s m ≡ false
-goes_behind m n s t is =
-    not_behind s.first t.first _ _ is (λ is. not_behind s.second t.second _ _ is (λ is. last_number m n is))
+goes_after : (m n : ℕ) (s t : Standing) → is_gt (key_cmp (key_at m s) (key_at n t)) ≡ false → stands_before t n s m ≡ false
+goes_after m n s t is =
+    not_after s.first t.first _ _ is (λ is. not_after s.second t.second _ _ is (λ is. last_number m n is))
 
 -- what hasn't a greater key has no greater first number
 no_greater : (k q : Key) → is_lt (key_cmp k q) ≡ false → q.first ≤ k.first
@@ -128,7 +128,7 @@ module _ {E : Type 0} (order : E → Option Standing) (es : List (ℕ × E)) (ke
         there = mine.there;
         standing = mine.standing;
         stands = mine.is;
-        first = λ n e s there stands. goes_behind k.id n mine.standing s (subst (λ x. is_gt (key_cmp x (key_at n s)) ≡ false) mine.key (least (key_at n s) (key_in n e s there stands)));
+        first = λ n e s there stands. goes_after k.id n mine.standing s (subst (λ x. is_gt (key_cmp x (key_at n s)) ≡ false) mine.key (least (key_at n s) (key_in n e s there stands)));
       }
 
   -- where there is no key no entry stands in the order

@@ -37,8 +37,8 @@ part_before old bytes at from len before within =
     ∙ sym (part_front (take at old) (drop at old) from len short) ∙ ap (λ l. buffer_part l from len) (take-append-drop at old)
 
 -- a part after what is written
-pub part_behind : (old bytes : List ℕ) (at from len : ℕ) → at + length bytes ≤ from → at ≤ length old → buffer_part (over old at bytes) from len ≡ buffer_part old from len
-part_behind old bytes at from len behind within =
+pub part_after : (old bytes : List ℕ) (at from len : ℕ) → at + length bytes ≤ from → at ≤ length old → buffer_part (over old at bytes) from len ≡ buffer_part old from len
+part_after old bytes at from len behind within =
     let m = from - (at + length bytes) in
     let is : at + length bytes + m ≡ from = omega arith in
     ap (take len) (

@@ -11,7 +11,7 @@ use Rattle.sg_store.specs.Spans.{Filed, FitsPatch, GrowsTwice, HasRoomIn, IsApar
 use Rattle.sg_store.specs.Inside.Buffers.{IsFrontOf, HasCopy}
 use Rattle.sg_store.specs.Inside.Places.{AreSpans, IsInBuffer}
 use Rattle.sg_store.proofs.Paths.{told, two_paths}
-use Rattle.sg_store.proofs.Parts.{length_over, part_before, part_behind, part_front, part_written}
+use Rattle.sg_store.proofs.Parts.{length_over, part_before, part_after, part_front, part_written}
 
 -- a path gets a span, and all others keep theirs
 abbrev pub IsSet : List Span → List Span → List ℕ → Span → Type 0
@@ -180,7 +180,7 @@ module _ (buffer : List ℕ) (old spans : List Span) (p : Patch) (s written : Sp
           let w = own in
           let v = are.within k t is in
           elim (are.apart p.key k s t (λ same. other (sym same)) there is) [
-            | inl before ↦ part_behind buffer p.bytes (s.from + p.from) t.from t.len (omega (arith, before, fits.end)) (omega (arith, w.end, fits.end))
+            | inl before ↦ part_after buffer p.bytes (s.from + p.from) t.from t.len (omega (arith, before, fits.end)) (omega (arith, w.end, fits.end))
             | inr behind ↦ part_before buffer p.bytes (s.from + p.from) t.from t.len (omega (arith, behind, v.len)) (omega (arith, w.end, fits.end))
           ]
 

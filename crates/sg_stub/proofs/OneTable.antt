@@ -26,31 +26,31 @@ here x xs = (0, omega arith, refl)
 behind : {X : Type 0} (x y : X) (xs : List X) → Contains xs y → Contains (x ∷ xs) y
 behind x y xs (k, within, is) = (suc k, omega (arith, within), is)
 
-first_or_behind : {X : Type 0} (x y : X) (xs : List X) → Contains (x ∷ xs) y → (y ≡ x) ⊎ Contains xs y
-first_or_behind x y xs (zero, within, is) = inl (sym is)
-first_or_behind x y xs (suc k, within, is) = inr (k, omega (arith, within), is)
+first_or_after : {X : Type 0} (x y : X) (xs : List X) → Contains (x ∷ xs) y → (y ≡ x) ⊎ Contains xs y
+first_or_after x y xs (zero, within, is) = inl (sym is)
+first_or_after x y xs (suc k, within, is) = inr (k, omega (arith, within), is)
 
 module _ {X : Type 0} (R : X → X → Ordering) (total : IsTotalOrder R) where
   not_back : (x y : X) → R x y ≡ Less → R y x ≡ Less → ⊥
   not_back x y is back = let turned : Less ≡ Greater = sym is ∙ total.antisymm x y ∙ ap ordering_reverse back in cc turned
 
-  pairs_behind : (x : X) (xs : List X) → AllPairs (λ a b. R a b ≡ Less) (x ∷ xs) → AllPairs (λ a b. R a b ≡ Less) xs
-  pairs_behind x xs all i j d less within = all (suc i) (suc j) d (omega (arith, less)) (omega (arith, within))
+  pairs_after : (x : X) (xs : List X) → AllPairs (λ a b. R a b ≡ Less) (x ∷ xs) → AllPairs (λ a b. R a b ≡ Less) xs
+  pairs_after x xs all i j d less within = all (suc i) (suc j) d (omega (arith, less)) (omega (arith, within))
 
   first_less : (x y : X) (xs : List X) → AllPairs (λ a b. R a b ≡ Less) (x ∷ xs) → Contains xs y → R x y ≡ Less
   first_less x y xs all (k, within, is) = subst (λ z. R x z ≡ Less) is (all 0 (suc k) y (omega arith) (omega (arith, within)))
 
   same_first : (x y : X) (xs ys : List X) → AllPairs (λ a b. R a b ≡ Less) (x ∷ xs) → AllPairs (λ a b. R a b ≡ Less) (y ∷ ys) → Contains (y ∷ ys) x → Contains (x ∷ xs) y → x ≡ y
-  same_first x y xs ys one other to back = elim (first_or_behind y x ys to) [
+  same_first x y xs ys one other to back = elim (first_or_after y x ys to) [
     | inl same ↦ same
-    | inr later ↦ elim (first_or_behind x y xs back) [
+    | inr later ↦ elim (first_or_after x y xs back) [
       | inl same ↦ sym same
       | inr after ↦ absurd (not_back x y (first_less x y xs one after) (first_less y x ys other later))
     ]
   ]
 
   rest_in : (x y z : X) (xs ys : List X) → AllPairs (λ a b. R a b ≡ Less) (x ∷ xs) → x ≡ y → Contains (y ∷ ys) z → Contains xs z → Contains ys z
-  rest_in x y z xs ys all same in_other has = elim (first_or_behind y z ys in_other) [
+  rest_in x y z xs ys all same in_other has = elim (first_or_after y z ys in_other) [
     | inl is ↦ let itself : R x x ≡ Less = subst (λ w. R x w ≡ Less) (is ∙ sym same) (first_less x z xs all has) in absurd (not_back x x itself itself)
     | inr later ↦ later
   ]
@@ -63,7 +63,7 @@ module _ {X : Type 0} (R : X → X → Ordering) (total : IsTotalOrder R) where
   same_lists (x ∷ xs) (y ∷ ys) one other to back =
       let same : x ≡ y = same_first x y xs ys one other (to x (here x xs)) (back y (here y ys)) in
       ap (λ w. w ∷ xs) same
-      ∙ ap (λ l. y ∷ l) (same_lists xs ys (pairs_behind x xs one) (pairs_behind y ys other)
+      ∙ ap (λ l. y ∷ l) (same_lists xs ys (pairs_after x xs one) (pairs_after y ys other)
       (λ z has. rest_in x y z xs ys one same (to z (behind x z xs has)) has)
       (λ z has. rest_in y x z ys xs other (sym same) (back z (behind y z ys has)) has))
 

@@ -8,16 +8,17 @@ use Rattle.sg_multi.specs.declared.ended.MultiEnd.{MultiEnd}
 use Rattle.std.specs.Result.{IfOk, OnErr}
 use Rattle.std.specs.declared.result.Result.{Result}
 use Rattle.std.specs.declared.result.Result.TheVariants.{Ok, Err}
+use Rattle.sg_load.specs.declared.kind.ServiceKind.{ServiceKind}
 use Rattle.sg_top.specs.declared.command.Command.{Command}
 use Rattle.sg_top.specs.declared.output.Output.{Output}
 use Rattle.sg_top.specs.declared.output.Ran.{Ran}
 use Rattle.sg_top.specs.declared.output.Ran.TheVariants.{Nothing, One, Several}
 use Rattle.sg_top.specs.declared.command.Shows.{Shows}
-use Rattle.sg_top.specs.declared.command.Command.TheVariants.{Play, Check, Compile, Upgrade, Explain, Explore, Verify, Multi, Load}
+use Rattle.sg_top.specs.declared.command.Command.TheVariants.{Play, Run, Check, Compile, Upgrade, Explain, Explore, Verify, Multi, Load}
 use Rattle.sg_top.specs.declared.status.Status.{Status}
 use Rattle.sg_top.specs.declared.status.Status.TheVariants.{Done, Waits, OtherWords, Refused, ReadFault, WriteFault, NoMemory, Illegal}
 use Rattle.sg_load.specs.sg_plain.Inside.Kept.{somebody_waits}
-use Rattle.sg_top.specs.Answer.{Ends, HasRead, IsAnswer, IsMultiOutput, IsOutput, IsOwnOutput, IsRefusal, ReadsInput, ended_status, has_input, has_run, is_play, most_bytes, multi_status, too_long_output, IsPlayOutput}
+use Rattle.sg_top.specs.Answer.{Ends, HasRead, IsAnswer, IsMultiOutput, IsOutput, IsOwnOutput, IsRefusal, ReadsInput, ended_status, has_input, has_run, is_in_threads, is_play, most_bytes, multi_status, report_shown, too_long_output, IsPlayOutput}
 use Rattle.sg_top.specs.Inside.Pieces.{IsExploration, IsIllegal, SaysIllegal, SaysRefused, verdict_status}
 use Rattle.sg_verify.specs.declared.verdict.Verdict.{Verdict as Judgement}
 use Rattle.sg_verify.specs.declared.verdict.Verdict.TheVariants.{Legal, BadSeq, BadReply}
@@ -97,9 +98,12 @@ ends_good ends is = waits_good (somebody_waits ends) is
 -- an output of an input that is refused has its refusal, and no run came to its end
 refusal : (command : Command) (bytes : List ℕ) (ran : Ran) (status : Status) (output : List ℕ) → status ≡ Refused → length bytes ≤ most_bytes command
     → IsOutput command bytes ran status output → (ran ≡ Nothing) × IsRefusal command bytes output
-refusal (Play threads shows) bytes Nothing status output two short is = (refl, inl (short, is.1))
-refusal (Play threads shows) bytes (One e) status output two short is = absurd (ends_good e.ends (sym is.0 ∙ two))
-refusal (Play threads shows) bytes (Several came) status output two short is = absurd is
+refusal (Play shows) bytes Nothing status output two short is = (refl, inl (short, is.1))
+refusal (Run trace) bytes Nothing status output two short is = (refl, inl (short, is.1))
+refusal (Play shows) bytes (One e) status output two short is = absurd (ends_good e.ends (sym is.0 ∙ two))
+refusal (Run trace) bytes (One e) status output two short is = absurd (ends_good e.ends (sym is.0 ∙ two))
+refusal (Play shows) bytes (Several came) status output two short is = absurd is
+refusal (Run trace) bytes (Several came) status output two short is = absurd is
 refusal (Multi trace) bytes Nothing status output two short is = (refl, inl (short, is.1))
 refusal (Multi trace) bytes (One e) status output two short is = absurd is
 refusal (Multi trace) bytes (Several came) status output two short is = absurd (multi_good came.ends (sym is.0 ∙ two))
@@ -123,7 +127,8 @@ own_good (Load service number) (One e) status output own two = ends_good e.ends 
 own_good (Load service number) Nothing status output own two = own
 own_good (Load service number) (Several came) status output own two = own
 own_good (Multi trace) ran status output own two = own
-own_good (Play threads shows) ran status output own two = own
+own_good (Play shows) ran status output own two = own
+own_good (Run trace) ran status output own two = own
 own_good Check ran status output own two = own
 own_good Compile ran status output own two = own
 own_good Upgrade ran status output own two = own
@@ -142,7 +147,8 @@ own_is (Load service number) (One e) status output own = (by (ends_so e.ends), r
 own_is (Load service number) Nothing status output own = absurd own
 own_is (Load service number) (Several came) status output own = absurd own
 own_is (Multi trace) ran status output own = absurd own
-own_is (Play threads shows) ran status output own = absurd own
+own_is (Play shows) ran status output own = absurd own
+own_is (Run trace) ran status output own = absurd own
 own_is Check ran status output own = absurd own
 own_is Compile ran status output own = absurd own
 own_is Upgrade ran status output own = absurd own
@@ -189,7 +195,8 @@ multi_made bytes with_trace (Several came) status output is = by (multi_so came.
 
 output_status : (command : Command) (bytes : List ℕ) (ran : Ran) (status : Status) (output : List ℕ)
     → IsOutput command bytes ran status output → IsMade status
-output_status (Play threads shows) bytes ran status output is = played_status bytes threads shows ran status output is
+output_status (Play shows) bytes ran status output is = played_status bytes false shows ran status output is
+output_status (Run trace) bytes ran status output is = played_status bytes true (report_shown trace) ran status output is
 output_status (Multi trace) bytes ran status output is = multi_made bytes trace ran status output is
 output_status Check bytes ran status output (none, inl accepted) = inl accepted.0
 output_status Compile bytes ran status output (none, inl accepted) = inl accepted.0
@@ -238,7 +245,8 @@ multi_run bytes with_trace (Several came) status output good is = refl
 
 output_run : (command : Command) (bytes : List ℕ) (ran : Ran) (status : Status) (output : List ℕ) → (status ≡ Refused → ⊥) → is_play command ≡ true
     → IsOutput command bytes ran status output → has_run ran ≡ true
-output_run (Play threads shows) bytes ran status output good play is = played_run bytes threads shows ran status output good is
+output_run (Play shows) bytes ran status output good play is = played_run bytes false shows ran status output good is
+output_run (Run trace) bytes ran status output good play is = played_run bytes true (report_shown trace) ran status output good is
 output_run (Multi trace) bytes ran status output good play is = multi_run bytes trace ran status output good is
 output_run Check bytes ran status output good play is = absurd (cc play)
 output_run Compile bytes ran status output good play is = absurd (cc play)
@@ -266,7 +274,8 @@ no_run (Several came) none some = cc
 
 output_play : (command : Command) (bytes : List ℕ) (ran : Ran) (status : Status) (output : List ℕ)
     → IsOutput command bytes ran status output → has_run ran ≡ true → is_play command ≡ true
-output_play (Play threads shows) bytes ran status output is some = refl
+output_play (Play shows) bytes ran status output is some = refl
+output_play (Run trace) bytes ran status output is some = refl
 output_play (Multi trace) bytes ran status output is some = refl
 output_play Check bytes ran status output is some = absurd (no_run ran is.0 some)
 output_play Compile bytes ran status output is some = absurd (no_run ran is.0 some)
@@ -360,7 +369,8 @@ no_fault status wanted same (inr (inr (inr two))) = (λ is. cc (is, same, two), 
 
 -- a command without an input has no output for bytes
 no_output : (command : Command) (bytes : List ℕ) (ran : Ran) (status : Status) (output : List ℕ) → has_input command ≡ false → IsOutput command bytes ran status output → ⊥
-no_output (Play threads shows) bytes ran status output without is = cc without
+no_output (Play shows) bytes ran status output without is = cc without
+no_output (Run trace) bytes ran status output without is = cc without
 no_output (Multi trace) bytes ran status output without is = cc without
 no_output Check bytes ran status output without is = cc without
 no_output Compile bytes ran status output without is = cc without
@@ -566,14 +576,25 @@ said_reads said told told' command one is_said (inl (c, is, has, consumed)) = in
 said_reads said told told' command one is_said (inr (without, same)) = inr (λ c said_c. without c (one c command said_c is_said), same)
 
 -- each command but a load has an input
-pub with_input : (c : Command) → ((threads : Bool) × (shows : Shows) × (c ≡ Play threads shows)) ⊎ ((c ≡ Check) ⊎ ((c ≡ Compile) ⊎ ((c ≡ Upgrade) ⊎ ((c ≡ Explain) ⊎ ((c ≡ Verify) ⊎ ((trace : Bool) × (c ≡ Multi trace))))))) → has_input c ≡ true
-with_input c (inl (threads, shows, is)) = ap has_input is
+pub with_input : (c : Command) → ((shows : Shows) × (c ≡ Play shows)) ⊎ ((c ≡ Check) ⊎ ((c ≡ Compile) ⊎ ((c ≡ Upgrade) ⊎ ((c ≡ Explain) ⊎ ((c ≡ Verify) ⊎ ((trace : Bool) × (c ≡ Multi trace))))))) → has_input c ≡ true
+with_input c (inl (shows, is)) = ap has_input is
 with_input c (inr (inl is)) = ap has_input is
 with_input c (inr (inr (inl is))) = ap has_input is
 with_input c (inr (inr (inr (inl is)))) = ap has_input is
 with_input c (inr (inr (inr (inr (inl is))))) = ap has_input is
 with_input c (inr (inr (inr (inr (inr (inl is)))))) = ap has_input is
 with_input c (inr (inr (inr (inr (inr (inr (trace, is))))))) = ap has_input is
+
+-- those commands are done in one thread, and so is a load
+pub in_one_thread : (c : Command) → ((shows : Shows) × (c ≡ Play shows)) ⊎ ((c ≡ Check) ⊎ ((c ≡ Compile) ⊎ ((c ≡ Upgrade) ⊎ ((c ≡ Explain) ⊎ ((c ≡ Verify) ⊎ (((trace : Bool) × (c ≡ Multi trace)) ⊎ ((service : ServiceKind) × (number : ℕ) × (c ≡ Load service number)))))))) → is_in_threads c ≡ false
+in_one_thread c (inl (shows, is)) = ap is_in_threads is
+in_one_thread c (inr (inl is)) = ap is_in_threads is
+in_one_thread c (inr (inr (inl is))) = ap is_in_threads is
+in_one_thread c (inr (inr (inr (inl is)))) = ap is_in_threads is
+in_one_thread c (inr (inr (inr (inr (inl is))))) = ap is_in_threads is
+in_one_thread c (inr (inr (inr (inr (inr (inl is)))))) = ap is_in_threads is
+in_one_thread c (inr (inr (inr (inr (inr (inr (inl (trace, is)))))))) = ap is_in_threads is
+in_one_thread c (inr (inr (inr (inr (inr (inr (inr (service, number, is)))))))) = ap is_in_threads is
 
 -- ---- deliveries
 

@@ -12,8 +12,8 @@ use Rattle.sg_load.specs.declared.kind.ServiceKind.{ServiceKind}
 use Rattle.sg_input.specs.sg_lex.Table.{IsNumber}
 use Rattle.sg_input.specs.sg_script.Numbers.{value_of_digits}
 use Rattle.sg_top.specs.declared.command.Command.{Command}
-use Rattle.sg_top.specs.declared.command.Command.TheVariants.{Play, Check, Compile, Upgrade, Explain, Explore, Verify, Multi, Load}
-use Rattle.sg_top.specs.declared.command.Shows.TheVariants.{Run, Trace, Costs, Picture, Columns}
+use Rattle.sg_top.specs.declared.command.Command.TheVariants.{Play, Run, Check, Compile, Upgrade, Explain, Explore, Verify, Multi, Load}
+use Rattle.sg_top.specs.declared.command.Shows.TheVariants.{Report, Trace, Costs, Picture, Columns}
 use Rattle.sg_top.specs.Answer.{IsCommand, IsSerialCommand}
 use Rattle.sg_top.specs.Inside.Words.{AreBoundOf, AreDigitsOf, IsLoadOf, IsPairOf, IsWordOf}
 use Rattle.sg_top.proofs.EachKind.{called, kind_called}
@@ -22,11 +22,13 @@ use Rattle.sg_top.proofs.EachKind.{called, kind_called}
 
 -- the texts of a command, with these digits
 abbrev texts_of : Command → List ℕ → List (List ℕ)
-texts_of (Play threads Run) digits = (if threads then codes "run" else codes "sim") ∷ []
-texts_of (Play threads Trace) digits = (if threads then codes "run" else codes "sim") ∷ codes "trace" ∷ []
-texts_of (Play threads Costs) digits = codes "cost" ∷ []
-texts_of (Play threads Picture) digits = codes "draw" ∷ []
-texts_of (Play threads Columns) digits = codes "draw" ∷ codes "text" ∷ []
+texts_of (Play Report) digits = codes "sim" ∷ []
+texts_of (Run false) digits = codes "run" ∷ []
+texts_of (Play Trace) digits = codes "sim" ∷ codes "trace" ∷ []
+texts_of (Run true) digits = codes "run" ∷ codes "trace" ∷ []
+texts_of (Play Costs) digits = codes "cost" ∷ []
+texts_of (Play Picture) digits = codes "draw" ∷ []
+texts_of (Play Columns) digits = codes "draw" ∷ codes "text" ∷ []
 texts_of Check digits = codes "check" ∷ []
 texts_of Compile digits = codes "compile" ∷ []
 texts_of Upgrade digits = codes "upgrade" ∷ []
@@ -41,9 +43,6 @@ texts_of (Load service number) digits = codes "load" ∷ (facts_by service).name
 -- the digits fit the command
 abbrev Digits : Command → List ℕ → Type 0
 Digits (Load service number) digits = AreDigitsOf number digits
-Digits (Play true Costs) digits = ⊥
-Digits (Play true Picture) digits = ⊥
-Digits (Play true Columns) digits = ⊥
 Digits (Explore most) digits = value_of_digits digits ≡ most
 Digits _ digits = Unit {0}
 
@@ -54,16 +53,13 @@ says_bound texts most [] number value is = absurd number
 says_bound texts most (d ∷ digits) number value is = (d ∷ digits, value, is)
 
 says : (words : List (String Global)) (c : Command) → IsCommand words c → (digits : List ℕ) × Digits c digits × (map string_bytes words ≡ texts_of c digits)
-says words (Play false Run) is = ([], tt, is)
-says words (Play true Run) is = ([], tt, is)
-says words (Play false Trace) is = ([], tt, is)
-says words (Play true Trace) is = ([], tt, is)
-says words (Play false Costs) is = ([], tt, is)
-says words (Play true Costs) is = absurd is
-says words (Play false Picture) is = ([], tt, is)
-says words (Play true Picture) is = absurd is
-says words (Play false Columns) is = ([], tt, is)
-says words (Play true Columns) is = absurd is
+says words (Play Report) is = ([], tt, is)
+says words (Run false) is = ([], tt, is)
+says words (Play Trace) is = ([], tt, is)
+says words (Run true) is = ([], tt, is)
+says words (Play Costs) is = ([], tt, is)
+says words (Play Picture) is = ([], tt, is)
+says words (Play Columns) is = ([], tt, is)
 says words Check is = ([], tt, is)
 says words Compile is = ([], tt, is)
 says words Upgrade is = ([], tt, is)
@@ -88,22 +84,20 @@ command_in texts =
     else if bytes_eq (text_at 0 texts) (codes "explain") then Explain
     else if bytes_eq (text_at 0 texts) (codes "verify") then Verify
     else if bytes_eq (text_at 0 texts) (codes "multi") then Multi (length texts == 2)
-    else if bytes_eq (text_at 0 texts) (codes "cost") then Play false Costs
-    else if bytes_eq (text_at 0 texts) (codes "draw") then Play false (if length texts == 2 then Columns else Picture)
+    else if bytes_eq (text_at 0 texts) (codes "cost") then Play Costs
+    else if bytes_eq (text_at 0 texts) (codes "draw") then Play (if length texts == 2 then Columns else Picture)
     else if bytes_eq (text_at 0 texts) (codes "explore") then Explore (value_of_digits (text_at 1 texts))
-    else Play (bytes_eq (text_at 0 texts) (codes "run")) (if length texts == 2 then Trace else Run)
+    else if bytes_eq (text_at 0 texts) (codes "run") then Run (length texts == 2)
+    else Play (if length texts == 2 then Trace else Report)
 
 it_is : (c : Command) (digits : List ℕ) → Digits c digits → command_in (texts_of c digits) ≡ c
-it_is (Play false Run) digits fit = refl
-it_is (Play false Trace) digits fit = refl
-it_is (Play false Costs) digits fit = refl
-it_is (Play true Run) digits fit = refl
-it_is (Play true Trace) digits fit = refl
-it_is (Play true Costs) digits fit = absurd fit
-it_is (Play false Picture) digits fit = refl
-it_is (Play true Picture) digits fit = absurd fit
-it_is (Play false Columns) digits fit = refl
-it_is (Play true Columns) digits fit = absurd fit
+it_is (Play Report) digits fit = refl
+it_is (Play Trace) digits fit = refl
+it_is (Play Costs) digits fit = refl
+it_is (Run false) digits fit = refl
+it_is (Run true) digits fit = refl
+it_is (Play Picture) digits fit = refl
+it_is (Play Columns) digits fit = refl
 it_is Check digits fit = refl
 it_is Compile digits fit = refl
 it_is Upgrade digits fit = refl
@@ -137,11 +131,13 @@ pub count_is : (words : List (String Global)) (c : Command) → IsCommand words 
 count_is words c is = let u = says words c is in by c u.0 (sym (length-map words string_bytes) ∙ ap length u.2)
   where
     by : (c : Command) (digits : List ℕ) → length words ≡ length (texts_of c digits) → (1 ≤ length words) × (length words ≤ 3)
-    by (Play threads Run) digits l = (omega (arith, l), omega (arith, l))
-    by (Play threads Trace) digits l = (omega (arith, l), omega (arith, l))
-    by (Play threads Costs) digits l = (omega (arith, l), omega (arith, l))
-    by (Play threads Picture) digits l = (omega (arith, l), omega (arith, l))
-    by (Play threads Columns) digits l = (omega (arith, l), omega (arith, l))
+    by (Play Report) digits l = (omega (arith, l), omega (arith, l))
+    by (Run false) digits l = (omega (arith, l), omega (arith, l))
+    by (Play Trace) digits l = (omega (arith, l), omega (arith, l))
+    by (Run true) digits l = (omega (arith, l), omega (arith, l))
+    by (Play Costs) digits l = (omega (arith, l), omega (arith, l))
+    by (Play Picture) digits l = (omega (arith, l), omega (arith, l))
+    by (Play Columns) digits l = (omega (arith, l), omega (arith, l))
     by Check digits l = (omega (arith, l), omega (arith, l))
     by Compile digits l = (omega (arith, l), omega (arith, l))
     by Upgrade digits l = (omega (arith, l), omega (arith, l))
@@ -156,16 +152,13 @@ count_is words c is = let u = says words c is in by c u.0 (sym (length-map words
 -- ---- one word
 
 word_of : (word : String Global) (command : Command) → IsCommand (word ∷ []) command → IsWordOf (string_bytes word) command
-word_of word (Play false Run) is = ap (text_at 0) is
-word_of word (Play true Run) is = ap (text_at 0) is
-word_of word (Play false Trace) is = absurd (omega (arith, ap length is))
-word_of word (Play true Trace) is = absurd (omega (arith, ap length is))
-word_of word (Play false Costs) is = ap (text_at 0) is
-word_of word (Play true Costs) is = absurd is
-word_of word (Play false Picture) is = ap (text_at 0) is
-word_of word (Play true Picture) is = absurd is
-word_of word (Play false Columns) is = absurd (omega (arith, ap length is))
-word_of word (Play true Columns) is = absurd is
+word_of word (Play Report) is = ap (text_at 0) is
+word_of word (Run false) is = ap (text_at 0) is
+word_of word (Play Trace) is = absurd (omega (arith, ap length is))
+word_of word (Run true) is = absurd (omega (arith, ap length is))
+word_of word (Play Costs) is = ap (text_at 0) is
+word_of word (Play Picture) is = ap (text_at 0) is
+word_of word (Play Columns) is = absurd (omega (arith, ap length is))
 word_of word Check is = ap (text_at 0) is
 word_of word Compile is = ap (text_at 0) is
 word_of word Upgrade is = ap (text_at 0) is
@@ -178,16 +171,13 @@ word_of word (Multi true) is = absurd (omega (arith, ap length is))
 word_of word (Load s n) is = absurd (omega (arith, ap length is.2))
 
 of_word : (word : String Global) (command : Command) → IsWordOf (string_bytes word) command → IsCommand (word ∷ []) command
-of_word word (Play false Run) is = ap (λ t. t ∷ []) is
-of_word word (Play true Run) is = ap (λ t. t ∷ []) is
-of_word word (Play false Trace) is = absurd is
-of_word word (Play true Trace) is = absurd is
-of_word word (Play false Costs) is = ap (λ t. t ∷ []) is
-of_word word (Play true Costs) is = absurd is
-of_word word (Play false Picture) is = ap (λ t. t ∷ []) is
-of_word word (Play true Picture) is = absurd is
-of_word word (Play false Columns) is = absurd is
-of_word word (Play true Columns) is = absurd is
+of_word word (Play Report) is = ap (λ t. t ∷ []) is
+of_word word (Run false) is = ap (λ t. t ∷ []) is
+of_word word (Play Trace) is = absurd is
+of_word word (Run true) is = absurd is
+of_word word (Play Costs) is = ap (λ t. t ∷ []) is
+of_word word (Play Picture) is = ap (λ t. t ∷ []) is
+of_word word (Play Columns) is = absurd is
 of_word word Check is = ap (λ t. t ∷ []) is
 of_word word Compile is = ap (λ t. t ∷ []) is
 of_word word Upgrade is = ap (λ t. t ∷ []) is
@@ -221,16 +211,13 @@ two_of (w ∷ v ∷ []) word more second third is isn't = cc (is, isn't)
 two_of (w ∷ v ∷ u ∷ words) word more second third is isn't = absurd (omega (arith, third))
 
 pair_of : (word more : String Global) (command : Command) → IsCommand (word ∷ more ∷ []) command → IsPairOf (string_bytes word) (string_bytes more) command
-pair_of word more (Play false Run) is = absurd (omega (arith, ap length is))
-pair_of word more (Play true Run) is = absurd (omega (arith, ap length is))
-pair_of word more (Play false Trace) is = (ap (text_at 0) is, ap (text_at 1) is)
-pair_of word more (Play true Trace) is = (ap (text_at 0) is, ap (text_at 1) is)
-pair_of word more (Play false Costs) is = absurd (omega (arith, ap length is))
-pair_of word more (Play true Costs) is = absurd is
-pair_of word more (Play false Picture) is = absurd (omega (arith, ap length is))
-pair_of word more (Play true Picture) is = absurd is
-pair_of word more (Play false Columns) is = (ap (text_at 0) is, ap (text_at 1) is)
-pair_of word more (Play true Columns) is = absurd is
+pair_of word more (Play Report) is = absurd (omega (arith, ap length is))
+pair_of word more (Run false) is = absurd (omega (arith, ap length is))
+pair_of word more (Play Trace) is = (ap (text_at 0) is, ap (text_at 1) is)
+pair_of word more (Run true) is = (ap (text_at 0) is, ap (text_at 1) is)
+pair_of word more (Play Costs) is = absurd (omega (arith, ap length is))
+pair_of word more (Play Picture) is = absurd (omega (arith, ap length is))
+pair_of word more (Play Columns) is = (ap (text_at 0) is, ap (text_at 1) is)
 pair_of word more Check is = absurd (omega (arith, ap length is))
 pair_of word more Compile is = absurd (omega (arith, ap length is))
 pair_of word more Upgrade is = absurd (omega (arith, ap length is))
@@ -243,16 +230,13 @@ pair_of word more (Multi true) is = (ap (text_at 0) is, ap (text_at 1) is)
 pair_of word more (Load s n) is = absurd (omega (arith, ap length is.2))
 
 of_pair : (word more : String Global) (command : Command) → IsPairOf (string_bytes word) (string_bytes more) command → IsCommand (word ∷ more ∷ []) command
-of_pair word more (Play false Run) is = absurd is
-of_pair word more (Play true Run) is = absurd is
-of_pair word more (Play false Trace) is = cc (is.0, is.1)
-of_pair word more (Play true Trace) is = cc (is.0, is.1)
-of_pair word more (Play false Costs) is = absurd is
-of_pair word more (Play true Costs) is = absurd is
-of_pair word more (Play false Picture) is = absurd is
-of_pair word more (Play true Picture) is = absurd is
-of_pair word more (Play false Columns) is = cc (is.0, is.1)
-of_pair word more (Play true Columns) is = absurd is
+of_pair word more (Play Report) is = absurd is
+of_pair word more (Run false) is = absurd is
+of_pair word more (Play Trace) is = cc (is.0, is.1)
+of_pair word more (Run true) is = cc (is.0, is.1)
+of_pair word more (Play Costs) is = absurd is
+of_pair word more (Play Picture) is = absurd is
+of_pair word more (Play Columns) is = cc (is.0, is.1)
 of_pair word more Check is = absurd is
 of_pair word more Compile is = absurd is
 of_pair word more Upgrade is = absurd is
@@ -287,7 +271,8 @@ three_of (w ∷ v ∷ u ∷ t ∷ words) word name digits third fourth a b c = a
 
 -- where no service has the name, or the digits stand for no number, nothing is said
 pub no_service : (word name digits : List ℕ) → ((kind : ServiceKind) → name ≡ (facts_by kind).name → ⊥) → (command : Command) → IsLoadOf word name digits command → ⊥
-no_service word name digits none (Play threads shows) is = is
+no_service word name digits none (Play shows) is = is
+no_service word name digits none (Run trace) is = is
 no_service word name digits none Check is = is
 no_service word name digits none Compile is = is
 no_service word name digits none Upgrade is = is
@@ -298,14 +283,13 @@ no_service word name digits none (Multi trace) is = is
 no_service word name digits none (Load s n) is = none s is.1
 
 load_of : (word name digits : String Global) (command : Command) → IsCommand (word ∷ name ∷ digits ∷ []) command → IsLoadOf (string_bytes word) (string_bytes name) (string_bytes digits) command
-load_of word name digits (Play threads Run) is = absurd (omega (arith, ap length is))
-load_of word name digits (Play threads Trace) is = absurd (omega (arith, ap length is))
-load_of word name digits (Play false Costs) is = absurd (omega (arith, ap length is))
-load_of word name digits (Play true Costs) is = absurd is
-load_of word name digits (Play false Picture) is = absurd (omega (arith, ap length is))
-load_of word name digits (Play true Picture) is = absurd is
-load_of word name digits (Play false Columns) is = absurd (omega (arith, ap length is))
-load_of word name digits (Play true Columns) is = absurd is
+load_of word name digits (Play Report) is = absurd (omega (arith, ap length is))
+load_of word name digits (Run false) is = absurd (omega (arith, ap length is))
+load_of word name digits (Play Trace) is = absurd (omega (arith, ap length is))
+load_of word name digits (Run true) is = absurd (omega (arith, ap length is))
+load_of word name digits (Play Costs) is = absurd (omega (arith, ap length is))
+load_of word name digits (Play Picture) is = absurd (omega (arith, ap length is))
+load_of word name digits (Play Columns) is = absurd (omega (arith, ap length is))
 load_of word name digits Check is = absurd (omega (arith, ap length is))
 load_of word name digits Compile is = absurd (omega (arith, ap length is))
 load_of word name digits Upgrade is = absurd (omega (arith, ap length is))
@@ -318,7 +302,8 @@ load_of word name digits (Multi true) is = absurd (omega (arith, ap length is))
 load_of word name digits (Load s n) is = (ap (text_at 0) is.2, ap (text_at 1) is.2, subst (AreDigitsOf n) (sym (ap (text_at 2) is.2)) is.1)
 
 of_load : (word name digits : String Global) (command : Command) → IsLoadOf (string_bytes word) (string_bytes name) (string_bytes digits) command → IsCommand (word ∷ name ∷ digits ∷ []) command
-of_load word name digits (Play threads shows) is = absurd is
+of_load word name digits (Play shows) is = absurd is
+of_load word name digits (Run trace) is = absurd is
 of_load word name digits Check is = absurd is
 of_load word name digits Compile is = absurd is
 of_load word name digits Upgrade is = absurd is

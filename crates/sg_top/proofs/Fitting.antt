@@ -6,8 +6,8 @@ use Rattle.sg_load.specs.sg_check_statements.Says.{service_of}
 use Rattle.sg_edge.specs.Stops.{AscendsAbove}
 use Rattle.sg_facts.specs.Facts.{Facts}
 use Rattle.sg_facts.specs.Interface.{Declared}
-use Rattle.sg_input.specs.declared.input.Input.{Input}
-use Rattle.sg_input.specs.declared.input.Input.TheVariants.{Ready}
+use Rattle.sg_input.specs.declared.read.Read.{Read}
+use Rattle.sg_input.specs.declared.read.Read.TheVariants.{Ready}
 use Rattle.sg_input.specs.Inputs.{IsInputOf, IsInterface, IsReady}
 use Rattle.sg_load.specs.sg_plain.Playing.Playable.{IsPlayable}
 use Rattle.sg_input.specs.sg_script.declared.script.Script.{Script}
@@ -30,7 +30,7 @@ found name facts (s ∷ list) is = found_from name s facts list (found name fact
 -- ---- inputs
 
 -- an input that is ready, whose interface and facts are shown under other names
-pub ready_for : (bytes : List ℕ) (facts : List Facts) (made : Input) (i j : Declared) (script : Script) → facts ≡ services → made ≡ Ready i script → j ≡ i
+pub ready_for : (bytes : List ℕ) (facts : List Facts) (made : Read (Declared × Script)) (i j : Declared) (script : Script) → facts ≡ services → made ≡ Ready (i, script) → j ≡ i
     → IsInputOf facts bytes made → IsReady services bytes j script
 ready_for bytes facts made i j script known is same all =
     let ready : IsReady facts bytes i script = subst (IsInputOf facts bytes) is all in

@@ -6,8 +6,8 @@ use Rattle.sg_facts.specs.Limits.{most_script_calls}
 use Rattle.sg_facts.specs.declared.entry.Entry.{Entry}
 use Rattle.sg_facts.specs.sg_base.Lists.{Each}
 use Rattle.sg_facts.specs.sg_base.Room.{Roomy}
-use Rattle.sg_input.specs.declared.run_input.RunInput.{RunInput}
-use Rattle.sg_input.specs.declared.run_input.RunInput.TheVariants.{Ready, Refused}
+use Rattle.sg_input.specs.declared.read.Read.{Read}
+use Rattle.sg_input.specs.declared.read.Read.TheVariants.{Ready, Refused}
 use Rattle.sg_input.specs.Inputs.{IsRunInputOf, IsRunReady}
 use Rattle.sg_input.specs.Judged.{MayBeJudged}
 use Rattle.sg_verify.specs.Lines.{verdict_line_of}
@@ -58,14 +58,14 @@ judged_so command bytes ran wanted output line is (verifies, short, bad) =
 -- ---- what is made of an input
 
 -- an input that is ready, whose facts are shown under another name
-pub printed_for : (bytes : List ℕ) (facts : List Facts) (made : RunInput) (i : Declared) (history : Roomy Entry) → facts ≡ services → made ≡ Ready i history
+pub printed_for : (bytes : List ℕ) (facts : List Facts) (made : Read (Declared × Roomy Entry)) (i : Declared) (history : Roomy Entry) → facts ≡ services → made ≡ Ready (i, history)
     → IsRunInputOf facts bytes made → IsRunReady services bytes i history.items
 printed_for bytes facts made i history known is all =
     let ready : IsRunReady facts bytes i history.items = subst (IsRunInputOf facts bytes) is all in
     subst (λ f. IsRunReady f bytes i history.items) known ready
 
 -- one that is refused, whose facts and line are shown under other names
-pub refused_for : (bytes : List ℕ) (facts : List Facts) (made : RunInput) (line written : List ℕ) → facts ≡ services → made ≡ Refused line → written ≡ line
+pub refused_for : (bytes : List ℕ) (facts : List Facts) (made : Read (Declared × Roomy Entry)) (line written : List ℕ) → facts ≡ services → made ≡ Refused line → written ≡ line
     → IsRunInputOf facts bytes made → IsRunInputOf services bytes (Refused written)
 refused_for bytes facts made line written known is same all =
     let bad : IsRunInputOf facts bytes (Refused line) = subst (IsRunInputOf facts bytes) is all in
@@ -75,7 +75,7 @@ pub printed_service : (bytes : List ℕ) (i : Declared) (history : List Entry) �
 printed_service bytes i history ready = interface_service ready.interface i ready.accepted
 
 -- its calls may be judged
-pub may_be : (made : RunInput) (i : Declared) (history : Roomy Entry) → made ≡ Ready i history → MayBeJudged made
+pub may_be : (made : Read (Declared × Roomy Entry)) (i : Declared) (history : Roomy Entry) → made ≡ Ready (i, history) → MayBeJudged made
     → Each (λ e. MayBeMade i e.call) history.items × (length history.items ≤ most_script_calls)
 may_be made i history is all = subst MayBeJudged is all
 

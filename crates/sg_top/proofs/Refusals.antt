@@ -1,16 +1,15 @@
 -- An output that isn't a refusal refuses nothing: a text has one verdict, and an input is one thing.
-use Rattle.std.proofs.Common.{◌≡◌, ℕ, ◌≤◌, inl, inr, Bool, false, List, arith, length}
+use Rattle.std.proofs.Common.{◌≡◌, ℕ, ◌≤◌, inl, inr, Bool, false, true, List, arith, length}
 use Rattle.sg_report.specs.sg_hist.declared.ended.Ended.{Ended}
 use Rattle.sg_explain.proofs.Alone.{explained_alone}
-use Rattle.sg_input.specs.declared.outcome.Verdict.{Verdict}
-use Rattle.sg_input.specs.declared.outcome.Verdict.TheVariants.{Accepted as accepted, Refused as refused}
+use Rattle.sg_facts.specs.Interface.{Declared}
+use Rattle.sg_input.specs.sg_script.declared.multi.MultiScript.{MultiScript}
+use Rattle.sg_input.specs.declared.read.Read.{Read}
+use Rattle.sg_input.specs.declared.read.Read.TheVariants.{Ready as ready, Refused as refused}
 use Rattle.sg_input.specs.Verdicts.{IsCompiled, IsUpgraded, IsVerdict}
 use Rattle.sg_explain.proofs.sg_input.OneVerdict.{one_verdict}
-use Rattle.sg_input.specs.declared.input.Input.TheVariants.{Refused as refused_input}
 use Rattle.sg_input.specs.Inputs.{IsInputOf}
 use Rattle.sg_input.specs.MultiInputs.{IsMultiInputOf}
-use Rattle.sg_input.specs.declared.multi_input.MultiInput.{MultiInput}
-use Rattle.sg_input.specs.declared.multi_input.MultiInput.TheVariants.{Ready as ready_multi, Refused as refused_multi}
 use Rattle.sg_explain.proofs.sg_input.OneMulti.{one_multi_input}
 use Rattle.sg_explain.proofs.sg_input.OneInput.{never_ready, not_refused}
 use Rattle.sg_explain.proofs.sg_input.OneRun.{never_ready as never_printed}
@@ -18,50 +17,51 @@ use Rattle.sg_top.specs.Headline.{IsRunOfInput}
 use Rattle.sg_load.specs.Services.{played_services}
 use Rattle.sg_top.specs.declared.command.Command.{Command}
 use Rattle.sg_top.specs.declared.command.Shows.{Shows}
-use Rattle.sg_top.specs.declared.command.Command.TheVariants.{Play, Check, Compile, Upgrade, Explain, Explore, Verify, Multi, Load}
+use Rattle.sg_top.specs.declared.command.Command.TheVariants.{Play, Run, Check, Compile, Upgrade, Explain, Explore, Verify, Multi, Load}
 use Rattle.sg_top.specs.declared.output.Ran.{Ran}
 use Rattle.sg_top.specs.declared.output.Ran.TheVariants.{Nothing, One, Several}
 use Rattle.sg_top.specs.declared.status.Status.{Status}
 use Rattle.sg_top.specs.declared.status.Status.TheVariants.{Refused}
-use Rattle.sg_top.specs.Answer.{IsMultiOutput, IsOutput, IsRefusal, has_input, most_bytes, services, IsPlayOutput}
+use Rattle.sg_top.specs.Answer.{IsMultiOutput, IsOutput, IsRefusal, has_input, most_bytes, report_shown, services, IsPlayOutput}
 use Rattle.sg_top.specs.Inside.Pieces.{IsRefusedAs}
 
 -- a text isn't accepted and refused
-not_both : (text line output : List ℕ) → IsVerdict services text (accepted output) → IsVerdict services text (refused line) → ⊥
+not_both : (text line output : List ℕ) → IsVerdict services text (ready output) → IsVerdict services text (refused line) → ⊥
 not_both text line output good bad =
-    let same : ◌≡◌ {A = Verdict} (accepted output) (refused line) = one_verdict services text (accepted output) (refused line) good bad in absurd cc
+    let same : ◌≡◌ {A = Read (List ℕ)} (ready output) (refused line) = one_verdict services text (ready output) (refused line) good bad in absurd cc
 
 -- a text that has tables isn't refused
-not_untabled : (text line output : List ℕ) → IsCompiled services text (accepted output) → IsVerdict services text (refused line) → ⊥
+not_untabled : (text line output : List ℕ) → IsCompiled services text (ready output) → IsVerdict services text (refused line) → ⊥
 not_untabled text line output (tree, tables, parses, is, are, prints) bad = not_refused services text tables.iface line (tree, parses, is) bad
 
 -- a text that is upgraded isn't refused
-not_unupgraded : (text line output : List ℕ) → IsUpgraded services text (accepted output) → IsVerdict services text (refused line) → ⊥
+not_unupgraded : (text line output : List ℕ) → IsUpgraded services text (ready output) → IsVerdict services text (refused line) → ⊥
 not_unupgraded text line output (tree, i, parses, is, prints) bad = not_refused services text i line (tree, parses, is) bad
 
 -- an input that is played isn't refused
-not_unplayed : (bytes line output : List ℕ) (in_threads : Bool) (shows : Shows) (ended : Ended) → IsRunOfInput played_services bytes in_threads shows ended output → IsInputOf services bytes (refused_input line) → ⊥
+not_unplayed : (bytes line output : List ℕ) (in_threads : Bool) (shows : Shows) (ended : Ended) → IsRunOfInput played_services bytes in_threads shows ended output → IsInputOf services bytes (refused line) → ⊥
 not_unplayed bytes line output in_threads shows ended run bad = never_ready services bytes line run.i run.script bad run.ready
 
 played_alone : (bytes : List ℕ) (in_threads : Bool) (shows : Shows) (ran : Ran) (status : Status) (output line : List ℕ) → (status ≡ Refused → ⊥)
-    → IsPlayOutput bytes in_threads shows ran status output → IsInputOf services bytes (refused_input line) → ⊥
+    → IsPlayOutput bytes in_threads shows ran status output → IsInputOf services bytes (refused line) → ⊥
 played_alone bytes in_threads shows Nothing status output line good is bad = good is.0
 played_alone bytes in_threads shows (One e) status output line good is bad = not_unplayed bytes line output in_threads shows e is.1 bad
 played_alone bytes in_threads shows (Several came) status output line good is bad = is
 
 -- an input that is played over several services isn't refused
 multi_alone : (bytes : List ℕ) (with_trace : Bool) (ran : Ran) (status : Status) (output line : List ℕ) → (status ≡ Refused → ⊥)
-    → IsMultiOutput bytes with_trace ran status output → IsMultiInputOf services bytes (refused_multi line) → ⊥
+    → IsMultiOutput bytes with_trace ran status output → IsMultiInputOf services bytes (refused line) → ⊥
 multi_alone bytes with_trace Nothing status output line good is bad = good is.0
 multi_alone bytes with_trace (One e) status output line good is bad = is
 multi_alone bytes with_trace (Several came) status output line good is bad =
-    let same : ◌≡◌ {A = MultiInput} (refused_multi line) (ready_multi is.1.interfaces is.1.script) =
-    one_multi_input services bytes (refused_multi line) (ready_multi is.1.interfaces is.1.script) bad is.1.ready in
+    let same : ◌≡◌ {A = Read (List Declared × MultiScript)} (refused line) (ready (is.1.interfaces, is.1.script)) =
+    one_multi_input services bytes (refused line) (ready (is.1.interfaces, is.1.script)) bad is.1.ready in
     absurd cc
 
 good_alone : (command : Command) (bytes : List ℕ) (ran : Ran) (status : Status) (output line : List ℕ) → (status ≡ Refused → ⊥)
     → IsOutput command bytes ran status output → IsRefusedAs command bytes line → ⊥
-good_alone (Play threads shows) bytes ran status output line good is bad = played_alone bytes threads shows ran status output line good is bad
+good_alone (Play shows) bytes ran status output line good is bad = played_alone bytes false shows ran status output line good is bad
+good_alone (Run trace) bytes ran status output line good is bad = played_alone bytes true (report_shown trace) ran status output line good is bad
 good_alone (Multi trace) bytes ran status output line good is bad = multi_alone bytes trace ran status output line good is bad
 good_alone Check bytes ran status output line good (none, inl accepts) bad = not_both bytes line output accepts.1 bad
 good_alone Compile bytes ran status output line good (none, inl accepts) bad = not_untabled bytes line output accepts.1 bad
@@ -85,7 +85,8 @@ never_refused command bytes ran status output line good short is (inr (has, long
 
 -- a command without an input refuses nothing
 pub refuses_nothing : (command : Command) (bytes line : List ℕ) → has_input command ≡ false → IsRefusal command bytes line → ⊥
-refuses_nothing (Play threads shows) bytes line without is = cc without
+refuses_nothing (Play shows) bytes line without is = cc without
+refuses_nothing (Run trace) bytes line without is = cc without
 refuses_nothing (Multi trace) bytes line without is = cc without
 refuses_nothing Check bytes line without is = cc without
 refuses_nothing Compile bytes line without is = cc without

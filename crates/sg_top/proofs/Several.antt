@@ -11,8 +11,8 @@ use Rattle.sg_facts.specs.sg_base.Lists.{Each}
 use Rattle.sg_input.specs.Inputs.{IsInterface}
 use Rattle.sg_input.specs.Inside.Members.{AreFit, AreFitMembers}
 use Rattle.sg_input.specs.MultiInputs.{IsMultiInputOf, IsMultiReady}
-use Rattle.sg_input.specs.declared.multi_input.MultiInput.{MultiInput}
-use Rattle.sg_input.specs.declared.multi_input.MultiInput.TheVariants.{Ready, Refused}
+use Rattle.sg_input.specs.declared.read.Read.{Read}
+use Rattle.sg_input.specs.declared.read.Read.TheVariants.{Ready, Refused}
 use Rattle.sg_input.specs.sg_script.declared.multi.MultiScript.{MultiScript}
 use Rattle.sg_explain.proofs.sg_input.Gathering.{few_members}
 use Rattle.sg_load.specs.Services.{answering, facts_by, played_services}
@@ -38,14 +38,14 @@ use Rattle.sg_top.proofs.Fitting.{interface_service}
 -- ---- inputs
 
 -- an input that is ready, whose facts are shown under another name
-pub several_for : (bytes : List ℕ) (facts : List Facts) (made : MultiInput) (interfaces : List Declared) (script : MultiScript) → facts ≡ services → made ≡ Ready interfaces script
+pub several_for : (bytes : List ℕ) (facts : List Facts) (made : Read (List Declared × MultiScript)) (interfaces : List Declared) (script : MultiScript) → facts ≡ services → made ≡ Ready (interfaces, script)
     → IsMultiInputOf facts bytes made → IsMultiReady services bytes interfaces script
 several_for bytes facts made interfaces script known is all =
     let ready : IsMultiReady facts bytes interfaces script = subst (IsMultiInputOf facts bytes) is all in
     subst (λ f. IsMultiReady f bytes interfaces script) known ready
 
 -- one that is refused, whose facts and line are shown under other names
-pub not_several : (bytes : List ℕ) (facts : List Facts) (made : MultiInput) (line written : List ℕ) → facts ≡ services → made ≡ Refused line → written ≡ line
+pub not_several : (bytes : List ℕ) (facts : List Facts) (made : Read (List Declared × MultiScript)) (line written : List ℕ) → facts ≡ services → made ≡ Refused line → written ≡ line
     → IsMultiInputOf facts bytes made → IsMultiInputOf services bytes (Refused written)
 not_several bytes facts made line written known is same all =
     let bad : IsMultiInputOf facts bytes (Refused line) = subst (IsMultiInputOf facts bytes) is all in
@@ -59,7 +59,7 @@ fit_each (t ∷ texts) [] are fit = tt
 fit_each (t ∷ texts) (i ∷ interfaces) (is, are) ((fits, small), fit) = ((interface_service t i is, fits, small), fit_each texts interfaces are fit)
 
 -- each interface of an input that is ready is of a service that is played, and can be recovered
-pub members_fit : (bytes : List ℕ) (made : MultiInput) (interfaces : List Declared) (script : MultiScript) → made ≡ Ready interfaces script → AreFit made
+pub members_fit : (bytes : List ℕ) (made : Read (List Declared × MultiScript)) (interfaces : List Declared) (script : MultiScript) → made ≡ Ready (interfaces, script) → AreFit made
     → IsMultiReady services bytes interfaces script → Each (λ (i : Declared). IsPlayed i.facts × Fits i × IsSmall i) interfaces
 members_fit bytes made interfaces script is fit ready = fit_each ready.texts interfaces ready.accepted.accepted (subst AreFit is fit)
 

@@ -14,13 +14,10 @@ use Rattle.sg_explore.specs.Tried.{most_paired}
 use Rattle.sg_explore.specs.declared.exploring.Explored.{Explored}
 use Rattle.sg_report.specs.sg_hist.declared.ended.End.{End}
 use Rattle.sg_report.specs.sg_hist.declared.ended.Ended.{Ended}
-use Rattle.sg_input.specs.declared.outcome.Verdict.{Verdict}
-use Rattle.sg_input.specs.declared.outcome.Verdict.TheVariants.{Accepted as accepted, Refused as refused}
+use Rattle.sg_input.specs.declared.read.Read.{Read}
+use Rattle.sg_input.specs.declared.read.Read.TheVariants.{Ready as ready, Refused as refused}
 use Rattle.sg_input.specs.Verdicts.{IsCompiled, IsUpgraded, IsVerdict}
-use Rattle.sg_input.specs.declared.input.Input.TheVariants.{Refused as refused_input}
 use Rattle.sg_input.specs.Inputs.{IsInputOf, IsReady, IsRunInputOf, IsRunReady, most_interface, most_run, most_script}
-use Rattle.sg_input.specs.declared.multi_input.MultiInput.TheVariants.{Refused as refused_multi}
-use Rattle.sg_input.specs.declared.run_input.RunInput.TheVariants.{Refused as refused_run}
 use Rattle.sg_input.specs.MultiInputs.{IsMultiInputOf}
 use Rattle.sg_multi.specs.Played.{MultiCame}
 use Rattle.sg_multi.specs.declared.ended.MultiEnd.{MultiEnd}
@@ -37,15 +34,15 @@ use Rattle.sg_facts.specs.declared.entry.Entry.{Entry}
 use Rattle.sg_load.specs.declared.kind.ServiceKind.{ServiceKind}
 use Rattle.sg_verify.specs.Lines.{verdict_line_of}
 use Rattle.sg_verify.specs.Verdicts.{IsVerdictOf}
-use Rattle.sg_verify.specs.declared.verdict.Verdict.{Verdict as Judgement}
+use Rattle.sg_verify.specs.declared.verdict.Verdict.{Verdict}
 use Rattle.sg_verify.specs.declared.verdict.Verdict.TheVariants.{Legal}
 use Rattle.sg_top.specs.Headline.{IsPlayOfMembers, IsRunOfLoad, IsRunOfInput}
 use Rattle.sg_top.specs.declared.command.Command.{Command}
-use Rattle.sg_top.specs.declared.command.Command.TheVariants.{Play, Check, Compile, Upgrade, Explain, Explore, Verify, Multi, Load}
+use Rattle.sg_top.specs.declared.command.Command.TheVariants.{Play, Run, Check, Compile, Upgrade, Explain, Explore, Verify, Multi, Load}
 use Rattle.sg_top.specs.declared.output.Ran.{Ran}
 use Rattle.sg_top.specs.declared.output.Ran.TheVariants.{Nothing, One, Several}
 use Rattle.sg_top.specs.declared.command.Shows.{Shows}
-use Rattle.sg_top.specs.declared.command.Shows.TheVariants.{Run, Trace, Costs, Picture, Columns}
+use Rattle.sg_top.specs.declared.command.Shows.TheVariants.{Report, Trace, Costs, Picture, Columns}
 use Rattle.sg_top.specs.declared.status.Status.{Status}
 use Rattle.sg_top.specs.declared.status.Status.TheVariants.{Done, Waits, OtherWords, Refused, ReadFault, WriteFault, NoMemory, Illegal}
 
@@ -53,14 +50,13 @@ use Rattle.sg_top.specs.declared.status.Status.TheVariants.{Done, Waits, OtherWo
 
 -- the words say a command, by their texts: those of a load end in digits, at least one, that stand for a number of 64 bits
 abbrev pub IsCommand : List (String Global) → Command → Type 0
-IsCommand words (Play threads Run) = map string_bytes words ≡ (if threads then codes "run" else codes "sim") ∷ []
-IsCommand words (Play threads Trace) = map string_bytes words ≡ (if threads then codes "run" else codes "sim") ∷ codes "trace" ∷ []
-IsCommand words (Play false Costs) = map string_bytes words ≡ codes "cost" ∷ []
-IsCommand words (Play true Costs) = ⊥
-IsCommand words (Play false Picture) = map string_bytes words ≡ codes "draw" ∷ []
-IsCommand words (Play true Picture) = ⊥
-IsCommand words (Play false Columns) = map string_bytes words ≡ codes "draw" ∷ codes "text" ∷ []
-IsCommand words (Play true Columns) = ⊥
+IsCommand words (Play Report) = map string_bytes words ≡ codes "sim" ∷ []
+IsCommand words (Play Trace) = map string_bytes words ≡ codes "sim" ∷ codes "trace" ∷ []
+IsCommand words (Play Costs) = map string_bytes words ≡ codes "cost" ∷ []
+IsCommand words (Play Picture) = map string_bytes words ≡ codes "draw" ∷ []
+IsCommand words (Play Columns) = map string_bytes words ≡ codes "draw" ∷ codes "text" ∷ []
+IsCommand words (Run false) = map string_bytes words ≡ codes "run" ∷ []
+IsCommand words (Run true) = map string_bytes words ≡ codes "run" ∷ codes "trace" ∷ []
 IsCommand words Check = map string_bytes words ≡ codes "check" ∷ []
 IsCommand words Compile = map string_bytes words ≡ codes "compile" ∷ []
 IsCommand words Upgrade = map string_bytes words ≡ codes "upgrade" ∷ []
@@ -76,11 +72,11 @@ IsCommand words (Load service number) = (digits : List ℕ) × (IsNumber digits 
 
 -- whether a command is a play
 abbrev pub is_play : Command → Bool
-is_play command = elim command [ Play threads shows ↦ true | Multi trace ↦ true | Load service number ↦ true | _ ↦ false ]
+is_play command = elim command [ Play shows ↦ true | Run trace ↦ true | Multi trace ↦ true | Load service number ↦ true | _ ↦ false ]
 
 -- whether a command takes threads: a play whose clients have threads of their own, or runs that are made on all processors
 abbrev pub is_in_threads : Command → Bool
-is_in_threads command = elim command [ Play threads shows ↦ threads | Explore most ↦ true | _ ↦ false ]
+is_in_threads command = elim command [ Run trace ↦ true | Explore most ↦ true | _ ↦ false ]
 
 -- the words say a command that one thread does
 abbrev pub IsSerialCommand : List (String Global) → Command → Type 0
@@ -95,7 +91,8 @@ has_input command = elim command [ Load service number ↦ false | _ ↦ true ]
 -- the greatest number of bytes of a command's input
 abbrev pub most_bytes : Command → ℕ
 most_bytes command = elim command [
-  | Play threads shows ↦ most_interface + 4 + most_script
+  | Play shows ↦ most_interface + 4 + most_script
+  | Run trace ↦ most_interface + 4 + most_script
   | Explain ↦ most_interface + 4 + most_script
   | Explore most ↦ most_interface + 4 + most_script
   | Verify ↦ most_interface + 4 + most_run
@@ -126,7 +123,7 @@ pub record IsJudgedAs (bytes : List ℕ) (status : Status) (output : List ℕ) :
   pub ready : IsRunReady services bytes i history
   pub kind : ServiceKind
   pub its : (answering kind).facts ≡ i.facts
-  pub said : Judgement
+  pub said : Verdict
   pub is : IsVerdictOf i (answering kind).ask history said
   pub answered : status ≡ (elim said as (λ v. Status) [ Legal ↦ Done | _ ↦ Illegal ])
   pub line : output ≡ verdict_line_of i.facts history said
@@ -148,36 +145,41 @@ pub record IsExploredAs (bytes : List ℕ) (most : ℕ) (status : Status) (outpu
 abbrev pub multi_status : List (ℕ × MultiEnd) → Status
 multi_status ends = if list_any (λ e. elim e.1 [ MultiDone ↦ false | MultiBlocked member call ↦ true ]) ends then Waits else Done
 
+-- what is printed of a run with its trace, or without
+abbrev pub report_shown : Bool → Shows
+report_shown trace = if trace then Trace else Report
+
 -- the output of a play, and its status: what is printed of the run, or the line of an input that is refused
 abbrev pub IsPlayOutput : List ℕ → Bool → Shows → Ran → Status → List ℕ → Type 0
-IsPlayOutput bytes in_threads shows Nothing status output = (status ≡ Refused) × IsInputOf services bytes (refused_input output)
+IsPlayOutput bytes in_threads shows Nothing status output = (status ≡ Refused) × IsInputOf services bytes (refused output)
 IsPlayOutput bytes in_threads shows (One ended) status output = (status ≡ ended_status ended.ends) × IsRunOfInput played_services bytes in_threads shows ended output
 IsPlayOutput bytes in_threads shows (Several came) status output = ⊥
 
 -- the output of a play over several services, and its status: what is printed of it, or the line of an input that is refused
 abbrev pub IsMultiOutput : List ℕ → Bool → Ran → Status → List ℕ → Type 0
-IsMultiOutput bytes with_trace Nothing status output = (status ≡ Refused) × IsMultiInputOf services bytes (refused_multi output)
+IsMultiOutput bytes with_trace Nothing status output = (status ≡ Refused) × IsMultiInputOf services bytes (refused output)
 IsMultiOutput bytes with_trace (One ended) status output = ⊥
 IsMultiOutput bytes with_trace (Several came) status output = (status ≡ multi_status came.ends) × IsPlayOfMembers played_services bytes with_trace came output
 
 -- the output of a command that judges a text, and its status: of a text that is accepted, or of one that is refused
-abbrev pub IsOfText : (Verdict → Type 0) → Status → List ℕ → Type 0
-IsOfText Is status output = ((status ≡ Done) × Is (accepted output)) ⊎ ((status ≡ Refused) × Is (refused output))
+abbrev pub IsOfText : (Read (List ℕ) → Type 0) → Status → List ℕ → Type 0
+IsOfText Is status output = ((status ≡ Done) × Is (ready output)) ⊎ ((status ≡ Refused) × Is (refused output))
 
 -- the output of a command for an input, its status, and the run where there was one, which only a play has: what is printed of the run; the
 -- line of a text that is accepted, its tables, or its text in version 2; what is explained of an input; what is said of a history; or the line
 -- of what is refused
 abbrev pub IsOutput : Command → List ℕ → Ran → Status → List ℕ → Type 0
-IsOutput (Play threads shows) bytes ran status output = IsPlayOutput bytes threads shows ran status output
+IsOutput (Play shows) bytes ran status output = IsPlayOutput bytes false shows ran status output
+IsOutput (Run trace) bytes ran status output = IsPlayOutput bytes true (report_shown trace) ran status output
 IsOutput (Multi trace) bytes ran status output = IsMultiOutput bytes trace ran status output
 IsOutput Check bytes ran status output = (ran ≡ Nothing) × IsOfText (IsVerdict services bytes) status output
 IsOutput Compile bytes ran status output = (ran ≡ Nothing) × IsOfText (IsCompiled services bytes) status output
 IsOutput Upgrade bytes ran status output = (ran ≡ Nothing) × IsOfText (IsUpgraded services bytes) status output
 IsOutput Explain bytes ran status output = (ran ≡ Nothing) × IsOfText (IsExplained services bytes) status output
 IsOutput (Explore most) bytes ran status output =
-    (ran ≡ Nothing) × (IsExploredAs bytes most status output ⊎ ((status ≡ Refused) × IsInputOf services bytes (refused_input output)))
+    (ran ≡ Nothing) × (IsExploredAs bytes most status output ⊎ ((status ≡ Refused) × IsInputOf services bytes (refused output)))
 IsOutput Verify bytes ran status output =
-    (ran ≡ Nothing) × (IsJudgedAs bytes status output ⊎ ((status ≡ Refused) × IsRunInputOf services bytes (refused_run output)))
+    (ran ≡ Nothing) × (IsJudgedAs bytes status output ⊎ ((status ≡ Refused) × IsRunInputOf services bytes (refused output)))
 IsOutput (Load service number) bytes ran status output = ⊥
 
 -- the output of a command without an input, its status and its run
@@ -190,11 +192,12 @@ IsOwnOutput command ran status output = ⊥
 abbrev pub IsRefusal : Command → List ℕ → List ℕ → Type 0
 IsRefusal command bytes output =
     ((length bytes ≤ most_bytes command) × (elim command as (λ c. Type 0) [
-      | Play threads shows ↦ IsInputOf services bytes (refused_input output)
+      | Play shows ↦ IsInputOf services bytes (refused output)
+      | Run trace ↦ IsInputOf services bytes (refused output)
       | Explain ↦ IsExplained services bytes (refused output)
-      | Explore most ↦ IsInputOf services bytes (refused_input output)
-      | Verify ↦ IsRunInputOf services bytes (refused_run output)
-      | Multi trace ↦ IsMultiInputOf services bytes (refused_multi output)
+      | Explore most ↦ IsInputOf services bytes (refused output)
+      | Verify ↦ IsRunInputOf services bytes (refused output)
+      | Multi trace ↦ IsMultiInputOf services bytes (refused output)
       | Load service number ↦ ⊥
       | _ ↦ IsVerdict services bytes (refused output)
     ]))

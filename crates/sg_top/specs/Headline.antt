@@ -1,5 +1,5 @@
 -- What is promised of a run of an input, over one service or over several, and of a load.
-use Rattle.std.specs.Prelude.{ℕ, ◌≡◌, Bool, true, false, List, [], ◌∷◌, ◌++◌, map}
+use Rattle.std.specs.Prelude.{ℕ, ◌≡◌, Bool, true, false, List, ◌∷◌, ◌++◌, map}
 use Rattle.std.specs.List.{AllZip, Contains}
 use Rattle.sg_cost.specs.Costs.{AreFew, costs_at}
 use Rattle.sg_cost.specs.Lines.{cost_text_of}
@@ -24,7 +24,7 @@ use Rattle.sg_explore.specs.sg_shared.Runs.{IsRunOf}
 use Rattle.sg_load.specs.sg_plain.Answering.{Answering}
 use Rattle.sg_explore.specs.sg_shared.sg_sim.Played.{FollowsSchedule}
 use Rattle.sg_top.specs.declared.command.Shows.{Shows}
-use Rattle.sg_top.specs.declared.command.Shows.TheVariants.{Run, Trace, Costs, Picture, Columns}
+use Rattle.sg_top.specs.declared.command.Shows.TheVariants.{Report, Trace, Costs, Picture, Columns}
 
 -- ---- what is printed
 
@@ -36,7 +36,7 @@ HasFewReplays i ended = (walks : List WalkLine) × AreTables i walks
 -- this is printed of a run: its report, with what was done to the service or without; what its calls could cost after one more stop; or a
 -- picture of what was done, as a document or in the columns of a terminal
 abbrev pub IsShown : Shows → Declared → Ended → List ℕ → Type 0
-IsShown Run i ended written = written ≡ report_of i.facts ended false
+IsShown Report i ended written = written ≡ report_of i.facts ended false
 IsShown Trace i ended written = written ≡ report_of i.facts ended true
 IsShown Picture i ended written = IsPictureOf i.facts ended written
 IsShown Columns i ended written = AreColumnsOf i.facts ended written

@@ -15,7 +15,7 @@ use sg_load::ServiceKind;
 #[derive(Clone, Copy, Debug, PartialEq, Eq)]
 pub enum Shows {
     /// Its report.
-    Run,
+    Report,
     /// Its report, and what was done to the service.
     Trace,
     /// What its calls could cost after one more stop, in replayed calls, and what those of each boot cost.
@@ -26,13 +26,28 @@ pub enum Shows {
     Columns,
 }
 
+impl Shows {
+    ghost use Rattle.std.specs.Prelude.{◌≡◌};
+    ghost use Rattle.sg_top.specs.Answer.{report_shown};
+
+    /// The report of a run, with what was done to the service or without.
+    pub fn of_report(trace: bool) -> Shows
+        ensures { result ≡ report_shown trace }
+    {
+        if trace { Shows::Trace } else { Shows::Report }
+    }
+}
+
 /// A command of the program.
 #[derive(Clone, Copy, Debug, PartialEq, Eq)]
 pub enum Command {
-    /// `sim`, or `run` with a thread for each client: plays an input, and prints the report of its run; with `trace` after it too
-    /// what was done to the service. `cost`: plays it as `sim` does, and prints what its calls could cost after one more stop. `draw`:
-    /// plays it as `sim` does, and draws what was done to the service; with `text` after it in the columns of a terminal.
-    Play { threads: bool, shows: Shows },
+    /// `sim`: plays an input in one thread, and prints the report of its run; with `trace` after it too what was done to the service.
+    /// `cost`: plays it so, and prints what its calls could cost after one more stop. `draw`: plays it so, and draws what was done to the
+    /// service; with `text` after it in the columns of a terminal.
+    Play { shows: Shows },
+    /// `run`: plays an input with a thread for each client, and prints the report of its run; with `trace` after it too what was done to
+    /// the service.
+    Run { trace: bool },
     /// `check`: says whether an input is the text of an interface that is accepted.
     Check,
     /// `compile`: prints the tables of the text of an interface that is accepted.
@@ -79,22 +94,16 @@ impl Command {
     {
         match word {
             "sim" => Some(Command::Play {
-                threads: false,
-                shows: Shows::Run,
+                shows: Shows::Report,
             }),
-            "run" => Some(Command::Play {
-                threads: true,
-                shows: Shows::Run,
-            }),
+            "run" => Some(Command::Run { trace: false }),
             "cost" => Some(Command::Play {
-                threads: false,
                 shows: Shows::Costs,
             }),
             "check" => Some(Command::Check),
             "compile" => Some(Command::Compile),
             "upgrade" => Some(Command::Upgrade),
             "draw" => Some(Command::Play {
-                threads: false,
                 shows: Shows::Picture,
             }),
             "explain" => Some(Command::Explain),
@@ -128,13 +137,9 @@ impl Command {
         }
         match word {
             "sim" => Some(Command::Play {
-                threads: false,
                 shows: Shows::Trace,
             }),
-            "run" => Some(Command::Play {
-                threads: true,
-                shows: Shows::Trace,
-            }),
+            "run" => Some(Command::Run { trace: true }),
             "multi" => Some(Command::Multi { trace: true }),
             _ => None,
         }
@@ -156,10 +161,7 @@ impl Command {
     pub fn is_in_threads(self) -> bool
         ensures { result ≡ is_in_threads self }
     {
-        matches!(
-            self,
-            Command::Play { threads: true, .. } | Command::Explore { .. }
-        )
+        matches!(self, Command::Run { .. } | Command::Explore { .. })
     }
 
     /// The greatest number of bytes of the command's input.
@@ -167,7 +169,10 @@ impl Command {
         ensures { result ≡ most_bytes self }
     {
         match self {
-            Command::Play { .. } | Command::Explain | Command::Explore { .. } => MOST_INPUT,
+            Command::Play { .. }
+            | Command::Run { .. }
+            | Command::Explain
+            | Command::Explore { .. } => MOST_INPUT,
             Command::Check | Command::Compile | Command::Upgrade => MOST_INTERFACE,
             Command::Verify => MOST_RUN_INPUT,
             Command::Multi { .. } => MOST_MULTI_INPUT,
@@ -183,6 +188,7 @@ impl Command {
         match self {
             Command::Explain => TOO_LONG_EXPLAINED,
             Command::Play { .. }
+            | Command::Run { .. }
             | Command::Check
             | Command::Compile
             | Command::Upgrade
@@ -214,7 +220,6 @@ fn drawing_as(form: &str) -> Option<Command>
         return None;
     }
     Some(Command::Play {
-        threads: false,
         shows: Shows::Columns,
     })
 }

@@ -31,7 +31,7 @@ pub use sg_edge::{Gate, MemSink, MemSource, NoMemory, OpenGate, StdSink, StdSour
 pub use sg_explore::{MOST_PAIRED, NoProgress, Played, Progress};
 pub use sg_facts::{Interface, MOST_FUNS};
 pub use sg_input::{
-    Input, MOST_DIVIDER, MOST_INPUT, MOST_INTERFACE, MOST_SCRIPT, cut, one_cut, one_input, parse,
+    MOST_DIVIDER, MOST_INPUT, MOST_INTERFACE, MOST_SCRIPT, Read, cut, one_cut, one_input, parse,
     read_input,
 };
 pub use sg_load::{Arg, Script, ScriptCall, ServiceKind, check, generate, standard};

@@ -7,7 +7,7 @@ ghost use Rattle.sg_load.specs.sg_plain.Inside.Kept.{somebody_waits};
 ghost use Rattle.sg_input.specs.Verdicts.{IsCompiled, IsUpgraded, IsVerdict};
 ghost use Rattle.sg_load.specs.Generated.{generated};
 ghost use Rattle.sg_load.specs.Services.{answering, facts_by, standard};
-ghost use Rattle.sg_top.specs.Answer.{IsOfText, IsOutput, IsMultiOutput, IsOwnOutput, ended_status, has_input, is_in_threads, multi_status, services, IsPlayOutput};
+ghost use Rattle.sg_top.specs.Answer.{IsOfText, IsOutput, IsMultiOutput, IsOwnOutput, ended_status, has_input, is_in_threads, multi_status, report_shown, services, IsPlayOutput};
 ghost use Rattle.sg_explore.specs.Tried.{most_paired};
 ghost use Rattle.sg_top.specs.Inside.Pieces.{IsExploration, IsVerified, verdict_status};
 ghost use Rattle.sg_verify.specs.Lines.{verdict_line_of};
@@ -33,13 +33,13 @@ use sg_explain::explain;
 use sg_explore::{Explored, Played, Progress};
 use sg_facts::{Bytes, Interface, NoMemory};
 use sg_input::{
-    History, Input, MultiInput, RunInput, Script, Verdict, compile, compiled, read_input,
-    read_multi_input, read_run, upgraded, verdict,
+    History, Read, Script, compile, compiled, read_input, read_multi_input, read_run, upgraded,
+    verdict,
 };
 use sg_load::{Accepted, ServiceKind, generate, standard};
 use sg_multi::{MultiEnd, MultiEnded, multi_text};
 use sg_report::{End, load_line, text};
-use sg_verify::{Verdict as Judgement, verdict_line};
+use sg_verify::{Verdict, verdict_line};
 use std::alloc::Global;
 use std::sync::Wait;
 use std::thread::Threads;
@@ -70,14 +70,14 @@ pub fn output_of(alloc: Global, command: Command, bytes: &[u8]) -> Result<Output
     ensures { IfOk result (λ o. IsOutput command bytes.now o.ran o.status o.text) }
 {
     match command {
-        Command::Play { shows, .. } => simulated(alloc, bytes, shows),
+        Command::Play { shows } => simulated(alloc, bytes, shows),
         Command::Check => checked(alloc, bytes),
         Command::Compile => tabled(alloc, bytes),
         Command::Upgrade => upgrade(alloc, bytes),
         Command::Explain => explained(alloc, bytes),
         Command::Verify => verified(alloc, bytes),
         Command::Multi { trace } => several(alloc, bytes, trace),
-        Command::Explore { .. } | Command::Load { .. } => unreachable!(),
+        Command::Run { .. } | Command::Explore { .. } | Command::Load { .. } => unreachable!(),
     }
 }
 
@@ -123,13 +123,13 @@ fn verified(alloc: Global, bytes: &[u8]) -> Result<Output, NoMemory>
     ensures said { IfOk result (λ o. IsVerified bytes.now o.status o.text) }
 {
     match read_run(alloc, bytes, &shapes())? {
-        RunInput::Ready(accepted, history) => {
+        Read::Ready((accepted, history)) => {
             let kind = kind_of(accepted.interface());
             let tables = compile(alloc, &accepted)?;
             let said = verify_kind(alloc, kind, &tables, &history)?;
             judged(alloc, accepted.interface(), &history, &said)
         }
-        RunInput::Refused(line) => Ok(refusing(line)),
+        Read::Refused(line) => Ok(refusing(line)),
     }
 }
 
@@ -138,7 +138,7 @@ fn judged(
     alloc: Global,
     iface: &Interface,
     history: &History,
-    said: &Judgement,
+    said: &Verdict,
 ) -> Result<Output, NoMemory>
     ensures ran { IfOk result (λ o. o.ran ≡ nothing) }
     ensures status { IfOk result (λ o. o.status ≡ verdict_status said.now) }
@@ -153,23 +153,23 @@ fn judged(
 }
 
 // The status of what is said of a history.
-fn status_saying(said: &Judgement) -> Status
+fn status_saying(said: &Verdict) -> Status
     ensures { result ≡ verdict_status said.now }
 {
     match said {
-        Judgement::Legal => Status::Done,
-        Judgement::BadSeq { .. } | Judgement::BadReply { .. } => Status::Illegal,
+        Verdict::Legal => Status::Done,
+        Verdict::BadSeq { .. } | Verdict::BadReply { .. } => Status::Illegal,
     }
 }
 
 // The output that says this of a text, with the status that belongs to it.
-fn output_saying(said: Verdict) -> Output
+fn output_saying(said: Read<Bytes>) -> Output
     ensures ran { result.ran ≡ nothing }
     ensures said { IsSaid said result.status result.text }
 {
     let (text, status) = match said {
-        Verdict::Accepted(text) => (text, Status::Done),
-        Verdict::Refused(line) => (line, Status::Refused),
+        Read::Ready(text) => (text, Status::Done),
+        Read::Refused(line) => (line, Status::Refused),
     };
     Output {
         text,
@@ -183,12 +183,12 @@ fn simulated(alloc: Global, bytes: &[u8], shows: Shows) -> Result<Output, NoMemo
     ensures { IfOk result (λ o. IsPlayOutput bytes.now false shows o.ran o.status o.text) }
 {
     match read_input(alloc, bytes, &shapes())? {
-        Input::Ready(accepted, script) => {
+        Read::Ready((accepted, script)) => {
             let kind = kind_of(accepted.interface());
             let played = simulate_kind(alloc, kind, &accepted, script)?;
             reported(alloc, kind, &accepted, played, shows)
         }
-        Input::Refused(line) => Ok(refusing(line)),
+        Read::Refused(line) => Ok(refusing(line)),
     }
 }
 
@@ -197,18 +197,18 @@ pub fn output_of_threads<R: Threads + Wait + Sync, G: Gate>(
     rt: &R,
     alloc: Global,
     bytes: &[u8],
-    shows: Shows,
+    trace: bool,
     gate: &G,
 ) -> Result<Output, NoMemory>
-    ensures { IfOk result (λ o. IsPlayOutput bytes.now true shows o.ran o.status o.text) }
+    ensures { IfOk result (λ o. IsPlayOutput bytes.now true (report_shown trace) o.ran o.status o.text) }
 {
     match read_input(alloc, bytes, &shapes())? {
-        Input::Ready(accepted, script) => {
+        Read::Ready((accepted, script)) => {
             let kind = kind_of(accepted.interface());
             let played = share_kind(rt, alloc, kind, &accepted, script, gate)?;
-            reported(alloc, kind, &accepted, played, shows)
+            reported(alloc, kind, &accepted, played, Shows::of_report(trace))
         }
-        Input::Refused(line) => Ok(refusing(line)),
+        Read::Refused(line) => Ok(refusing(line)),
     }
 }
 
@@ -225,12 +225,12 @@ pub fn explored<R: Threads + Sync, P: Progress>(
     ensures found { IfOk result (λ o. IsExploration bytes.now most o.status o.text) }
 {
     match read_input(alloc, bytes, &shapes())? {
-        Input::Ready(accepted, script) => {
+        Read::Ready((accepted, script)) => {
             let kind = kind_of(accepted.interface());
             let found = explore_kind(rt, alloc, kind, &accepted, &script, most, progress)?;
             Ok(output_finding(found))
         }
-        Input::Refused(line) => Ok(refusing(line)),
+        Read::Refused(line) => Ok(refusing(line)),
     }
 }
 
@@ -253,13 +253,13 @@ fn several(alloc: Global, bytes: &[u8], with_trace: bool) -> Result<Output, NoMe
     ensures { IfOk result (λ o. IsMultiOutput bytes.now with_trace o.ran o.status o.text) }
 {
     match read_multi_input(alloc, bytes, &shapes())? {
-        MultiInput::Ready(interfaces, script) => {
+        Read::Ready((interfaces, script)) => {
             let members = members_of(alloc, interfaces.as_slice())?;
             let came = play_over(alloc, members.as_slice(), script)?;
             let text = multi_text(alloc, members.as_slice(), &came, with_trace)?;
             Ok(output_of_members(came, text))
         }
-        MultiInput::Refused(line) => Ok(refusing(line)),
+        Read::Refused(line) => Ok(refusing(line)),
     }
 }
 
@@ -334,7 +334,7 @@ fn shown(
     ensures { IfOk result (IsShown shows accepted.now played.now) }
 {
     match shows {
-        Shows::Run => text(alloc, accepted.interface(), played.ended(), false),
+        Shows::Report => text(alloc, accepted.interface(), played.ended(), false),
         Shows::Trace => text(alloc, accepted.interface(), played.ended(), true),
         Shows::Costs => costs_shown(alloc, kind, accepted, played),
         Shows::Picture => picture(alloc, accepted.interface(), played.ended()),

@@ -4,11 +4,11 @@ ghost use Rattle.sg_edge.specs.Edge.{ConsumesAtMost};
 ghost use Rattle.sg_top.specs.Answer.{IsAnswer, IsCommand, IsSerialCommand, ReadsInput, has_input, is_in_threads, most_bytes};
 ghost use Rattle.sg_top.specs.Inside.Delivery.{IsWritten};
 ghost use Rattle.sg_explore.specs.Tried.{most_paired};
-ghost use Rattle.sg_top.specs.declared.command.Command.TheVariants.{Explore as exploration, Play as play};
+ghost use Rattle.sg_top.specs.declared.command.Command.TheVariants.{Explore as exploration, Run as run};
 ghost use Rattle.sg_top.specs.declared.output.Ran.TheVariants.{Nothing as nothing};
 ghost use Rattle.sg_top.specs.declared.status.Status.TheVariants.{NoMemory as no_memory};
 
-use crate::command::{Command, Shows};
+use crate::command::Command;
 use crate::output::{Output, Ran, explored, loaded, output_of, output_of_threads};
 use crate::status::Status;
 use sg_edge::{Gate, Intake, ReadError, Sink, Source, read_all, write_all};
@@ -88,11 +88,16 @@ pub fn superglue<R: Threads + Wait + Sync, I: Source, O: Sink, G: Gate, P: Progr
         return without_run(Status::OtherWords);
     };
     match command {
-        Command::Play { threads, shows } if threads => {
-            with_threads(rt, alloc, shows, input, output, gate)
-        }
+        Command::Run { trace } => with_threads(rt, alloc, trace, input, output, gate),
         Command::Explore { most } => with_exploration(rt, alloc, most, input, output, progress),
-        _ => in_one_thread(alloc, command, input, output),
+        Command::Play { .. }
+        | Command::Check
+        | Command::Compile
+        | Command::Upgrade
+        | Command::Explain
+        | Command::Verify
+        | Command::Multi { .. }
+        | Command::Load { .. } => in_one_thread(alloc, command, input, output),
     }
 }
 
@@ -142,7 +147,7 @@ fn in_one_thread<I: Source, O: Sink>(
         | Command::Explain
         | Command::Verify
         | Command::Multi { .. } => with_input(alloc, command, input, output),
-        Command::Explore { .. } => unreachable!(),
+        Command::Run { .. } | Command::Explore { .. } => unreachable!(),
     }
 }
 
@@ -150,20 +155,20 @@ fn in_one_thread<I: Source, O: Sink>(
 fn with_threads<R: Threads + Wait + Sync, I: Source, O: Sink, G: Gate>(
     rt: &R,
     alloc: Global,
-    shows: Shows,
+    trace: bool,
     input: &mut I,
     output: &mut O,
     gate: &G,
 ) -> Answer
-    ensures answer { IsAnswer (λ said. said ≡ play true shows)
+    ensures answer { IsAnswer (λ said. said ≡ run trace)
         (record { told = I.left input.old; faults = I.faults input.old }) (record { told = I.left input.new; faults = I.faults input.new })
         (record { told = O.written output.old; faults = O.faults output.old }) (record { told = O.written output.new; faults = O.faults output.new })
         result.status result.ran }
-    ensures most_read { ReadsInput (λ said. said ≡ play true shows) (I.left input.old) (I.left input.new) }
+    ensures most_read { ReadsInput (λ said. said ≡ run trace) (I.left input.old) (I.left input.new) }
 {
     match read_all(alloc, input, MOST_INPUT) {
         Ok(Intake::Whole(bytes)) => {
-            let made = output_of_threads(rt, alloc, bytes.as_slice(), shows, gate);
+            let made = output_of_threads(rt, alloc, bytes.as_slice(), trace, gate);
             deliver_made(output, made)
         }
         Ok(Intake::TooLong) => deliver(output, TOO_LONG, Status::Refused, Ran::Nothing),

@@ -25,7 +25,7 @@ AreKeyed entries = Each (λ e. e.0 ≡ e.1.row.id) entries
 -- room for the fields of one row, with a text in each
 pub record HasRowRoom (room : RowRoom) : Type 0 where
   pub empty : room.values.items ≡ []
-  pub values : 8 ≤ vec_capacity room.values
+  pub values : vec_capacity room.values ≡ 8
   pub texts : 8 ≤ length room.texts.items
 
 -- room for one row, or for none

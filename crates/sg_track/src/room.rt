@@ -1,5 +1,5 @@
 // Room for a row.
-ghost use Rattle.std.specs.Prelude.{◌≡◌, ◌+◌, ◌≤◌, [], length, map, OnOk, vec_capacity};
+ghost use Rattle.std.specs.Prelude.{◌≡◌, ◌+◌, ◌≤◌, [], length, map, max, OnOk, vec_capacity};
 ghost use Rattle.sg_track.specs.Drafts.{drafted};
 
 use crate::draft::Draft;
@@ -28,7 +28,8 @@ impl RowRoom {
 
     /// Takes the memory for the fields of a row, where it isn't there.
     pub(crate) fn reserve(&mut self, alloc: Global) -> Result<(), NoMemory>
-        ensures { OnOk result (HasRowRoom self.new) }
+        ensures ok { OnOk result (HasRowRoom self.new) }
+        ensures most { OnOk result (length self.new.texts.items ≤ max 8 (length self.old.texts.items)) }
     {
         self.values = Vec::with_capacity(alloc, MOST_FIELDS)?;
         add_text_rooms(alloc, &mut self.texts)?;
@@ -55,7 +56,7 @@ fn filled(
     call: &Call,
 ) -> Vec<Value>
     requires empty { values.items ≡ [] }
-    requires room { 8 ≤ vec_capacity values }
+    requires room { vec_capacity values ≡ 8 }
     requires texts { 8 ≤ length texts.old.items }
     requires few { length drafts.now ≤ 8 }
     ensures { result.items ≡ map (drafted call.now) drafts.now }
@@ -98,7 +99,8 @@ fn filled_text(texts: &mut Vec<TextRoom>, text: &Text) -> Text
 
 // Makes up the rooms for as many texts as a row has fields.
 fn add_text_rooms(alloc: Global, rooms: &mut Vec<TextRoom>) -> Result<(), NoMemory>
-    ensures { OnOk result (8 ≤ length rooms.new.items) }
+    ensures ok { OnOk result (8 ≤ length rooms.new.items) }
+    ensures most { OnOk result (length rooms.new.items ≤ max 8 (length rooms.old.items)) }
 {
     'rooms: for _ in rooms.len()..MOST_FIELDS {
         rooms.push(Text::room(alloc)?)?;

@@ -246,8 +246,8 @@ offers p q r c fun desc args l e g =
     let h = own_since p q r _ l g (e, tt) in
     subst (λ k. HasOwnMore p r (mark_by p.number (Offer k) ∷ [])) (same_next p q fun desc args l) (subst (λ x. HasOwnMore p r (mark_by x (Offer (call_by q fun desc args)) ∷ [])) n h)
 
-pub wants_memory : (p q r : SeatView) (call : Call) → HasLearnt p q → GaveBackWith q r [] → HasNoMemory p call r
-wants_memory p q r call l g = refused p r call (own_since p q r [] l g tt)
+pub lacked_memory : (p q r : SeatView) (call : Call) → HasLearnt p q → GaveBackWith q r [] → HasNoMemory p call r
+lacked_memory p q r call l g = refused p r call (own_since p q r [] l g tt)
 
 pub learns_more : (p q : SeatView) → HasLearnt p q → StaysIn p q
 learns_more p q l = record { grows = grows_learnt p q l; entries = ap entries_in (own_learnt p q l); given_up = ap withdrawals_in (own_learnt p q l) }

@@ -6,7 +6,7 @@ ghost use Rattle.sg_turn.specs.Seats.{AllEndIn, NumberedFrom, knowledge_of};
 use crate::kept::Kept;
 use crate::rule::Gather;
 use crate::seat::Seat;
-use crate::steps::{Board, Place};
+use crate::steps::{Board, BoardSeat};
 use std::marker::Model;
 
 /// A hand-over that is being ended. Its seats come back one by one, the last one first, and it takes no memory. It is for a caller
@@ -15,7 +15,7 @@ use std::marker::Model;
 #[derive(Drop)]
 pub struct Closing<V: Kept> {
     table: Board<V>,
-    place: Place<V>,
+    place: BoardSeat<V>,
 }
 
 impl<V: Kept> Model for Closing<V> {

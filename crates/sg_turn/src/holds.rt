@@ -9,7 +9,7 @@ ghost use Rattle.sg_turn.specs.Passes.{call_by, own_entries, seen_by, standing_o
 ghost use Rattle.sg_turn.specs.Told.{AllRest, HasNoCall, asking, mark_by};
 
 use crate::host::{Host, Stepped};
-use crate::{Held, Seat, Turn};
+use crate::{Hold, Seat, Turn};
 use sg_facts::{NextCall, NoMemory, Reply};
 use std::alloc::Global;
 
@@ -19,7 +19,7 @@ pub fn offer<H: Host>(
     turn: &Turn<H>,
     seat: &mut Seat<H>,
     client: u8,
-    mut held: Held<H>,
+    mut held: Hold<H>,
     parts: NextCall,
 ) -> Result<(), NoMemory>
     requires turn { seat.old.turn ≡ turn.now.id }
@@ -59,7 +59,7 @@ pub fn step<H: Host>(
     turn: &Turn<H>,
     seat: &mut Seat<H>,
     client: u8,
-    mut held: Held<H>,
+    mut held: Hold<H>,
 ) -> HoldStep
     requires turn { seat.old.turn ≡ turn.now.id }
     requires holds { seat.old.holds ≡ true }
@@ -87,7 +87,7 @@ pub fn step<H: Host>(
 }
 
 /// The client withdraws its call.
-pub fn withdraw<H: Host>(turn: &Turn<H>, seat: &mut Seat<H>, client: u8, mut held: Held<H>)
+pub fn withdraw<H: Host>(turn: &Turn<H>, seat: &mut Seat<H>, client: u8, mut held: Hold<H>)
     requires turn { seat.old.turn ≡ turn.now.id }
     requires holds { seat.old.holds ≡ true }
     requires client { client ≡ seat.old.number }
@@ -105,7 +105,7 @@ pub fn withdraw<H: Host>(turn: &Turn<H>, seat: &mut Seat<H>, client: u8, mut hel
 }
 
 /// The client leaves.
-pub fn leave<H: Host>(turn: &Turn<H>, seat: &mut Seat<H>, client: u8, mut held: Held<H>)
+pub fn leave<H: Host>(turn: &Turn<H>, seat: &mut Seat<H>, client: u8, mut held: Hold<H>)
     requires turn { seat.old.turn ≡ turn.now.id }
     requires holds { seat.old.holds ≡ true }
     requires client { client ≡ seat.old.number }
@@ -121,7 +121,7 @@ pub fn leave<H: Host>(turn: &Turn<H>, seat: &mut Seat<H>, client: u8, mut held: 
 }
 
 /// Whether the client's call may be withdrawn.
-pub fn may_withdraw<H: Host>(seat: &Seat<H>, client: u8, held: &Held<H>) -> bool
+pub fn may_withdraw<H: Host>(seat: &Seat<H>, client: u8, held: &Hold<H>) -> bool
     requires client { client ≡ seat.now.number }
     requires first { 1 ≤ client }
     requires last { client ≤ H.clients }
@@ -134,7 +134,7 @@ pub fn may_withdraw<H: Host>(seat: &Seat<H>, client: u8, held: &Held<H>) -> bool
 }
 
 /// Whether the client waits, in a call that has no answer, and each other waits too or has left.
-pub fn is_all_blocked<H: Host>(seat: &Seat<H>, client: u8, held: &Held<H>) -> bool
+pub fn is_all_blocked<H: Host>(seat: &Seat<H>, client: u8, held: &Hold<H>) -> bool
     requires client { client ≡ seat.now.number }
     requires first { 1 ≤ client }
     requires last { client ≤ H.clients }

@@ -38,10 +38,10 @@ pub type Board<V> = Table<Option<V>, View, Snapshot<V>, InTurn<V>, Global>;
 pub type Steps<V> = Shared<Option<V>, View, Snapshot<V>, InTurn<V>>;
 
 /// A seat's place at a board.
-pub type Place<V> = Seat<Option<V>, View>;
+pub type BoardSeat<V> = Seat<Option<V>, View>;
 
 /// Draws a ticket. It never returns once the tickets are used up: the last is never drawn, so that no ticket comes twice.
-pub fn draw<R: Wait, V: Kept>(rt: &R, steps: &Steps<V>, place: &mut Place<V>) -> u64
+pub fn draw<R: Wait, V: Kept>(rt: &R, steps: &Steps<V>, place: &mut BoardSeat<V>) -> u64
     requires table { place.old.table_id ≡ steps.now.table_id }
     requires words { steps.now.table_id.words ≡ 3 }
     requires idle { place.old.me.0.state ≡ Idle }
@@ -67,7 +67,7 @@ pub fn wait_for<R: Wait, V: Kept>(
     rt: &R,
     bells: &Bells,
     steps: &Steps<V>,
-    place: &mut Place<V>,
+    place: &mut BoardSeat<V>,
     ticket: u64,
 )
     requires table { place.old.table_id ≡ steps.now.table_id }
@@ -104,7 +104,7 @@ fn sleep<R: Wait, V: Kept>(rt: &R, bells: &Bells, steps: &Steps<V>, ticket: u64)
 }
 
 /// Learns the latest face, and takes the slot, in which the value is then.
-pub fn fetch<V: Kept>(steps: &Steps<V>, place: &mut Place<V>, ticket: u64)
+pub fn fetch<V: Kept>(steps: &Steps<V>, place: &mut BoardSeat<V>, ticket: u64)
     requires table { place.old.table_id ≡ steps.now.table_id }
     requires words { steps.now.table_id.words ≡ 3 }
     requires served { place.old.me.0.state ≡ Served ticket }
@@ -117,7 +117,7 @@ pub fn fetch<V: Kept>(steps: &Steps<V>, place: &mut Place<V>, ticket: u64)
 }
 
 /// Learns the latest face, and answers its number of holds.
-pub fn learn<V: Kept>(steps: &Steps<V>, place: &mut Place<V>) -> u64
+pub fn learn<V: Kept>(steps: &Steps<V>, place: &mut BoardSeat<V>) -> u64
     requires table { place.old.table_id ≡ steps.now.table_id }
     requires words { steps.now.table_id.words ≡ 3 }
     requires between { (place.old.me.0.state ≡ Idle) ⊎ (is_holding place.old.me.0.state ≡ true) }
@@ -129,7 +129,7 @@ pub fn learn<V: Kept>(steps: &Steps<V>, place: &mut Place<V>) -> u64
 
 /// Puts the value back in its slot, counts the hold, and serves the next ticket. Its bell rings then, and that of the ticket that is
 /// among the next from now on.
-pub fn give_back<V: Kept>(bells: &Bells, steps: &Steps<V>, place: &mut Place<V>, value: V)
+pub fn give_back<V: Kept>(bells: &Bells, steps: &Steps<V>, place: &mut BoardSeat<V>, value: V)
     requires table { place.old.table_id ≡ steps.now.table_id }
     requires words { steps.now.table_id.words ≡ 3 }
     requires holds { is_holding place.old.me.0.state ≡ true }

@@ -36,7 +36,7 @@ impl<V: Kept> Model for Turn<V> {
 
 /// The value, out with the seat that took it. The holder has it alone, until it gives it back.
 #[derive(Drop)]
-pub struct Held<V: Kept> {
+pub struct Hold<V: Kept> {
     pub value: V,
 }
 
@@ -75,7 +75,7 @@ impl<V: Kept> Turn<V> {
     /// Draws a ticket for a seat that doesn't hold the value, waits until the ticket is served, and takes the value as it was last
     /// given back. Its face is what the seat knows then: it begins with all that the seat knew, and nothing that came since is of the
     /// seat's own client. It may wait, and waits forever where a holder never gives the value back, or the tickets are used up.
-    pub fn take<R: Wait>(&self, rt: &R, seat: &mut Seat<V>) -> Held<V>
+    pub fn take<R: Wait>(&self, rt: &R, seat: &mut Seat<V>) -> Hold<V>
         requires turn { seat.old.turn ≡ self.now.id }
         requires free { seat.old.holds ≡ false }
         ensures seat { HasLearnt seat.old seat.new }
@@ -88,20 +88,20 @@ impl<V: Kept> Turn<V> {
         wait_for(rt, &self.bells, steps, place, ticket);
         fetch(steps, place, ticket);
         let value = steps.exchange(place, 0, None).unwrap();
-        Held { value }
+        Hold { value }
     }
 
     /// Gives a value back for a seat that holds, counts the hold, and serves the next ticket. Marks of the seat's client alone stand
     /// behind the log with which the value was taken, and it has one event more, or still the greatest number of 64 bits. What the
     /// next holder takes is this value.
-    pub fn give(&self, seat: &mut Seat<V>, held: Held<V>)
+    pub fn give(&self, seat: &mut Seat<V>, held: Hold<V>)
         requires turn { seat.old.turn ≡ self.now.id }
         requires holds { seat.old.holds ≡ true }
         requires log { AddsMarks seat.old.number seat.old.face.log (V.log held.value) }
         requires events { OneMore seat.old.face.events (V.events held.value) }
         ensures { seat.new ≡ record seat.old { known = seat.old.known + 1; face = face_by V.log V.events held.value; holds = false } }
     {
-        let Held { value } = held;
+        let Hold { value } = held;
         give_back(&self.bells, &self.table.shared, &mut seat.place, value);
     }
 

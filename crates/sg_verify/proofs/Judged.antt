@@ -26,7 +26,7 @@ use Rattle.sg_verify.specs.Inside.Judging.{IsSettled, IsSoFar, IsWrongAfter, set
 use Rattle.sg_verify.specs.Verdicts.{IsRight, IsVerdictOf}
 use Rattle.sg_verify.specs.declared.verdict.Verdict.{Verdict}
 use Rattle.sg_verify.specs.declared.verdict.Verdict.TheVariants.{Legal, BadSeq, BadReply}
-use Rattle.sg_world_laws.proofs.Drawn.{object_behind}
+use Rattle.sg_world_laws.proofs.Drawn.{object_after}
 use Rattle.sg_world_laws.proofs.Entered.{numbered_push}
 use Rattle.sg_world_laws.proofs.Entering.{legal_push, settled_after, settled_refused}
 use Rattle.sg_world_laws.proofs.Onseat.{seat_passes}
@@ -84,7 +84,7 @@ module _ (z : Setting) (set : IsSetting z) (h : List Entry) (e : Entry) (settled
         legal = legal_push z.iface z.ask empty_object h e is.legal answered;
         numbered = numbered_push [] h e is.numbered seq;
         settled = record { object = settled_next; few = omega (arith, many, longer, few) };
-        object = after_it ∙ ap (λ x. after z.iface.facts x e.call e.reply) is.object ∙ sym (object_behind z.iface.facts empty_object h (e ∷ []));
+        object = after_it ∙ ap (λ x. after z.iface.facts x e.call e.reply) is.object ∙ sym (object_after z.iface.facts empty_object h (e ∷ []));
         counted = counted;
         many = omega (arith, many, longer);
       }

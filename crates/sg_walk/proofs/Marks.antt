@@ -5,7 +5,7 @@ use Rattle.sg_facts.specs.Facts.{Field}
 use Rattle.std.proofs.Math.ListN.{set}
 use Rattle.std.proofs.lemmas.List.{drop_more, map-set, length-map, set_past}
 use Rattle.sg_facts.specs.declared.shape.Effect.{Effect}
-use Rattle.sg_facts.specs.Walks.{Mark as Known, unset, mark_after, marks_after}
+use Rattle.sg_facts.specs.Walks.{FieldMark as Known, unset, mark_after, marks_after}
 use Rattle.sg_walk.specs.declared.spot.FieldState.{FieldState}
 use Rattle.sg_walk.specs.declared.spot.FieldState.TheVariants.{Unset}
 use Rattle.sg_walk.specs.Inside.Spots.{known_of, shown_marks}

@@ -7,7 +7,7 @@ use Rattle.std.proofs.lemmas.Bool.{cases_Bool, and_parts}
 use Rattle.std.proofs.lemmas.Bool.Decides.{nat_tests}
 use Rattle.sg_facts.specs.Fields.{number_of}
 use Rattle.sg_facts.specs.Interface.{Declared}
-use Rattle.sg_facts.specs.Walks.{Mark as Known, Spot as Place, spot_of, restores_fields}
+use Rattle.sg_facts.specs.Walks.{FieldMark as Known, Spot as Place, spot_of, restores_fields}
 use Rattle.sg_facts.specs.Inside.Walking.{restores_field, restores_at, Restores}
 use Rattle.sg_walk.specs.declared.spot.Goal.{Goal}
 use Rattle.sg_walk.specs.Inside.Spots.{restores_number, is_goal_at, reaches}

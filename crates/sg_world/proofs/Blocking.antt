@@ -24,7 +24,7 @@ use Rattle.sg_world_laws.specs.sg_recovery_laws.LastItem.LastPlace.{HaveItems, l
 use Rattle.sg_world_laws.proofs.Ending.Calls.{own_tag, none_of_stub}
 use Rattle.sg_world_laws.proofs.Ending.Boots.{places_last_struck}
 use Rattle.sg_world_laws.proofs.Ending.Seats.{each_entered, each_set, each_woken}
-use Rattle.sg_world_laws.proofs.Ending.Shapes.{answered_seats, entry_with, given_seats, seat_behind, woken}
+use Rattle.sg_world_laws.proofs.Ending.Shapes.{answered_seats, entry_with, given_seats, seat_after, woken}
 use Rattle.sg_world_laws.proofs.Ending.Blocked.{blocked_noted, blocked_same, blocked_waiting, unwoken_by, waits_on, wakes_nobody, wakes_only}
 use Rattle.sg_world_laws.proofs.Ending.Wakers.{wakes_entered, wakes_noted, wakes_refused}
 use Rattle.sg_world_laws.specs.Ending.{AreBlockedSoFar, IsBlockedSeat}
@@ -138,9 +138,9 @@ module _ (z : Setting) (w : WorldView) (c : ℕ) (first : 1 ≤ c) (last : c ≤
 
   line_entered : (now : List Boot) (reply : Reply) (p : Phase) (kept : Reply) → (p ≡ Blocked → ⊥) → is_held_phase p ≡ false
       → ((call : Call) → test_of reply call ≡ false → is_still_blocked facts old call (last_places boots) ≡ true → is_still_blocked facts (now_with reply) call (last_places now) ≡ true)
-      → AreBlockedSoFar facts (w.history ++ entry_with facts w c reply ∷ []) now (slice_set (woken facts w c reply) (c - 1) (seat_behind facts w c reply p kept))
+      → AreBlockedSoFar facts (w.history ++ entry_with facts w c reply ∷ []) now (slice_set (woken facts w c reply) (c - 1) (seat_after facts w c reply p kept))
   line_entered now reply p kept free held all =
-      each_entered (λ client t. IsBlockedSeat facts (now_with reply) now t) (test_of reply) w.seats c (seat_behind facts w c reply p kept) first last
+      each_entered (λ client t. IsBlockedSeat facts (now_with reply) now t) (test_of reply) w.seats c (seat_after facts w c reply p kept) first last
       (record { blocked = λ blocked. absurd (free blocked); visible = λ g. held })
       (λ client from to other. record {
         blocked = λ blocked.
@@ -150,10 +150,10 @@ module _ (z : Setting) (w : WorldView) (c : ℕ) (first : 1 ≤ c) (last : c ≤
       })
 
   -- a held reply is returned
-  line_returned : (reply kept : Reply) → s.phase ≡ Held → AreBlockedSoFar facts (w.history ++ entry_with facts w c reply ∷ []) boots (slice_set (woken facts w c reply) (c - 1) (seat_behind facts w c reply Idle kept))
+  line_returned : (reply kept : Reply) → s.phase ≡ Held → AreBlockedSoFar facts (w.history ++ entry_with facts w c reply ∷ []) boots (slice_set (woken facts w c reply) (c - 1) (seat_after facts w c reply Idle kept))
   line_returned reply kept held = by facts.global refl
     where
-      by : (g : Bool) → facts.global ≡ g → AreBlockedSoFar facts (w.history ++ entry_with facts w c reply ∷ []) boots (slice_set (woken facts w c reply) (c - 1) (seat_behind facts w c reply Idle kept))
+      by : (g : Bool) → facts.global ≡ g → AreBlockedSoFar facts (w.history ++ entry_with facts w c reply ∷ []) boots (slice_set (woken facts w c reply) (c - 1) (seat_after facts w c reply Idle kept))
       by true all = absurd (let none = (is c first last).visible all in let some : is_held_phase s.phase ≡ true = ap is_held_phase held in cc (none, some))
       by false alone =
           let same : now_with reply ≡ old = ap (λ g. cond g (w.history ++ entry_with facts w c reply ∷ []) []) alone ∙ sym (ap (λ g. cond g w.history []) alone) in
@@ -161,7 +161,7 @@ module _ (z : Setting) (w : WorldView) (c : ℕ) (first : 1 ≤ c) (last : c ≤
 
   -- the guard refuses
   line_refused : (reply : Reply) (code : Code) (kept : Reply) → guard z.iface (object_of facts w.history) s.call ≡ Some code → reply ≡ Refused code
-      → AreBlockedSoFar facts (w.history ++ entry_with facts w c reply ∷ []) boots (slice_set (woken facts w c reply) (c - 1) (seat_behind facts w c reply Idle kept))
+      → AreBlockedSoFar facts (w.history ++ entry_with facts w c reply ∷ []) boots (slice_set (woken facts w c reply) (c - 1) (seat_after facts w c reply Idle kept))
   line_refused reply code kept guarded answers =
       line_entered boots reply Idle kept (λ a. cc a) refl (λ call unmet blocked. blocked_same facts old (now_with reply) call (λ p. by call.desc p facts.global) (last_places boots) ∙ blocked)
     where
@@ -174,7 +174,7 @@ module _ (z : Setting) (w : WorldView) (c : ℕ) (first : 1 ≤ c) (last : c ≤
 
   -- an item is noted with its entry
   line_committed : (item : Item) (reply : Reply) → item.tag ≡ Client c s.call.seq → is_offered s.phase ≡ true
-      → AreBlockedSoFar facts (w.history ++ entry_with facts w c reply ∷ []) (noted boots item) (slice_set (woken facts w c reply) (c - 1) (seat_behind facts w c reply Receipted reply))
+      → AreBlockedSoFar facts (w.history ++ entry_with facts w c reply ∷ []) (noted boots item) (slice_set (woken facts w c reply) (c - 1) (seat_after facts w c reply Receipted reply))
   line_committed item reply tag offers =
       line_entered (noted boots item) reply Receipted reply (λ a. cc a) refl
       (λ call unmet blocked. blocked_noted facts old (now_with reply) item same_entered call boots begun (nobody call unmet facts.global) blocked)
@@ -204,7 +204,7 @@ module _ (z : Setting) (w : WorldView) (c : ℕ) (first : 1 ≤ c) (last : c ≤
   commits : (between : WorldView) → Commits z w c between → Tells between
   commits between l =
       let asked = l.asks.reaches.uses.let_in.phase in
-      blocked_at between (w.history ++ entry_with facts w c l.reply ∷ []) (noted boots l.asks.item) (slice_set (woken facts w c l.reply) (c - 1) (seat_behind facts w c l.reply Receipted l.reply))
+      blocked_at between (w.history ++ entry_with facts w c l.reply ∷ []) (noted boots l.asks.item) (slice_set (woken facts w c l.reply) (c - 1) (seat_after facts w c l.reply Receipted l.reply))
       (ap (λ x. x.history) l.now) (ap (λ x. x.run.boots) l.now) (ap (λ x. x.seats) l.now ∙ given_seats facts w c l.reply (its (offers_by Asked asked refl)))
       (line_committed l.asks.item l.reply l.asks.tag (offers_by Asked asked refl))
 
@@ -217,11 +217,11 @@ module _ (z : Setting) (w : WorldView) (c : ℕ) (first : 1 ≤ c) (last : c ≤
   blocked_step (Answered reply) later (inl l) =
       subst Tells (sym l.now) (blocked_set facts w.history boots w.seats c (record s { phase = Idle; reply = no_reply }) first last (λ a. cc a) (λ all. refl) is)
   blocked_step (Answered reply) later (inr (inl l)) =
-      blocked_at later (w.history ++ entry_with facts w c reply ∷ []) boots (slice_set (woken facts w c reply) (c - 1) (seat_behind facts w c reply Idle no_reply))
+      blocked_at later (w.history ++ entry_with facts w c reply ∷ []) boots (slice_set (woken facts w c reply) (c - 1) (seat_after facts w c reply Idle no_reply))
       (ap (λ x. x.history) l.now) (ap (λ x. x.run.boots) l.now) (ap (λ x. x.seats) l.now ∙ answered_seats facts w c reply (its (offers_by Held l.phase refl)))
       (line_returned reply no_reply l.phase)
   blocked_step (Answered reply) later (inr (inr l)) =
-      blocked_at later (w.history ++ entry_with facts w c reply ∷ []) boots (slice_set (woken facts w c reply) (c - 1) (seat_behind facts w c reply Idle no_reply))
+      blocked_at later (w.history ++ entry_with facts w c reply ∷ []) boots (slice_set (woken facts w c reply) (c - 1) (seat_after facts w c reply Idle no_reply))
       (ap (λ x. x.history) l.now) (ap (λ x. x.run.boots) l.now) (ap (λ x. x.seats) l.now ∙ answered_seats facts w c reply (its (offers_by Asked l.phase refl)))
       (line_refused reply l.code no_reply l.guarded l.its)
   blocked_step Lost later l = subst Tells (sym l.now) (blocked_set facts w.history boots w.seats c (record s { phase = Asked }) first last (λ a. cc a) (λ all. refl) is)

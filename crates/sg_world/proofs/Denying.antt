@@ -22,7 +22,7 @@ use Rattle.sg_world.proofs.Upright.{Upright, keeps_upright}
 use Rattle.sg_world.proofs.Wakes.{woken_none}
 use Rattle.sg_world.specs.Marked.{TellsAll}
 use Rattle.sg_world.specs.Worlded.{HaveRooms, IsWorld, Rooms, StoresObject}
-use Rattle.sg_world_laws.proofs.Drawn.{object_behind}
+use Rattle.sg_world_laws.proofs.Drawn.{object_after}
 use Rattle.sg_world_laws.proofs.Entered.{seats_entered}
 use Rattle.sg_world_laws.proofs.LetIn.{none_held_by}
 use Rattle.sg_world_laws.proofs.Moves.{its_seat}
@@ -157,7 +157,7 @@ module _ (z : Setting) (e : Engined) (w : WorldView) (rooms : Rooms) (is : IsWor
     }
       where
         same : object_of z.iface.facts (w.history ++ (record { call = (seat_of w client).call; reply = Refused code }) ∷ []) ≡ object_of z.iface.facts w.history
-        same = object_behind z.iface.facts empty_object w.history (its_entry ∷ [])
+        same = object_after z.iface.facts empty_object w.history (its_entry ∷ [])
 
     pub denied_on : rooms.entries ≤ later.entries + 1 → rooms.withdrawals ≤ later.withdrawals → rooms.marks ≤ later.marks + 2 → IsWorld z e (record w { history = history; seats = seats; marks = marks }) later
     denied_on entries withdrawals left_marks = record {

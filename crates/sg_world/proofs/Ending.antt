@@ -18,9 +18,9 @@ use Rattle.sg_replay.specs.sg_hist.Growing.{noted, struck}
 use Rattle.sg_world_laws.specs.sg_clients.WorldView.{Seat, WorldView, is_offered, no_reply, seat_of, wakes_seat}
 use Rattle.sg_world_laws.specs.sg_clients.declared.phase.Phase.{Phase}
 use Rattle.sg_world_laws.specs.sg_clients.declared.phase.Phase.TheVariants.{Idle, Asked, Held, Receipted, Blocked}
-use Rattle.sg_world_laws.proofs.Ending.Ended.{asked_noted, asked_struck, ending_booted, ending_kept, ending_now, ending_struck, goes_on, quiet_behind, quiet_running, stop_noted}
+use Rattle.sg_world_laws.proofs.Ending.Ended.{asked_noted, asked_struck, ending_booted, ending_kept, ending_now, ending_struck, goes_on, quiet_after, quiet_running, stop_noted}
 use Rattle.sg_world_laws.proofs.Ending.Seats.{here_entered, length_entered, others_entered, others_same, others_set}
-use Rattle.sg_world_laws.proofs.Ending.Shapes.{answered_seats, entry_with, given_seats, seat_behind, woken}
+use Rattle.sg_world_laws.proofs.Ending.Shapes.{answered_seats, entry_with, given_seats, seat_after, woken}
 use Rattle.sg_world_laws.proofs.Ending.Boots.{length_noted, length_struck}
 use Rattle.sg_world_laws.specs.Ending.{EndsWell, IsEndingSoFar}
 use Rattle.sg_replay.specs.sg_hist.Inside.Parts.{EndsUsed}
@@ -91,10 +91,10 @@ module _ (z : Setting) (w : WorldView) (c : ℕ) (first : 1 ≤ c) (last : c ≤
 
   -- its call is entered
   boot_entered : (later : WorldView) (boots : List Boot) (reply : Reply) (p : Phase) (kept : Reply) → (p ≡ Held → ⊥) → later.history ≡ w.history ++ entry_with z.iface.facts w c reply ∷ []
-      → later.run.boots ≡ boots → later.seats ≡ slice_set (woken z.iface.facts w c reply) (c - 1) (seat_behind z.iface.facts w c reply p kept) → EndsWell z.iface.facts boots → length boots ≡ length w.run.boots → Ends later
+      → later.run.boots ≡ boots → later.seats ≡ slice_set (woken z.iface.facts w c reply) (c - 1) (seat_after z.iface.facts w c reply p kept) → EndsWell z.iface.facts boots → length boots ≡ length w.run.boots → Ends later
   boot_entered later boots reply p kept none h b l ends count =
       let test = wakes_seat z.iface.facts (object_of z.iface.facts w.history).rows s.call reply in
-      let new = seat_behind z.iface.facts w c reply p kept in
+      let new = seat_after z.iface.facts w c reply p kept in
       ends_at later (w.history ++ entry_with z.iface.facts w c reply ∷ []) boots (slice_set (woken z.iface.facts w c reply) (c - 1) new) h b l
       (ending_now z.iface w.history (w.history ++ entry_with z.iface.facts w c reply ∷ []) w.run.boots w.seats (slice_set (woken z.iface.facts w c reply) (c - 1) new) c is (length_entered test w.seats c new)
       (others_entered test w.seats c new first last) boots ends count
@@ -111,7 +111,7 @@ module _ (z : Setting) (w : WorldView) (c : ℕ) (first : 1 ≤ c) (last : c ≤
   refuses : (reply : Reply) (later : WorldView) → Refuses z w c reply later → Ends later
   refuses reply later l =
       let test = wakes_seat z.iface.facts (object_of z.iface.facts w.history).rows s.call reply in
-      let new = seat_behind z.iface.facts w c reply Idle no_reply in
+      let new = seat_after z.iface.facts w c reply Idle no_reply in
       ends_at later (w.history ++ entry_with z.iface.facts w c reply ∷ []) w.run.boots (slice_set (woken z.iface.facts w c reply) (c - 1) new) (ap (λ x. x.history) l.now) (ap (λ x. x.run.boots) l.now)
       (ap (λ x. x.seats) l.now ∙ answered_seats z.iface.facts w c reply (its (offers_by Asked l.phase refl)))
       (ending_kept z.iface w.history (w.history ++ entry_with z.iface.facts w c reply ∷ []) w.run.boots w.seats (slice_set (woken z.iface.facts w c reply) (c - 1) new) c is (length_entered test w.seats c new)
@@ -160,7 +160,7 @@ module _ (z : Setting) (w : WorldView) (c : ℕ) (first : 1 ≤ c) (last : c ≤
       let stop = asked_after item.points 1 in
       commits l.between later (struck (noted w.run.boots item) stop) l.commits (ap (λ x. x.history) l.now)
       (ap (λ x. x.run.boots) l.now ∙ ap (λ (x : WorldView). struck x.run.boots (asked_after x.run.points 1)) l.commits.now) (ap (λ x. x.seats) l.now)
-      (asked_struck (noted w.run.boots item) stop (asked_noted w.run.boots item), quiet_behind z.iface.facts w.run.boots item (its_reply l.commits.asks l.commits.visible l.commits.outcome)) (struck_count item stop)
+      (asked_struck (noted w.run.boots item) stop (asked_noted w.run.boots item), quiet_after z.iface.facts w.run.boots item (its_reply l.commits.asks l.commits.visible l.commits.outcome)) (struck_count item stop)
   ending_step Replayed later l = boot_noted later l.item l.service l.uses (ap (λ x. x.history) l.now) (ap (λ x. x.run.boots) l.now) (ap (λ x. x.seats) l.now)
   ending_step Loaded later l = boot_noted later l.item l.service l.uses (ap (λ x. x.history) l.now) (ap (λ x. x.run.boots) l.now) (ap (λ x. x.seats) l.now)
   ending_step Waits later l =

@@ -34,7 +34,7 @@ use Rattle.sg_world.proofs.Losing.{lost_set, lost_step}
 use Rattle.sg_world_laws.specs.Ending.{AreBlockedSoFar, AreLostSoFar, IsEnding, IsEndingSoFar}
 use Rattle.sg_world.specs.declared.did.Did.{Did}
 use Rattle.sg_world.specs.declared.did.Did.TheVariants.{Answered, Blocked as Waits, Booted, Loaded, Lost, Replayed, Served, Skipped, Struck}
-use Rattle.sg_world.specs.Steps.{HasStepped, Steps, WantsMemory}
+use Rattle.sg_world.specs.Steps.{HasStepped, Steps, LackedMemory}
 use Rattle.sg_world_laws.proofs.Entered.{numbers_below}
 use Rattle.sg_world_laws.specs.Seats.{AreSeated, HaveSeats, IsSeated}
 use Rattle.sg_world_laws.specs.Setting.{IsSetting, Setting}
@@ -115,7 +115,7 @@ module _ (z : Setting) (w : WorldView) (c : ℕ) (first : 1 ≤ c) (last : c ≤
           (λ e below own. below (test_same e.call.client c own)) (numbers_below [] w.history c ground.seats.numbered))
 
   -- or wanted memory
-  pub kept_wanted : (now : WorldView) → WantsMemory z w c now → IsEnding z now
+  pub kept_wanted : (now : WorldView) → LackedMemory z w c now → IsEnding z now
   kept_wanted now wants = subst (IsEnding z) (sym wants.counted) (record { boots = is.boots; blocked = is.blocked; lost = is.lost })
 
   -- the seat of a client is another, which neither waits nor holds a reply, and it wasn't asked

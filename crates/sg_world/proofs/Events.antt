@@ -22,7 +22,7 @@ use Rattle.sg_world.proofs.Stepped.{steps_counted, wants_counted}
 use Rattle.sg_world.specs.declared.did.Did.{Did}
 use Rattle.sg_world.specs.declared.did.Did.TheVariants.{Answered, Blocked as Waits, Booted, Loaded, Lost, Replayed, Served, Skipped, Struck}
 use Rattle.sg_world.specs.Inside.Lines.{NoMemoryLeft}
-use Rattle.sg_world.specs.Steps.{AnswersLast, Commits, Steps, WantsMemory}
+use Rattle.sg_world.specs.Steps.{AnswersLast, Commits, Steps, LackedMemory}
 use Rattle.sg_world.specs.Worlded.{CountsAll, IsWorld, Rooms}
 use Rattle.sg_world_laws.proofs.Entered.{last_push, own_calls}
 use Rattle.sg_world_laws.proofs.Turns.{counted_keeps}
@@ -43,11 +43,11 @@ module _ (z : Setting) (w : WorldView) (c : ℕ) where
       by (inl same) = subst (λ l. CountsAll z (record l { refused = min (l.refused + 1) last_count })) (sym same) (wants_counted z w c cell was w.run.points (inl refl))
       by (inr more) = subst (λ l. CountsAll z (record l { refused = min (l.refused + 1) last_count })) (sym more) (wants_counted z w c cell was (asked_after w.run.points 1) (inr refl))
 
-  pub err_wants : (later : WorldView) (r : Result Did NoMemory) → is_err r ≡ true → OnErr r (NoMemoryLeft z w c later) → OnErr r (WantsMemory z w c (happened (record later { refused = min (later.refused + 1) last_count })))
+  pub err_wants : (later : WorldView) (r : Result Did NoMemory) → is_err r ≡ true → OnErr r (NoMemoryLeft z w c later) → OnErr r (LackedMemory z w c (happened (record later { refused = min (later.refused + 1) last_count })))
   err_wants later (Done did) err left = tt
   err_wants later (Err error) err left = by left.now
     where
-      by : (later ≡ w) ⊎ (later ≡ with_points w (asked_after w.run.points 1)) → WantsMemory z w c (happened (record later { refused = min (later.refused + 1) last_count }))
+      by : (later ≡ w) ⊎ (later ≡ with_points w (asked_after w.run.points 1)) → LackedMemory z w c (happened (record later { refused = min (later.refused + 1) last_count }))
       by (inl same) = record { let_in = left.let_in; points = w.run.points; asked = inl refl; counted = ap (λ l. happened (record l { refused = min (l.refused + 1) last_count })) same }
       by (inr more) = record { let_in = left.let_in; points = asked_after w.run.points 1; asked = inr refl; counted = ap (λ l. happened (record l { refused = min (l.refused + 1) last_count })) more }
 

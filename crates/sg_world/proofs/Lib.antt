@@ -8,6 +8,7 @@ pub mod Engines
 pub mod Entering
 pub mod Events
 pub mod Handing
+pub mod InBoots
 pub mod Losing
 pub mod Marking
 pub mod Missing

@@ -31,7 +31,7 @@ use Rattle.sg_world_laws.proofs.Ending.Calls.{none_of_stub, own_tag}
 use Rattle.sg_world_laws.proofs.Ending.Ended.{goes_on}
 use Rattle.sg_world_laws.proofs.Ending.Lost.{entered_own, fewer_committed, fewer_entered, fewer_noted, free_item, holds_on, last_at, lost_booted, lost_moved, lost_noted, lost_over, lost_struck, none_of_client, quiet_noted}
 use Rattle.sg_world_laws.proofs.Ending.Seats.{length_entered}
-use Rattle.sg_world_laws.proofs.Ending.Shapes.{answered_seats, entry_with, given_seats, seat_behind, woken}
+use Rattle.sg_world_laws.proofs.Ending.Shapes.{answered_seats, entry_with, given_seats, seat_after, woken}
 use Rattle.sg_world_laws.proofs.Woken.{woken_is}
 use Rattle.sg_world_laws.specs.Ending.{AreLostSoFar, HoldsReply, IsHeldOrLost}
 use Rattle.sg_world_laws.specs.Setting.{IsSetting, Setting}
@@ -328,20 +328,20 @@ module _ (z : Setting) (set : IsSetting z) (w : WorldView) (c : ℕ) (first : 1 
 
   commits : (between : WorldView) → Commits z w c between → Keeps between
   commits between l =
-      lost_at between (w.history ++ entry_with z.iface.facts w c l.reply ∷ []) (noted boots l.asks.item) (slice_set (woken z.iface.facts w c l.reply) (c - 1) (seat_behind z.iface.facts w c l.reply Receipted l.reply))
+      lost_at between (w.history ++ entry_with z.iface.facts w c l.reply ∷ []) (noted boots l.asks.item) (slice_set (woken z.iface.facts w c l.reply) (c - 1) (seat_after z.iface.facts w c l.reply Receipted l.reply))
       (ap (λ x. x.history) l.now) (ap (λ x. x.run.boots) l.now) (ap (λ x. x.seats) l.now ∙ given_seats z.iface.facts w c l.reply (its (offers_by Asked l.asks.reaches.uses.let_in.phase refl)))
-      (commit_noted l.asks l.reply (seat_behind z.iface.facts w c l.reply Receipted l.reply) l.answers)
+      (commit_noted l.asks l.reply (seat_after z.iface.facts w c l.reply Receipted l.reply) l.answers)
 
   -- it is kept by each step
   pub lost_step : (did : Did) (later : WorldView) → Steps z w c did later → Keeps later
   lost_step Skipped later l = subst Keeps (sym l.now) is
   lost_step (Answered reply) later (inl l) = subst Keeps (sym l.now) (lost_set w.history boots w.seats c (record s { phase = Idle; reply = no_reply }) first (free_in Receipted l.phase (λ a. cc a)) is)
   lost_step (Answered reply) later (inr (inl l)) =
-      lost_at later (w.history ++ entry_with z.iface.facts w c reply ∷ []) boots (slice_set (woken z.iface.facts w c reply) (c - 1) (seat_behind z.iface.facts w c reply Idle no_reply))
+      lost_at later (w.history ++ entry_with z.iface.facts w c reply ∷ []) boots (slice_set (woken z.iface.facts w c reply) (c - 1) (seat_after z.iface.facts w c reply Idle no_reply))
       (ap (λ x. x.history) l.now) (ap (λ x. x.run.boots) l.now) (ap (λ x. x.seats) l.now ∙ answered_seats z.iface.facts w c reply (its (offers_by Held l.phase refl)))
-      (set_returned reply (seat_behind z.iface.facts w c reply Idle no_reply) l.phase l.its)
+      (set_returned reply (seat_after z.iface.facts w c reply Idle no_reply) l.phase l.its)
   lost_step (Answered reply) later (inr (inr l)) =
-      let new = seat_behind z.iface.facts w c reply Idle no_reply in
+      let new = seat_after z.iface.facts w c reply Idle no_reply in
       let e = entry_with z.iface.facts w c reply in
       lost_at later (w.history ++ e ∷ []) boots (slice_set (woken z.iface.facts w c reply) (c - 1) new)
       (ap (λ x. x.history) l.now) (ap (λ x. x.run.boots) l.now) (ap (λ x. x.seats) l.now ∙ answered_seats z.iface.facts w c reply (its (offers_by Asked l.phase refl)))

@@ -1,7 +1,7 @@
 -- What a world keeps, read at its history, its trace and its seats.
 use Rattle.std.proofs.Common.{ℕ, List, length, [], append-nil, subst, sym, ◌≡◌, ◌≤◌}
 use Rattle.std.specs.Prelude.{◌==◌}
-use Rattle.sg_replay.specs.sg_hist.Recovered.{ArePointsOf, IsRecovered, struck_in}
+use Rattle.sg_replay.specs.sg_hist.Recovered.{AreInBoots, ArePointsOf, IsRecovered, struck_in}
 use Rattle.sg_replay.specs.sg_hist.Growing.{IsRecovering}
 use Rattle.sg_clients.specs.WorldView.{WorldView, held_replies, seat_of, unanswered}
 use Rattle.sg_world.specs.Worlded.{CountsAll, CountsPoints}
@@ -18,15 +18,15 @@ module _ (z : Setting) (w : WorldView) (stub : Stub) (k : KeepsPromise z w stub)
   recovering_now = subst (λ l. IsRecovering (stubs_of z) l w.run (unanswered w)) (append-nil w.history) (k.recovering [] (no_drawn (held_replies w)))
 
   -- whole, where no step wanted memory
-  pub recovered_now : CountsAll z w → w.refused ≡ 0 → IsRecovered (stubs_of z) w.history w.run (unanswered w)
-  recovered_now counts none = record {
+  pub recovered_now : CountsAll z w → AreInBoots z.iface.facts w.run 0 w.history → w.refused ≡ 0 → IsRecovered (stubs_of z) w.history w.run (unanswered w)
+  recovered_now counts in_boots none = record {
     reboots = recovering_now.reboots;
     served = recovering_now.served;
     walks = recovering_now.walks;
     on_demand = recovering_now.on_demand;
     tracked_state = recovering_now.tracked_state;
     points = subst (λ n. ArePointsOf (n == 0) z.iface.facts z.ask z.parts 0 w.run.boots w.run.points) none counts;
-    held = k.in_boots;
+    held = in_boots;
   }
 
   -- each client's seat is as its phase says

@@ -7,7 +7,7 @@ use Rattle.sg_facts.specs.sg_base.declared.call.Call.{Call}
 use Rattle.sg_facts.specs.sg_base.declared.reply.Reply.{Reply}
 use Rattle.sg_facts.specs.sg_base.declared.reply.Reply.TheVariants.{Ok, Refused}
 use Rattle.sg_replay.specs.sg_boot.Invoking.{item_of_call, with_item}
-use Rattle.sg_world_laws.proofs.Committing.Behind.{patch_it}
+use Rattle.sg_world_laws.proofs.Committing.Later.{patch_it}
 use Rattle.sg_world_laws.proofs.Committing.Committed.{committed_keeps, committed_next}
 use Rattle.sg_world_laws.proofs.Committing.Holding.{held_keeps, held_next}
 use Rattle.sg_world_laws.proofs.Committing.Storing.{makes_next, may_track_it, writes_needed}

@@ -104,8 +104,8 @@ fun_hidden facts item call shown is = ap (λ t. is_clients item.tag && t && is_r
     none true b = refl
     none false b = refl
 
-behind_hidden : (facts : Facts) (item : Item) → is_visible_reply facts item ≡ false → asked_with_commit facts item ≡ item.points
-behind_hidden facts item is = ap (λ t. if t then asked_after item.points 1 else item.points) is
+after_hidden : (facts : Facts) (item : Item) → is_visible_reply facts item ≡ false → asked_with_commit facts item ≡ item.points
+after_hidden facts item is = ap (λ t. if t then asked_after item.points 1 else item.points) is
 
 reply_going : (outcome : Outcome) → is_replied outcome ≡ true → is_stopped outcome ≡ false
 reply_going (Replied reply patch) is = refl
@@ -135,7 +135,7 @@ module _ (z : Setting) (w : WorldView) (c : ℕ) (cell : IsCell z.iface.facts w.
     noted_counts goes later count = noted_on (w.refused == 0) z.iface.facts z.ask z.parts w.run.boots w.run.points later item cell.begun (going v up) goes one count was
 
     hidden_counts : is_stopped item.outcome ≡ false → is_visible_reply z.iface.facts item ≡ false → ArePointsOf (w.refused == 0) z.iface.facts z.ask z.parts 0 (noted w.run.boots item) item.points
-    hidden_counts goes hidden = noted_counts goes item.points (same_count (w.refused == 0) item.points (asked_with_commit z.iface.facts item) (sym (behind_hidden z.iface.facts item hidden)))
+    hidden_counts goes hidden = noted_counts goes item.points (same_count (w.refused == 0) item.points (asked_with_commit z.iface.facts item) (sym (after_hidden z.iface.facts item hidden)))
 
     stopped_counts : is_stopped item.outcome ≡ true → ArePointsOf (w.refused == 0) z.iface.facts z.ask z.parts 0 (struck (noted w.run.boots item) item.points) item.points
     stopped_counts stopped = stopped_on (w.refused == 0) z.iface.facts z.ask z.parts w.run.boots w.run.points item.points item cell.begun (going v up) stopped one (same_count (w.refused == 0) item.points item.points refl) was
@@ -161,28 +161,28 @@ module _ (z : Setting) (w : WorldView) (c : ℕ) (cell : IsCell z.iface.facts w.
         both true false d p q r = absurd (cc q)
         both true true false p q r = absurd (cc r)
 
-    behind_one : asked_with_commit z.iface.facts s.asks.item ≡ asked_after s.asks.item.points 1
-    behind_one = ap (λ t. if t then asked_after s.asks.item.points 1 else s.asks.item.points) visible_reply
+    after_one : asked_with_commit z.iface.facts s.asks.item ≡ asked_after s.asks.item.points 1
+    after_one = ap (λ t. if t then asked_after s.asks.item.points 1 else s.asks.item.points) visible_reply
 
-    behind_sum : asked_after between.run.points 1 ≡ asked_with_commit z.iface.facts s.asks.item
-    behind_sum = ap (λ n. asked_after n 1) between_run.1 ∙ sym behind_one
+    after_sum : asked_after between.run.points 1 ≡ asked_with_commit z.iface.facts s.asks.item
+    after_sum = ap (λ n. asked_after n 1) between_run.1 ∙ sym after_one
 
     goes_counts : CountsAll z (with_points between (asked_after between.run.points 1))
     goes_counts =
         subst (λ r. ArePointsOf (r == 0) z.iface.facts z.ask z.parts 0 between.run.boots (asked_after between.run.points 1)) (sym between_run.2)
         (subst (λ b. ArePointsOf (w.refused == 0) z.iface.facts z.ask z.parts 0 b (asked_after between.run.points 1)) (sym between_run.0)
         (noted_counts s.asks.service s.asks.reaches.uses.running s.asks.item (w.history ++ record { call = (seat_of w c).call; reply = s.reply } ∷ []) _ s.noted (reply_going s.asks.item.outcome s.outcome) (asked_after between.run.points 1)
-        (same_count (w.refused == 0) (asked_after between.run.points 1) (asked_with_commit z.iface.facts s.asks.item) behind_sum)))
+        (same_count (w.refused == 0) (asked_after between.run.points 1) (asked_with_commit z.iface.facts s.asks.item) after_sum)))
 
-    behind_counts : CountsAll z (struck_at between (asked_after between.run.points 1))
-    behind_counts =
+    after_counts : CountsAll z (struck_at between (asked_after between.run.points 1))
+    after_counts =
         let noted_all = noted_counts s.asks.service s.asks.reaches.uses.running s.asks.item (w.history ++ record { call = (seat_of w c).call; reply = s.reply } ∷ []) _ s.noted (reply_going s.asks.item.outcome s.outcome) (asked_with_commit z.iface.facts s.asks.item)
         (same_count (w.refused == 0) (asked_with_commit z.iface.facts s.asks.item) (asked_with_commit z.iface.facts s.asks.item) refl) in
         subst (λ r. ArePointsOf (r == 0) z.iface.facts z.ask z.parts 0 (struck between.run.boots (asked_after between.run.points 1)) (asked_after between.run.points 1)) (sym between_run.2)
         (subst (λ b. ArePointsOf (w.refused == 0) z.iface.facts z.ask z.parts 0 (struck b (asked_after between.run.points 1)) (asked_after between.run.points 1)) (sym between_run.0)
         (struck_on (w.refused == 0) z.iface.facts z.ask z.parts (noted w.run.boots s.asks.item) (asked_with_commit z.iface.facts s.asks.item) (asked_after between.run.points 1) (asked_after between.run.points 1)
         (noted_begun w.run.boots s.asks.item cell.begun) (noted_stop w.run.boots s.asks.item ∙ going s.asks.service s.asks.reaches.uses.running)
-        (inl (committed_last z.iface.facts w.run.boots s.asks.item cell.begun visible_reply, behind_sum ∙ sym (asked_noted z.iface.facts w.run.boots s.asks.item cell.begun (going s.asks.service s.asks.reaches.uses.running))))
+        (inl (committed_last z.iface.facts w.run.boots s.asks.item cell.begun visible_reply, after_sum ∙ sym (asked_noted z.iface.facts w.run.boots s.asks.item cell.begun (going s.asks.service s.asks.reaches.uses.running))))
         (same_count (w.refused == 0) (asked_after between.run.points 1) (asked_after between.run.points 1) refl) noted_all))
 
   -- whatever a step does, the points are counted after it
@@ -198,7 +198,7 @@ module _ (z : Setting) (w : WorldView) (c : ℕ) (cell : IsCell z.iface.facts w.
       subst (CountsAll z) (sym s.now) (stopped_counts s.service s.uses.running s.item w.history _ s.noted (ap is_stopped s.outcome))
   steps_counted Struck later (inr (inr (inl s))) =
       subst (CountsAll z) (sym s.now) (stopped_counts s.asks.service s.asks.reaches.uses.running s.asks.item w.history _ s.noted (ap is_stopped s.outcome))
-  steps_counted Struck later (inr (inr (inr s))) = subst (CountsAll z) (sym s.now) (behind_counts s.between s.commits)
+  steps_counted Struck later (inr (inr (inr s))) = subst (CountsAll z) (sym s.now) (after_counts s.between s.commits)
   steps_counted Replayed later s =
       subst (CountsAll z) (sym s.now) (hidden_counts s.service s.uses.running s.item w.history _ s.noted s.outcome (tag_hidden z.iface.facts s.item (ap is_clients s.tag)))
   steps_counted Loaded later s =

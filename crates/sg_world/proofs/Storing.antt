@@ -15,7 +15,7 @@ use Rattle.sg_replay.specs.sg_store.Spans.{patched_at}
 use Rattle.sg_replay.specs.sg_store.Stored.{bytes_of}
 use Rattle.sg_facts.proofs.Replaying.Files.{told}
 use Rattle.sg_world.specs.Worlded.{StoresObject}
-use Rattle.sg_world_laws.proofs.Drawn.{object_behind}
+use Rattle.sg_world_laws.proofs.Drawn.{object_after}
 
 -- the file of a path after a patch, which may be of another
 pub patched_file : (files : List (List ℕ × List ℕ)) (patch : Option Patch) (path : List ℕ) → file_at (patched files patch) path ≡ patched_at patch path (file_at files path)
@@ -48,4 +48,4 @@ stored_on facts e new history call reply patch stores rows given files its =
     entry = record { call = call; reply = reply }
 
     now : object_of facts (history ++ (record { call = call; reply = reply }) ∷ []) ≡ after facts (object_of facts history) call reply
-    now = object_behind facts empty_object history ((record { call = call; reply = reply }) ∷ [])
+    now = object_after facts empty_object history ((record { call = call; reply = reply }) ∷ [])

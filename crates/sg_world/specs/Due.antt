@@ -12,7 +12,7 @@ use Rattle.sg_replay.specs.declared.todo.Todo.{Todo}
 use Rattle.sg_replay.specs.declared.todo.Todo.TheVariants.{Walk, Load}
 use Rattle.sg_replay.specs.Missing.{is_empty, or_else}
 use Rattle.sg_clients.specs.WorldView.{WorldView}
-use Rattle.sg_world_laws.specs.sg_recovery_laws.LastItem.Told.{whole_behind}
+use Rattle.sg_world_laws.specs.sg_recovery_laws.LastItem.Told.{whole_after}
 use Rattle.sg_world_laws.specs.Setting.{Setting}
 
 -- what is wanted for a call, at the object of the history
@@ -21,7 +21,7 @@ needs_in z w call = wanted z.iface (object_of z.iface.facts w.history) call
 
 -- whether an id is whole in the running boot
 abbrev pub is_whole_in : Setting → WorldView → ℕ → Bool
-is_whole_in z w id = whole_behind z.iface.facts z.walks w.history (older_items [] w.run.boots) (last_items w.run.boots) id
+is_whole_in z w id = whole_after z.iface.facts z.walks w.history (older_items [] w.run.boots) (last_items w.run.boots) id
 
 -- how many calls of the walk of an id were replayed in the running boot
 abbrev pub replayed_in : WorldView → ℕ → ℕ

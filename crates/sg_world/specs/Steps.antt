@@ -182,12 +182,12 @@ module _ (z : Setting) (w : WorldView) (c : ℕ) where
     pub now : later ≡ given_to (committed z.iface.facts (service_is (item_noted w asks.item) (after_item z.iface.facts asks.service asks.item)) (entry_with reply)) (entry_with reply)
 
   -- after the commit the service goes on, or stops
-  pub record GoesOnBehind (later : WorldView) : Type 0 where
+  pub record GoesOnAfter (later : WorldView) : Type 0 where
     pub between : WorldView
     pub commits : Commits between
     pub now : later ≡ with_points between (asked_after between.run.points 1)
 
-  pub record StopsBehind (later : WorldView) : Type 0 where
+  pub record StopsAfter (later : WorldView) : Type 0 where
     pub between : WorldView
     pub commits : Commits between
     pub now : later ≡ struck_at between (asked_after between.run.points 1)
@@ -208,11 +208,11 @@ module _ (z : Setting) (w : WorldView) (c : ℕ) where
   Steps (Answered reply) later = HandsOver reply later ⊎ Returns reply later ⊎ Refuses reply later
   Steps Lost later = Loses later
   Steps Booted later = Boots later
-  Steps Struck later = StopsIdle later ⊎ StopsReplay later ⊎ StopsCall later ⊎ StopsBehind later
+  Steps Struck later = StopsIdle later ⊎ StopsReplay later ⊎ StopsCall later ⊎ StopsAfter later
   Steps Replayed later = Replays later
   Steps Loaded later = Loads later
   Steps Waits later = WaitsNow later
-  Steps Served later = GoesOnBehind later ⊎ Holds later
+  Steps Served later = GoesOnAfter later ⊎ Holds later
 
   -- a step was made, and counted as an event
   pub record HasStepped (did : Did) (now : WorldView) : Type 0 where
@@ -222,7 +222,7 @@ module _ (z : Setting) (w : WorldView) (c : ℕ) where
 
   -- it got no memory: its call was let in, and nothing changed but the number of events, that of refused steps and that of points, of
   -- which one more was asked where the step was about to use the service
-  pub record WantsMemory (now : WorldView) : Type 0 where
+  pub record LackedMemory (now : WorldView) : Type 0 where
     pub let_in : PassesGuard
     pub points : ℕ
     pub asked : (points ≡ w.run.points) ⊎ (points ≡ asked_after w.run.points 1)

@@ -16,7 +16,7 @@ ghost use Rattle.sg_world_laws.specs.Ending.{IsEnding};
 ghost use Rattle.sg_world_laws.specs.Seats.{last_of};
 ghost use Rattle.sg_world_laws.specs.Setting.{IsSetting, stubs_of};
 ghost use Rattle.sg_world.specs.Marked.{TellsAll};
-ghost use Rattle.sg_world.specs.Steps.{AnswersLast, HasStepped, WantsMemory};
+ghost use Rattle.sg_world.specs.Steps.{AnswersLast, HasStepped, LackedMemory};
 ghost use Rattle.sg_world.specs.Worlded.{CountsAll, setting_of};
 ghost use Rattle.sg_clients.specs.declared.phase.Phase.TheVariants.{Blocked, Receipted};
 ghost use Rattle.sg_clients.specs.WorldView.{IsFree, MayWithdraw, happened, is_at_rest, is_offered, with_leave, new_world, no_seat, offered, seat_of, unanswered, withdrawn_by};
@@ -38,6 +38,7 @@ pub struct World<S: Service, T: Stops> {
 
 impl<S: Service, T: Stops> Model for World<S, T> {
     ghost use Rattle.std.specs.Prelude.{◌≡◌};
+    ghost use Rattle.sg_replay.specs.sg_hist.Recovered.{AreInBoots};
     ghost use Rattle.sg_world_laws.specs.Ending.{IsEnding};
     ghost use Rattle.sg_world.specs.Inners.{IsInOrder, view_in};
     ghost use Rattle.sg_world.specs.Worlded.{CountsAll, Worlded, setting_of};
@@ -48,7 +49,8 @@ impl<S: Service, T: Stops> Model for World<S, T> {
 
     ghost invariant = { λ w. IsInOrder S.facts S.ask S.sound S.parts T.test T.asked T.struck T.plan w.inner
         × CountsAll (setting_of S.ask S.sound S.parts w.inner.engine.tables) (view_in w.inner)
-        × IsEnding (setting_of S.ask S.sound S.parts w.inner.engine.tables) (view_in w.inner) };
+        × IsEnding (setting_of S.ask S.sound S.parts w.inner.engine.tables) (view_in w.inner)
+        × AreInBoots w.inner.engine.tables.iface.facts (view_in w.inner).run 0 (view_in w.inner).history };
 }
 
 impl<S: Service, T: Stops> World<S, T> {
@@ -96,14 +98,15 @@ impl<S: Service, T: Stops> World<S, T> {
         &self.inner.history
     }
 
-    /// What was done to the service, lent: a run that recovers. Along the history the boots of the entries' items never go back. Its
-    /// points and its stops meet the test of the world's own stops. The points are counted exactly where no step wanted memory, and at
-    /// least so where one did, up to the end of their count.
+    /// What was done to the service, lent: a run that recovers. Along the history the boots of the entries' items never go back, and where
+    /// the service stopped right after a commit, no later entry has its item in that boot. Its points and its stops meet the test of the
+    /// world's own stops. The points are counted exactly where no step wanted memory, and at least so where one did, up to the end of
+    /// their count.
     pub fn trace(&self) -> &Trace
         ensures run { run_of result.now ≡ self.now.view.run }
         ensures recovering { let z = setting_of S.ask S.sound S.parts self.now.tables in let w = self.now.view in IsRecovering (stubs_of z) w.history w.run (unanswered w) }
         ensures recovered { let z = setting_of S.ask S.sound S.parts self.now.tables in let w = self.now.view in w.refused ≡ 0 → IsRecovered (stubs_of z) w.history w.run (unanswered w) }
-        ensures held { AreInBoots self.now.view.run 0 self.now.view.history }
+        ensures held { AreInBoots self.now.tables.iface.facts self.now.view.run 0 self.now.view.history }
         ensures ending { IsEnding (setting_of S.ask S.sound S.parts self.now.tables) self.now.view }
         ensures stopped { let run = self.now.view.run in T.test run.points (struck_in run) self.now.plan }
         ensures points { CountsAll (setting_of S.ask S.sound S.parts self.now.tables) self.now.view }
@@ -282,7 +285,7 @@ impl<S: Service, T: Stops> World<S, T> {
     pub fn step(&mut self, alloc: Global, client: u8) -> Result<Did, NoMemory>
         requires client { IsClient (length self.old.view.seats) client }
         ensures did { IfOk result (λ did. HasStepped (setting_of S.ask S.sound S.parts self.old.tables) self.old.view client did self.new.view) }
-        ensures err { OnErr result (WantsMemory (setting_of S.ask S.sound S.parts self.old.tables) self.old.view client self.new.view) }
+        ensures err { OnErr result (LackedMemory (setting_of S.ask S.sound S.parts self.old.tables) self.old.view client self.new.view) }
         ensures answers { IfOk result (AnswersLast self.new.view client) }
         ensures clients { length self.new.view.seats ≡ length self.old.view.seats }
         ensures tables { self.new.tables ≡ self.old.tables }

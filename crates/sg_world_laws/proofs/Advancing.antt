@@ -1,7 +1,7 @@
 -- What a world keeps where a row is rebuilt or a file loaded.
 pub mod Admitted
 pub mod Advances
-pub mod Behind
+pub mod Later
 pub mod Counting
 pub mod Files
 pub mod Loading

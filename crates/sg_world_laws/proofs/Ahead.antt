@@ -138,8 +138,8 @@ pub holds_ahead_with : (s : Stubs) (h front rest : List Entry) (p : Entry) (b : 
 holds_ahead_with s h front rest p b boots points u item own none hidden held last kept lasts r =
     let run' : Run = record { boots = noted (b ∷ boots) item; points = points } in
     let nowhere = own_nowhere b boots item p own in
-    let behind_all : IsRecovering s ((h ++ (front ++ rest)) ++ p ∷ []) run' u
+    let after_all : IsRecovering s ((h ++ (front ++ rest)) ++ p ∷ []) run' u
     = held_stays s (h ++ (front ++ rest)) run' u u p held last kept
     (each_map (λ q. stands_before q p ≡ false) (λ q. stands_before q p ≡ true → IsSettled s ((h ++ (front ++ rest)) ++ p ∷ []) u q) (places_of run') (λ q isn't is. absurd (cc (isn't, is))) nowhere) r in
     subst (λ l. IsRecovering s l run' u) (append_assoc h front (p ∷ rest))
-    (moved_front s (h ++ front) rest p run' u none nowhere hidden lasts (subst (λ l. IsRecovering s (l ++ p ∷ []) run' u) (sym (append_assoc h front rest)) behind_all))
+    (moved_front s (h ++ front) rest p run' u none nowhere hidden lasts (subst (λ l. IsRecovering s (l ++ p ∷ []) run' u) (sym (append_assoc h front rest)) after_all))

@@ -81,7 +81,6 @@ module _ (z : Setting) (w : WorldView) (stub other : Stub) (same : TellSame stub
     enter = k.enter;
     items = k.items;
     held_items = k.held_items;
-    in_boots = k.in_boots;
     recovering = k.recovering;
     cell = k.cell;
     stands = stands_in_alike w.running k.stands;

@@ -22,10 +22,10 @@ use Rattle.sg_recovery_laws.specs.sg_hist.Reading.{is_tagged, last_items, older_
 use Rattle.sg_recovery_laws.specs.sg_hist.Recovered.{IsAdmitted, IsByTable, IsCallOf, IsTracked}
 use Rattle.sg_recovery_laws.specs.sg_hist.Inside.Parts.{AskedAs, IsDemanded, IsItsCall, IsTrackedAt, IsWalked}
 use Rattle.sg_recovery_laws.proofs.Objects.Apart.{Ascends}
-use Rattle.sg_recovery_laws.proofs.Objects.Room.{guard_behind}
+use Rattle.sg_recovery_laws.proofs.Objects.Room.{guard_after}
 use Rattle.sg_recovery_laws.proofs.Objects.Serves.{its_own}
 use Rattle.sg_recovery_laws.proofs.Objects.Steady.{ascends}
-use Rattle.sg_recovery_laws.proofs.Objects.Waiting.{behind_same}
+use Rattle.sg_recovery_laws.proofs.Objects.Waiting.{after_same}
 use Rattle.sg_recovery_laws.proofs.InBoots.{place_is}
 use Rattle.sg_recovery_laws.proofs.Lists.{each_map}
 use Rattle.sg_recovery_laws.specs.sg_hist.Growing.{IsNextItem, IsOfNoEntry, place_after}
@@ -104,7 +104,7 @@ module _ (z : Setting) (set : IsSetting z) (w : WorldView) (b : Boot) (boots : L
         (by (needs z.iface.facts (object_of z.iface.facts w.history) call).file serves_call.file)
       where
         files : (object_from z.iface.facts (object_of z.iface.facts w.history) es).files ≡ (object_of z.iface.facts w.history).files
-        files = (behind_same z.iface.facts z.ask z.sound set.law (object_of z.iface.facts w.history) es call.client (good_now z set w b boots (Some v) stub k) (time_es z set w b boots (Some v) stub k es drawn)
+        files = (after_same z.iface.facts z.ask z.sound set.law (object_of z.iface.facts w.history) es call.client (good_now z set w b boots (Some v) stub k) (time_es z set w b boots (Some v) stub k es drawn)
             (wait_es z set w b boots (Some v) stub k es drawn) (none_es z set w b boots (Some v) stub k es drawn call let_in)).1
 
         by : (path : Option (List ℕ)) → SameFile (object_of z.iface.facts w.history) v call.desc (named stub.names call.desc) path
@@ -139,7 +139,7 @@ module _ (z : Setting) (set : IsSetting z) (w : WorldView) (b : Boot) (boots : L
         seqs = each_map (λ e. e.call.client ≡ call.client → e.call.seq < call.seq) (λ e. (e.call.client == call.client) ≡ true → e.call.seq < call.seq) (w.history ++ es) (λ e so is. so (grind (arith, nat_tests, is))) above
 
         lets : guard z.iface (object_from z.iface.facts (object_of z.iface.facts w.history) es) call ≡ None
-        lets = guard_behind z.iface z.ask z.sound set.law (object_of z.iface.facts w.history) es call (good_now z set w b boots (Some v) stub k) (time_es z set w b boots (Some v) stub k es drawn)
+        lets = guard_after z.iface z.ask z.sound set.law (object_of z.iface.facts w.history) es call (good_now z set w b boots (Some v) stub k) (time_es z set w b boots (Some v) stub k es drawn)
             (wait_es z set w b boots (Some v) stub k es drawn) (none_es z set w b boots (Some v) stub k es drawn call let_in) let_in.passes.is_call.first let_in.passes.is_call.last let_in.guarded
 
         admitted : IsCallOf (w.history ++ es) u call.client call → IsAdmitted z.iface (w.history ++ es) u (last_place (older_items [] (b ∷ boots)) (last_items (b ∷ boots)) item) call.client call

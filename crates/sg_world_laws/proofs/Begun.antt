@@ -65,7 +65,6 @@ new_keeps z set seats present new few absent = record {
   enter = subst (Each (MayEnter z [])) (sym none) tt;
   items = tt;
   held_items = subst (Each (IsInLast (new_world seats).run)) (sym none) tt;
-  in_boots = tt;
   recovering = λ es drawn. subst (λ l. IsRecovering (stubs_of z) l (new_world seats).run (unanswered (new_world seats))) (sym (none_drawn es (subst (λ l. AreDrawn l es) none drawn)))
       (subst (IsRecovering (stubs_of z) [] (new_world seats).run) (sym (ap (λ l. l ++ []) (new_offered seats new))) (nothing_yet (stubs_of z)));
   cell = kept_booted z.iface.facts [];

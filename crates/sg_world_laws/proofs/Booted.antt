@@ -20,7 +20,6 @@ use Rattle.sg_recovery_laws.specs.Midway.Progress.{HasFile, IsInRecovery, fresh}
 use Rattle.sg_recovery_laws.specs.sg_hist.Reading.{last_items, names_at, older_items}
 use Rattle.sg_recovery_laws.proofs.Objects.Steady.{ascends}
 use Rattle.sg_recovery_laws.specs.Objects.Waiting.{AreWaiting}
-use Rattle.sg_recovery_laws.proofs.InBoots.{boots_booted}
 use Rattle.sg_recovery_laws.proofs.Onward.{booted_stays}
 use Rattle.sg_recovery_laws.specs.sg_hist.Growing.{IsInLast, IsRecovering, booted}
 use Rattle.sg_clients.specs.WorldView.{Seat, WorldView, held_in, unanswered, woken_seat}
@@ -96,7 +95,6 @@ module _ (z : Setting) (set : IsSetting z) (w : WorldView) (b : Boot) (boots : L
     enter = subst (Each (MayEnter z w.history)) (sym none_now) tt;
     items = subst (λ l. HaveItems l w.history) (sym items_same) k.items;
     held_items = subst (Each (IsInLast later.run)) (sym none_now) tt;
-    in_boots = boots_booted (b ∷ boots) w.run.points w.run.points w.history k.in_boots;
     recovering = λ es drawn. recover_now es (empty_drawn es drawn);
     cell = kept_booted z.iface.facts (b ∷ boots);
     stands = record {

@@ -1,5 +1,5 @@
 -- What a world keeps where a call is served, and its reply held or committed.
-pub mod Behind
+pub mod Later
 pub mod Committed
 pub mod Counting
 pub mod Holding

@@ -16,9 +16,9 @@ use Rattle.sg_recovery_laws.proofs.Objects.Waiting.{acting_is, hidden_is, less_t
 use Rattle.sg_recovery_laws.proofs.Objects.Steady.{after_good}
 
 -- the object after two lists
-pub object_behind : (facts : Facts) (o : Object) (xs ys : List Entry) → object_from facts o (xs ++ ys) ≡ object_from facts (object_from facts o xs) ys
-object_behind facts o [] ys = refl
-object_behind facts o (x ∷ xs) ys = object_behind facts (after facts o x.call x.reply) xs ys
+pub object_after : (facts : Facts) (o : Object) (xs ys : List Entry) → object_from facts o (xs ++ ys) ≡ object_from facts (object_from facts o xs) ys
+object_after facts o [] ys = refl
+object_after facts o (x ∷ xs) ys = object_after facts (after facts o x.call x.reply) xs ys
 
 -- what each of them meets, drawn ones meet
 waiting_each : (facts : Facts) (ask : Table) (o : Object) (ws : List Entry) → AreWaiting facts ask o ws → Each (IsWaiting facts ask o) ws
@@ -70,13 +70,13 @@ module _ (facts : Facts) (ask : Table) (sound : Object → Type 0) (law : IsServ
       let few : length pre ≤ length (pre ++ p ∷ post) = n_le pre in
       let later = time_after facts ask sound law (suc (length (pre ++ p ∷ post))) o p.call p.reply ok own.answered time in
       let pres = waiting_split facts ask o pre (p ∷ post) all in
-      object_behind facts (after facts o p.call p.reply) pre post
+      object_after facts (after facts o p.call p.reply) pre post
       ∙ ap (λ x. object_from facts x post) (past_waiting facts ask sound law o p.call p.reply pre ok (after_good facts ask sound law o p.call p.reply ok own.answered)
       (acting_is facts ask sound law o p.call p.reply hidden.alone own.answered) apart.0
       (less_time facts ask sound law (suc (suc (length (pre ++ p ∷ post)))) (suc (length pre)) o (omega (arith, few)) time)
       (less_time facts ask sound law (suc (length (pre ++ p ∷ post))) (length pre) (after facts o p.call p.reply) (omega (arith, few)) later) pres
       (waiting_after facts ask sound law o p.call p.reply pre ok own.answered (less_time facts ask sound law (suc (length (pre ++ p ∷ post))) 0 (after facts o p.call p.reply) (omega arith) later) apart.0 pres))
-      ∙ sym (object_behind facts o pre (p ∷ post))
+      ∙ sym (object_after facts o pre (p ∷ post))
     where
       n_le : (xs : List Entry) → length xs ≤ length (xs ++ p ∷ post)
       n_le [] = omega arith

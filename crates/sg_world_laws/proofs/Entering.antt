@@ -18,8 +18,8 @@ use Rattle.sg_recovery_laws.specs.sg_hist.Reading.{is_by_guard}
 use Rattle.sg_recovery_laws.proofs.Objects.Steady.{after_good}
 use Rattle.sg_recovery_laws.specs.Objects.Serving.{IsAnsweredAt, IsLegalObject}
 use Rattle.sg_recovery_laws.specs.sg_hist.Growing.{AreKept}
-use Rattle.sg_recovery_laws.proofs.LastItem.Behind.{guard_leaves}
-use Rattle.sg_world_laws.proofs.Drawn.{object_behind}
+use Rattle.sg_recovery_laws.proofs.LastItem.Later.{guard_leaves}
+use Rattle.sg_world_laws.proofs.Drawn.{object_after}
 use Rattle.sg_world_laws.proofs.Orders.{legal_append}
 use Rattle.sg_world_laws.specs.Keeping.{IsSettledObject}
 use Rattle.sg_world_laws.specs.Setting.{IsSetting, Setting}
@@ -31,7 +31,7 @@ legal_push i ask o h e legal is = legal_append i ask o h (e ∷ []) legal (is, t
 
 module _ (z : Setting) (set : IsSetting z) (h : List Entry) (e : Entry) (object : IsSettledObject z h) where
   now : object_of z.iface.facts (h ++ e ∷ []) ≡ after z.iface.facts (object_of z.iface.facts h) e.call e.reply
-  now = object_behind z.iface.facts empty_object h (e ∷ [])
+  now = object_after z.iface.facts empty_object h (e ∷ [])
 
   longer : length (h ++ e ∷ []) ≡ length h + 1
   longer = length-append h (e ∷ [])

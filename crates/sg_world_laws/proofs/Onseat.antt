@@ -20,7 +20,7 @@ use Rattle.sg_clients.specs.WorldView.{Seat, wakes_seat, woken_seat}
 use Rattle.sg_clients.specs.declared.phase.Phase.{Phase}
 use Rattle.sg_clients.specs.declared.phase.Phase.TheVariants.{Asked, Blocked, Held, Idle, Left, Receipted}
 use Rattle.sg_facts.proofs.Replaying.Found.{other_test}
-use Rattle.sg_world_laws.proofs.Drawn.{object_behind}
+use Rattle.sg_world_laws.proofs.Drawn.{object_after}
 use Rattle.sg_world_laws.proofs.Waits.{still_waits, waits_both}
 use Rattle.sg_world_laws.specs.Keeping.{IsSettledObject}
 use Rattle.sg_world_laws.specs.Seats.{IsSeated, last_of}
@@ -77,7 +77,7 @@ module _ (z : Setting) (set : IsSetting z) (h : List Entry) (e : Entry) (o : IsS
         its = is.its;
         next = is.next;
         may = is.may;
-        waits = λ one. ap (λ x. answer z.iface z.ask x s.call) (object_behind z.iface.facts empty_object h (e ∷ [])) ∙ still (guard z.iface (object_of z.iface.facts h) e.call) refl e.reply refl is unwoken;
+        waits = λ one. ap (λ x. answer z.iface z.ask x s.call) (object_after z.iface.facts empty_object h (e ∷ [])) ∙ still (guard z.iface (object_of z.iface.facts h) e.call) refl e.reply refl is unwoken;
         receipt = λ one. absurd (cc one);
         count = is.count ∙ ap length (sym same_calls);
         few = is.few;

@@ -33,9 +33,9 @@ use Rattle.sg_recovery_laws.specs.sg_hist.Recovered.{IsCallOf}
 use Rattle.sg_recovery_laws.proofs.Objects.Guarded.{acts}
 use Rattle.sg_recovery_laws.proofs.Objects.Narrow.{guard_stays}
 use Rattle.sg_recovery_laws.proofs.Objects.Needed.{needed_back, needed_same, needs_same}
-use Rattle.sg_recovery_laws.proofs.Objects.Serves.{fewer_behind, needed_behind}
+use Rattle.sg_recovery_laws.proofs.Objects.Serves.{fewer_later, needed_after}
 use Rattle.sg_recovery_laws.proofs.Objects.Steady.{after_good, others_stay}
-use Rattle.sg_recovery_laws.proofs.Objects.Waiting.{good_behind, hidden_is, less_time, time_after, waiting_after}
+use Rattle.sg_recovery_laws.proofs.Objects.Waiting.{good_later, hidden_is, less_time, time_after, waiting_after}
 use Rattle.sg_recovery_laws.specs.Objects.Serving.{HasTime, IsAnsweredAt, IsLegalObject}
 use Rattle.sg_recovery_laws.specs.Objects.Waiting.{AreWaiting, NoneBy}
 use Rattle.sg_recovery_laws.proofs.Lists.{each_append, each_contains, each_map, each_split}
@@ -46,7 +46,7 @@ use Rattle.sg_recovery_laws.proofs.LastItem.Reached.{reach_all}
 use Rattle.sg_recovery_laws.specs.sg_hist.Clients.{IsClientsCall, MayBeMade}
 use Rattle.sg_recovery_laws.specs.LastItem.LastPlace.{HaveItems}
 use Rattle.sg_recovery_laws.specs.LastItem.Told.{IsKnown, IsRead}
-use Rattle.sg_world_laws.proofs.Drawn.{drawn_waiting, object_behind, waiting_apart}
+use Rattle.sg_world_laws.proofs.Drawn.{drawn_waiting, object_after, waiting_apart}
 use Rattle.sg_world_laws.proofs.Items.{has_item}
 use Rattle.sg_world_laws.specs.Keeping.{AreDrawn, KeepsPromise, MayEnter, Stands, Stub, standing}
 use Rattle.sg_world_laws.specs.Seats.{AreSeated, HaveSeats, all_seqs}
@@ -159,13 +159,13 @@ module _ (z : Setting) (set : IsSetting z) (w : WorldView) (b : Boot) (boots : L
     time_es = time_now (length es) (omega (arith, drawn.few, few_now))
 
     pub good_es : IsLegalObject z.iface.facts z.sound (object_from z.iface.facts (object_of z.iface.facts w.history) es)
-    good_es = good_behind z.iface.facts z.ask z.sound set.law o es good_now time_es wait_es
+    good_es = good_later z.iface.facts z.ask z.sound set.law o es good_now time_es wait_es
 
     pub sound_es : IsSound z.iface.facts (object_from z.iface.facts (object_of z.iface.facts w.history) es)
     sound_es = set.law.keeps.general (object_from z.iface.facts o es) good_es.is_sound
 
     pub object_es : object_of z.iface.facts (w.history ++ es) ≡ object_from z.iface.facts (object_of z.iface.facts w.history) es
-    object_es = object_behind z.iface.facts empty_object w.history es
+    object_es = object_after z.iface.facts empty_object w.history es
 
     -- their rows are such as descriptors can come to
     pub reachable_es : AreReachable z.iface (object_from z.iface.facts (object_of z.iface.facts w.history) es).rows
@@ -190,7 +190,7 @@ module _ (z : Setting) (set : IsSetting z) (w : WorldView) (b : Boot) (boots : L
     pub live_es : (x : ℕ) → is_live (object_from z.iface.facts (object_of z.iface.facts w.history) es).rows x ≡ true → is_live (object_of z.iface.facts w.history).rows x ≡ true
     live_es x live =
         let found = row_of_live (object_from z.iface.facts o es).rows x live in
-        fewer_behind z.iface.facts z.ask z.sound set.law o es good_now time_es wait_es x found.0 found.1
+        fewer_later z.iface.facts z.ask z.sound set.law o es good_now time_es wait_es x found.0 found.1
 
     -- a call that is let in needs the same there
     module _ (call : Call) (let_in : IsLetIn z (standing w b boots running) call) where
@@ -202,7 +202,7 @@ module _ (z : Setting) (set : IsSetting z) (w : WorldView) (b : Boot) (boots : L
 
       pub there_es : (r : Row) → row_at (object_of z.iface.facts w.history).rows r.id ≡ Some r → is_needed z.iface.facts (object_of z.iface.facts w.history).rows call r ≡ true
           → row_at (object_from z.iface.facts (object_of z.iface.facts w.history) es).rows r.id ≡ Some r
-      there_es r there need = needed_behind z.iface.facts z.ask z.sound set.law o es call r good_now time_es wait_es none_es let_in.passes there need
+      there_es r there need = needed_after z.iface.facts z.ask z.sound set.law o es call r good_now time_es wait_es none_es let_in.passes there need
 
       pub back_es : (r : Row) → row_at (object_from z.iface.facts (object_of z.iface.facts w.history) es).rows r.id ≡ Some r
           → is_needed z.iface.facts (object_from z.iface.facts (object_of z.iface.facts w.history) es).rows call r ≡ true

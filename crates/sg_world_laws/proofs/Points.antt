@@ -36,7 +36,6 @@ module _ (z : Setting) (w : WorldView) (stub : Stub) (n : ℕ) where
     enter = k.enter;
     items = k.items;
     held_items = each_map (IsInLast w.run) (IsInLast (record { boots = w.run.boots; points = n })) (held_replies w) (λ e is. record { place = is.place; its = is.its; older = is.older }) k.held_items;
-    in_boots = k.in_boots;
     recovering = λ es drawn. recovering_counted (w.history ++ es) (unanswered w) (k.recovering es drawn);
     cell = k.cell;
     stands = stands_in_counted w.running k.stands;

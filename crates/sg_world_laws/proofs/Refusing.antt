@@ -26,13 +26,12 @@ use Rattle.sg_recovery_laws.specs.sg_hist.Reading.{is_by_guard, is_item_of, is_m
 use Rattle.sg_recovery_laws.specs.sg_hist.Inside.Reads.{is_rebuilt_at}
 use Rattle.sg_recovery_laws.specs.Objects.Waiting.{AreWaiting, NoneBy}
 use Rattle.sg_recovery_laws.proofs.Given.{IsGiven, made_same, names_same}
-use Rattle.sg_recovery_laws.proofs.InBoots.{boots_refused}
 use Rattle.sg_recovery_laws.proofs.Lists.{each_append, each_map}
 use Rattle.sg_recovery_laws.proofs.Same.{any_same, rebuilt_again}
 use Rattle.sg_recovery_laws.specs.sg_hist.Growing.{IsInLast, IsLastCall, IsSameId}
 use Rattle.sg_clients.specs.WorldView.{WorldView, held_in, held_replies, unanswered}
 use Rattle.sg_recovery_laws.proofs.LastItem.Reading.{unnamed}
-use Rattle.sg_recovery_laws.specs.LastItem.Told.{IsRead, whole_behind}
+use Rattle.sg_recovery_laws.specs.LastItem.Told.{IsRead, whole_after}
 use Rattle.sg_recovery_laws.proofs.sg_track.KeptLists.{read}
 use Rattle.sg_facts.proofs.Replaying.Above.{up}
 use Rattle.sg_world_laws.proofs.Ahead.{drawn_each, refused_ahead}
@@ -93,8 +92,8 @@ module _ (z : Setting) (set : IsSetting z) (w : WorldView) (b : Boot) (boots : L
       ids : Each (IsSameId z.iface.facts (w.history ++ es) (w.history ++ e ∷ es)) (last_items (b ∷ boots))
       ids = given_any z.iface.facts w.history es (e ∷ es) (last_items (b ∷ boots)) given
 
-      whole_same : (id : ℕ) → whole_behind z.iface.facts z.walks (w.history ++ e ∷ es) (older_items [] (b ∷ boots)) (last_items (b ∷ boots)) id
-          ≡ whole_behind z.iface.facts z.walks (w.history ++ es) (older_items [] (b ∷ boots)) (last_items (b ∷ boots)) id
+      whole_same : (id : ℕ) → whole_after z.iface.facts z.walks (w.history ++ e ∷ es) (older_items [] (b ∷ boots)) (last_items (b ∷ boots)) id
+          ≡ whole_after z.iface.facts z.walks (w.history ++ es) (older_items [] (b ∷ boots)) (last_items (b ∷ boots)) id
       whole_same id =
           ap (λ q. q || list_any (is_rebuilt_at z.iface.facts z.walks (w.history ++ e ∷ es) id) (places_in (older_items [] (b ∷ boots)) [] (last_items (b ∷ boots)) []))
           (made_same z.iface.facts (w.history ++ es) (w.history ++ e ∷ es) id (last_items (b ∷ boots)) ids)
@@ -110,12 +109,12 @@ module _ (z : Setting) (set : IsSetting z) (w : WorldView) (b : Boot) (boots : L
   stands_on None same stands = tt
   stands_on (Some v) same up = record {
     numbers = record {
-      given = subst (λ o. v.given + sum_told unbegun stub.told o.rows ≤ o.given) (sym object_behind_all) up.numbers.given;
+      given = subst (λ o. v.given + sum_told unbegun stub.told o.rows ≤ o.given) (sym object_after_all) up.numbers.given;
       counted = let more = up.numbers.counted in let n : length (w.history ++ e ∷ []) ≡ length w.history + 1 = length-append w.history (e ∷ []) in
-          subst (λ o. most_counted z.iface.facts v.rows + sum_told left_of stub.told o.rows ≤ slow + length (w.history ++ e ∷ []) + 128 + 8 * o.given) (sym object_behind_all) (omega (arith, more, n));
+          subst (λ o. most_counted z.iface.facts v.rows + sum_told left_of stub.told o.rows ≤ slow + length (w.history ++ e ∷ []) + 128 + 8 * o.given) (sym object_after_all) (omega (arith, more, n));
     };
     named_live = λ id. elim (up.named_live id) [ inl unnamed ↦ inl unnamed | inr live ↦ inr (ap (λ o. is_live o.rows id) same_o ∙ live) ];
-    in_recovery = subst (λ o. IsInRecovery z.iface z.walks stub.names stub.told stub.present o v) (sym object_behind_all) up.in_recovery;
+    in_recovery = subst (λ o. IsInRecovery z.iface z.walks stub.names stub.told stub.present o v) (sym object_after_all) up.in_recovery;
     read = λ es drawn. subst (λ l. IsRead z.iface.facts z.walks l (older_items [] (b ∷ boots)) (last_items (b ∷ boots)) stub.names stub.told stub.present (object_of z.iface.facts (w.history ++ e ∷ [])).rows) (sym (append_assoc w.history (e ∷ []) es))
         (subst (λ o. IsRead z.iface.facts z.walks (w.history ++ e ∷ es) (older_items [] (b ∷ boots)) (last_items (b ∷ boots)) stub.names stub.told stub.present o.rows) (sym same_o)
         (read_on es given (up.read es (subst (λ l. AreDrawn l es) same drawn))));
@@ -129,9 +128,9 @@ module _ (z : Setting) (set : IsSetting z) (w : WorldView) (b : Boot) (boots : L
       given : Each (IsGiven z.iface.facts w.history) (last_items (b ∷ boots))
       given = given_now z w b boots running stub k
 
-      object_behind_all : object_from z.iface.facts (object_of z.iface.facts (w.history ++ e ∷ [])) (held_in (length (b ∷ boots)) w'.seats)
+      object_after_all : object_from z.iface.facts (object_of z.iface.facts (w.history ++ e ∷ [])) (held_in (length (b ∷ boots)) w'.seats)
           ≡ object_from z.iface.facts (object_of z.iface.facts w.history) (held_in (length (b ∷ boots)) w.seats)
-      object_behind_all = ap (λ o. object_from z.iface.facts o (held_in (length (b ∷ boots)) w'.seats)) same_o ∙ ap (object_from z.iface.facts (object_of z.iface.facts w.history)) same
+      object_after_all = ap (λ o. object_from z.iface.facts o (held_in (length (b ∷ boots)) w'.seats)) same_o ∙ ap (object_from z.iface.facts (object_of z.iface.facts w.history)) same
 
   hidden : (ws : List Entry) → AreWaiting z.iface.facts z.ask (object_of z.iface.facts w.history) ws → Each (λ x. is_visible z.iface.facts x.call.fun ≡ false) ws
   hidden [] all = tt
@@ -151,7 +150,6 @@ module _ (z : Setting) (set : IsSetting z) (w : WorldView) (b : Boot) (boots : L
     items = each_append (λ x. is_by_guard x.reply || list_any (is_item_of x) (older_items [] (b ∷ boots) ++ last_items (b ∷ boots)) ≡ true) w.history (e ∷ []) k.items
         (ap (λ q. q || list_any (is_item_of e) (older_items [] (b ∷ boots) ++ last_items (b ∷ boots))) guards, tt);
     held_items = subst (Each (IsInLast (standing w b boots running).run)) (sym held_later) k.held_items;
-    in_boots = boots_refused (standing w b boots running).run w.history e guards k.in_boots;
     recovering = λ es drawn. refused_ahead (stubs_of z) w.history (held_replies (standing w b boots running)) e (standing w b boots running).run (unanswered (standing w b boots running)) (unanswered later) guards none
         (hidden (held_replies (standing w b boots running)) k.waiting) (λ es' d. (last es' (drawn_each (λ x. x.call.client ≢ call.client) (held_replies (standing w b boots running)) es' none d), lasts es' d, kept_with (w.history ++ es') e (unanswered (standing w b boots running)) (unanswered later) kept))
         k.recovering es (subst (λ l. AreDrawn l es) held_later drawn);

@@ -56,7 +56,6 @@ module _ (z : Setting) (w w' : WorldView) (stub : Stub) (history : w'.history �
     enter = subst (Each (MayEnter z w.history)) (sym held_later) k.enter;
     items = k.items;
     held_items = subst (Each (IsInLast w.run)) (sym held_later) k.held_items;
-    in_boots = k.in_boots;
     recovering = λ es drawn. made_stays (stubs_of z) (w.history ++ es) w.run (unanswered w) (unanswered later) (kept_all (w.history ++ es) (unanswered w) (unanswered later) kept)
         (k.recovering es (subst (λ l. AreDrawn l es) held_later drawn));
     cell = k.cell;

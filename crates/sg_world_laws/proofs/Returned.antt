@@ -22,12 +22,11 @@ use Rattle.sg_recovery_laws.specs.Midway.Numbers.{AreNumbers, left_of, sum_told,
 use Rattle.sg_recovery_laws.specs.Midway.Progress.{IsInRecovery, IsNone, TellsCalls, Told, is_complete}
 use Rattle.sg_recovery_laws.specs.sg_hist.Reading.{is_by_guard, is_item_of, last_items, names_at, older_items}
 use Rattle.sg_recovery_laws.specs.sg_hist.Inside.Parts.{is_walk_of}
-use Rattle.sg_recovery_laws.proofs.Objects.Serves.{fewer_behind}
+use Rattle.sg_recovery_laws.proofs.Objects.Serves.{fewer_later}
 use Rattle.sg_recovery_laws.proofs.Objects.Steady.{after_good}
 use Rattle.sg_recovery_laws.proofs.Objects.Waiting.{hidden_is, time_after}
 use Rattle.sg_recovery_laws.specs.Objects.Serving.{HasTime, IsLegalObject}
 use Rattle.sg_recovery_laws.specs.Objects.Waiting.{AreWaiting, IsWaiting}
-use Rattle.sg_recovery_laws.proofs.InBoots.{boots_appended}
 use Rattle.sg_recovery_laws.proofs.Lists.{each_append, each_both, each_map, each_split}
 use Rattle.sg_recovery_laws.proofs.Onward.{made_stays}
 use Rattle.sg_recovery_laws.specs.sg_hist.Growing.{IsInLast}
@@ -36,7 +35,7 @@ use Rattle.sg_recovery_laws.specs.LastItem.Told.{IsRead}
 use Rattle.sg_facts.proofs.Replaying.Files.{told}
 use Rattle.sg_facts.proofs.Replaying.Found.{above, same_test}
 use Rattle.sg_world_laws.proofs.Ahead.{drawn_with, held_ahead}
-use Rattle.sg_world_laws.proofs.Drawn.{committed_same, committed_waiting, none_apart, object_behind, waiting_apart, waiting_one, waiting_without}
+use Rattle.sg_world_laws.proofs.Drawn.{committed_same, committed_waiting, none_apart, object_after, waiting_apart, waiting_one, waiting_without}
 use Rattle.sg_world_laws.proofs.Entering.{kept_within, legal_push, settled_after}
 use Rattle.sg_world_laws.proofs.Items.{has_item}
 use Rattle.sg_world_laws.proofs.Orders.{all_drawn, few_now, lets_after, sound_es, time_now}
@@ -85,7 +84,7 @@ module _ (z : Setting) (set : IsSetting z) (w : WorldView) (b : Boot) (boots : L
   time = time_o (suc (suc (length (pre ++ p ∷ post)))) (omega (arith, few))
 
   object_now : object_of z.iface.facts (w.history ++ p ∷ []) ≡ after z.iface.facts (object_of z.iface.facts w.history) p.call p.reply
-  object_now = object_behind z.iface.facts empty_object w.history (p ∷ [])
+  object_now = object_after z.iface.facts empty_object w.history (p ∷ [])
 
   apart : ClientsDiffer (pre ++ p ∷ post)
   apart = waiting_apart z.iface.facts z.ask (object_of z.iface.facts w.history) (pre ++ p ∷ post) wait
@@ -148,15 +147,15 @@ module _ (z : Setting) (set : IsSetting z) (w : WorldView) (b : Boot) (boots : L
         (λ e is. record { may = is.0.may; guarded = subst (λ o. guard z.iface o e.call ≡ None) (sym object_now) is.1 }) both)
 
     -- after all of them the object is as it was
-    behind_all : object_from z.iface.facts (object_of z.iface.facts (w.history ++ p ∷ [])) (held_in (length (b ∷ boots)) w'.seats) ≡ object_from z.iface.facts (object_of z.iface.facts w.history) (held_in (length (b ∷ boots)) w.seats)
-    behind_all =
+    after_all : object_from z.iface.facts (object_of z.iface.facts (w.history ++ p ∷ [])) (held_in (length (b ∷ boots)) w'.seats) ≡ object_from z.iface.facts (object_of z.iface.facts w.history) (held_in (length (b ∷ boots)) w.seats)
+    after_all =
         ap (λ o. object_from z.iface.facts o (held_in (length (b ∷ boots)) w'.seats)) object_now
         ∙ ap (object_from z.iface.facts (after z.iface.facts (object_of z.iface.facts w.history) p.call p.reply)) left
         ∙ committed_same z.iface.facts z.ask z.sound set.law (object_of z.iface.facts w.history) pre post p ok time wait
         ∙ ap (object_from z.iface.facts (object_of z.iface.facts w.history)) (sym held)
 
     sound_all : IsSound z.iface.facts (object_from z.iface.facts (object_of z.iface.facts (w.history ++ p ∷ [])) (held_in (length (b ∷ boots)) w'.seats))
-    sound_all = subst (IsSound z.iface.facts) (sym behind_all) (sound_es z set w b boots (Some v) stub k (held_in (length (b ∷ boots)) w.seats) (all_drawn z set w b boots (Some v) stub k))
+    sound_all = subst (IsSound z.iface.facts) (sym after_all) (sound_es z set w b boots (Some v) stub k (held_in (length (b ∷ boots)) w.seats) (all_drawn z set w b boots (Some v) stub k))
 
     -- what is live after all is live after the entry, and at the history
     live_after : (x : ℕ) → is_live (object_of z.iface.facts (w.history ++ p ∷ [])).rows x ≡ true → is_live (after z.iface.facts (object_of z.iface.facts w.history) p.call p.reply).rows x ≡ true
@@ -165,7 +164,7 @@ module _ (z : Setting) (set : IsSetting z) (w : WorldView) (b : Boot) (boots : L
     live_before : (x : ℕ) → is_live (object_of z.iface.facts (w.history ++ p ∷ [])).rows x ≡ true → is_live (object_of z.iface.facts w.history).rows x ≡ true
     live_before x live =
         let found = row_of_live (after z.iface.facts (object_of z.iface.facts w.history) p.call p.reply).rows x (live_after x live) in
-        fewer_behind z.iface.facts z.ask z.sound set.law (object_of z.iface.facts w.history) (p ∷ []) ok (time_o 1 (omega arith)) (its, tt, tt) x found.0 found.1
+        fewer_later z.iface.facts z.ask z.sound set.law (object_of z.iface.facts w.history) (p ∷ []) ok (time_o 1 (omega arith)) (its, tt, tt) x found.0 found.1
 
     time_after_it : HasTime z.iface.facts (length (pre ++ post)) (after z.iface.facts (object_of z.iface.facts w.history) p.call p.reply)
     unfolding its
@@ -174,13 +173,13 @@ module _ (z : Setting) (set : IsSetting z) (w : WorldView) (b : Boot) (boots : L
         let c : length (pre ++ p ∷ post) ≡ length pre + suc (length post) = length-append pre (p ∷ post) in
         time_after z.iface.facts z.ask z.sound set.law (length (pre ++ post)) (object_of z.iface.facts w.history) p.call p.reply ok its.answered (time_o (suc (length (pre ++ post))) (omega (arith, a, c, few)))
 
-    live_behind : (x : ℕ) → is_live (object_from z.iface.facts (object_of z.iface.facts (w.history ++ p ∷ [])) (held_in (length (b ∷ boots)) w'.seats)).rows x ≡ true
+    live_later : (x : ℕ) → is_live (object_from z.iface.facts (object_of z.iface.facts (w.history ++ p ∷ [])) (held_in (length (b ∷ boots)) w'.seats)).rows x ≡ true
         → is_live (after z.iface.facts (object_of z.iface.facts w.history) p.call p.reply).rows x ≡ true
-    live_behind x live =
+    live_later x live =
         let now : is_live (object_from z.iface.facts (after z.iface.facts (object_of z.iface.facts w.history) p.call p.reply) (pre ++ post)).rows x ≡ true
         = sym (ap (λ o. is_live (object_from z.iface.facts o (held_in (length (b ∷ boots)) w'.seats)).rows x) object_now ∙ ap (λ l. is_live (object_from z.iface.facts (after z.iface.facts (object_of z.iface.facts w.history) p.call p.reply) l).rows x) left) ∙ live in
         let found = row_of_live (object_from z.iface.facts (after z.iface.facts (object_of z.iface.facts w.history) p.call p.reply) (pre ++ post)).rows x now in
-        fewer_behind z.iface.facts z.ask z.sound set.law (after z.iface.facts (object_of z.iface.facts w.history) p.call p.reply) (pre ++ post) good_after time_after_it
+        fewer_later z.iface.facts z.ask z.sound set.law (after z.iface.facts (object_of z.iface.facts w.history) p.call p.reply) (pre ++ post) good_after time_after_it
         (subst (AreWaiting z.iface.facts z.ask (after z.iface.facts (object_of z.iface.facts w.history) p.call p.reply)) left wait_after) x found.0 found.1
 
     -- 0 names nothing
@@ -226,9 +225,9 @@ module _ (z : Setting) (set : IsSetting z) (w : WorldView) (b : Boot) (boots : L
         let g = up.numbers.given in
         let c = up.numbers.counted in
         let rows = object_from z.iface.facts (object_of z.iface.facts (w.history ++ p ∷ [])) (held_in (length (b ∷ boots)) w'.seats) in
-        let left_one = sum_told_alike unbegun stub.told stub'.told rows.rows (λ x live. same_told x (live_behind x live)) in
-        let left_all = sum_told_alike left_of stub.told stub'.told rows.rows (λ x live. same_told x (live_behind x live)) in
-        let was : AreNumbers z.iface.facts stub.told (length w.history) rows v = subst (λ o. AreNumbers z.iface.facts stub.told (length w.history) o v) (sym behind_all) up.numbers in
+        let left_one = sum_told_alike unbegun stub.told stub'.told rows.rows (λ x live. same_told x (live_later x live)) in
+        let left_all = sum_told_alike left_of stub.told stub'.told rows.rows (λ x live. same_told x (live_later x live)) in
+        let was : AreNumbers z.iface.facts stub.told (length w.history) rows v = subst (λ o. AreNumbers z.iface.facts stub.told (length w.history) o v) (sym after_all) up.numbers in
         let wg = was.given in
         let wc = was.counted in
         record { given = omega (arith, wg, left_one); counted = omega (arith, wc, left_all, n) }
@@ -244,7 +243,6 @@ module _ (z : Setting) (set : IsSetting z) (w : WorldView) (b : Boot) (boots : L
       enter = enter_after;
       items = each_append (λ e. is_by_guard e.reply || list_any (is_item_of e) (older_items [] (b ∷ boots) ++ last_items (b ∷ boots)) ≡ true) w.history (p ∷ []) k.items (has_item (standing w b boots (Some v)).run p in_last, tt);
       held_items = (without (IsInLast (standing w b boots (Some v)).run) k.held_items).0;
-      in_boots = boots_appended (standing w b boots (Some v)).run w.history p served in_last k.in_boots;
       recovering = λ es drawn. made_stays (stubs_of z) ((w.history ++ p ∷ []) ++ es) (standing w b boots (Some v)).run (unanswered (standing w b boots (Some v))) (unanswered later)
           (kept_within w.history es p (unanswered (standing w b boots (Some v))) (unanswered later) kept)
           (held_ahead (stubs_of z) w.history pre post p (standing w b boots (Some v)).run (unanswered (standing w b boots (Some v))) apart
@@ -254,9 +252,9 @@ module _ (z : Setting) (set : IsSetting z) (w : WorldView) (b : Boot) (boots : L
         numbers = numbers_later;
         named_live = λ x. elim (live_names x) [ inl none ↦ inl none | inr live ↦ inr (ap (λ y. is_live y.rows x) object_now ∙ live) ];
         in_recovery = under_dropped z.iface z.walks stub.names stub'.names (object_from z.iface.facts (object_of z.iface.facts (w.history ++ p ∷ [])) (held_in (length (b ∷ boots)) w'.seats)) v sound_all up.in_recovery.holds.names_are.none
-            (λ x live. same_names x (live_behind x live)) fewer_names stub.told stub'.told stub'.present (λ x live. same_told x (live_behind x live))
+            (λ x live. same_names x (live_later x live)) fewer_names stub.told stub'.told stub'.present (λ x live. same_told x (live_later x live))
             (subst (λ f. IsInRecovery z.iface z.walks stub.names stub.told f (object_from z.iface.facts (object_of z.iface.facts (w.history ++ p ∷ [])) (held_in (length (b ∷ boots)) w'.seats)) v) (sym same_present)
-            (subst (λ o. IsInRecovery z.iface z.walks stub.names stub.told stub.present o v) (sym behind_all) up.in_recovery));
+            (subst (λ o. IsInRecovery z.iface z.walks stub.names stub.told stub.present o v) (sym after_all) up.in_recovery));
         read = read_later;
         unnamed = λ es drawn id above. subst (λ l. list_any (λ n. n.0 == id) (names_at z.iface.facts l (last_items (b ∷ boots))) ≡ false) (sym (append_assoc w.history (p ∷ []) es))
             (up.unnamed (p ∷ es) (drawn_p es drawn) id (above_before id (subst (λ x. x.given < id) object_now above)));
@@ -270,13 +268,6 @@ module _ (z : Setting) (set : IsSetting z) (w : WorldView) (b : Boot) (boots : L
 
         in_last : IsInLast (standing w b boots (Some v)).run p
         in_last = (without (IsInLast (standing w b boots (Some v)).run) k.held_items).1
-
-        served : is_by_guard p.reply ≡ false
-        served = by p.reply its.answered.answered
-          where
-            by : (r : Reply) → z.ask (object_of z.iface.facts w.history) p.call ≡ Some r → is_by_guard r ≡ false
-            by (Ok g) is = refl
-            by (Refused code) is = set.law.shape.refuses (object_of z.iface.facts w.history) p.call code is
 
         spelt : w' ≡ later
         spelt =

@@ -5,8 +5,6 @@ use Rattle.sg_boot.proofs.Keeping.{kept_struck}
 use Rattle.sg_facts.specs.Trace.{Boot, Run}
 use Rattle.sg_facts.specs.declared.entry.Entry.{Entry}
 use Rattle.sg_facts.specs.declared.trace.Item.{Item}
-use Rattle.sg_recovery_laws.specs.sg_hist.Recovered.{AreInBoots}
-use Rattle.sg_recovery_laws.proofs.InBoots.{boots_struck}
 use Rattle.sg_recovery_laws.proofs.Onward.{struck_stays}
 use Rattle.sg_recovery_laws.specs.sg_hist.Growing.{IsRecovering, struck}
 use Rattle.sg_recovery_laws.specs.sg_hist.Reading.{last_items, older_items}
@@ -47,7 +45,6 @@ pub record IsCutOff (z : Setting) (w : WorldView) (run : Run) : Type 0 where
   pub begun : run.boots ≢ []
   pub long : length run.boots ≡ length w.run.boots
   pub items : HaveItems (older_items [] run.boots ++ last_items run.boots) w.history
-  pub in_boots : AreInBoots run 0 w.history
   pub recovers : IsRecovering (stubs_of z) (w.history ++ []) run (unanswered w)
 
 module _ (z : Setting) (w : WorldView) (stub later : Stub) (k : KeepsPromise z w stub) (run : Run) (cut : IsCutOff z w run) (stop points : ℕ) where
@@ -62,7 +59,6 @@ module _ (z : Setting) (w : WorldView) (stub later : Stub) (k : KeepsPromise z w
     enter = tt;
     items = subst (λ l. HaveItems l w.history) (sym (ap (λ l. l ++ last_items (struck run.boots stop)) (older_struck [] run.boots stop) ∙ ap (λ l. older_items [] run.boots ++ l) (last_struck run.boots stop))) cut.items;
     held_items = tt;
-    in_boots = boots_struck run.boots run.points points stop w.history cut.in_boots;
     recovering = λ es drawn. subst (λ l. IsRecovering (stubs_of z) (w.history ++ l) (record { boots = struck run.boots stop; points = points }) (unanswered w)) (sym (none_drawn es drawn))
         (struck_stays (stubs_of z) (w.history ++ []) run.boots run.points points stop (unanswered w) cut.recovers);
     cell = kept_struck z.iface.facts run.boots stop cut.begun;
@@ -73,4 +69,4 @@ module _ (z : Setting) (w : WorldView) (stub later : Stub) (k : KeepsPromise z w
 pub stopped_between : (z : Setting) (w : WorldView) (stub later : Stub) → KeepsPromise z w stub → (stop points : ℕ) → KeepsPromise z (record w { run = record { boots = struck w.run.boots stop; points = points }; running = None }) later
 stopped_between z w stub later k stop points =
     stopped z w stub later k w.run
-    (record { begun = k.cell.begun; long = refl; items = k.items; in_boots = k.in_boots; recovers = k.recovering [] (no_drawn (held_replies w)) }) stop points
+    (record { begun = k.cell.begun; long = refl; items = k.items; recovers = k.recovering [] (no_drawn (held_replies w)) }) stop points

@@ -18,7 +18,6 @@ use Rattle.sg_facts.specs.Track.{is_live}
 use Rattle.sg_recovery_laws.specs.Midway.Numbers.{AreNumbers}
 use Rattle.sg_recovery_laws.specs.Midway.Progress.{IsInRecovery, Told, complete}
 use Rattle.sg_recovery_laws.specs.sg_hist.Reading.{last_items, names_at, older_items}
-use Rattle.sg_recovery_laws.specs.sg_hist.Recovered.{AreInBoots}
 use Rattle.sg_recovery_laws.specs.Objects.Serving.{IsLegalObject}
 use Rattle.sg_recovery_laws.specs.Objects.Waiting.{AreWaiting, NoneBy}
 use Rattle.sg_recovery_laws.specs.sg_hist.Growing.{IsInLast, IsRecovering}
@@ -98,7 +97,6 @@ pub record KeepsPromise (z : Setting) (w : WorldView) (stub : Stub) : Type 0 whe
   pub enter : Each (MayEnter z w.history) (held_replies w)
   pub items : HaveItems (older_items [] w.run.boots ++ last_items w.run.boots) w.history
   pub held_items : Each (IsInLast w.run) (held_replies w)
-  pub in_boots : AreInBoots w.run 0 w.history
   pub recovering : (es : List Entry) → AreDrawn (held_replies w) es → IsRecovering (stubs_of z) (w.history ++ es) w.run (unanswered w)
   pub cell : IsCell z.iface.facts w.running w.run.boots
   pub stands : StandsIn z w stub w.running

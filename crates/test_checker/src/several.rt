@@ -1,6 +1,6 @@
 // Inputs for several services: interfaces, each before a line of `%%` alone, and a script for them.
 use crate::shapes::standard_shapes;
-use sg_input::{MOST_INTERFACE, MultiInput, read_multi_input};
+use sg_input::{InterfaceList, MOST_INTERFACE, MultiScript, Read, read_multi_input};
 use std::alloc::Global;
 use std::process::Abort;
 use std::test::Fail;
@@ -160,23 +160,23 @@ fn add_text(input: &mut Vec<u8>, text: &[u8]) -> Result<(), Fail> {
 }
 
 // What an input is.
-fn read(alloc: Global, input: &[u8]) -> Result<MultiInput, Fail> {
+fn read(alloc: Global, input: &[u8]) -> Result<Read<(InterfaceList, MultiScript)>, Fail> {
     Ok(read_multi_input(alloc, input, &standard_shapes())?)
 }
 
 // Whether an input is refused with a line.
 fn is_refused(alloc: Global, input: &[u8], line: &[u8]) -> Result<bool, Fail> {
     Ok(match read(alloc, input)? {
-        MultiInput::Refused(said) => said.as_slice() == line,
-        MultiInput::Ready(..) => false,
+        Read::Refused(said) => said.as_slice() == line,
+        Read::Ready(_) => false,
     })
 }
 
 // Whether an input is ready, with so many members.
 fn is_ready(alloc: Global, input: &[u8], count: usize) -> Result<bool, Fail> {
     Ok(match read(alloc, input)? {
-        MultiInput::Refused(_) => false,
-        MultiInput::Ready(members, _) => members.len() == count,
+        Read::Refused(_line) => false,
+        Read::Ready((members, _script)) => members.len() == count,
     })
 }
 
@@ -237,7 +237,7 @@ fn members(rt: HostRuntime) -> Result<(), Fail> {
     let script =
         b"setup { lock_alloc(); evt_split(); } stop event 4 9; client 3 { evt_wait(1); lock_take(1); } stop lock 2;";
     let input = input_of(alloc, &[Given::Event, Given::Mm, Given::Lock], script)?;
-    let MultiInput::Ready(_, script) = read(alloc, &input)? else {
+    let Read::Ready((_members, script)) = read(alloc, &input)? else {
         return Err("refused")?;
     };
     let setup = script.setup.as_slice();

@@ -2,7 +2,7 @@
 use crate::answers::accepted;
 use crate::shapes::standard_shapes;
 use sg_facts::Tables;
-use sg_input::{Verdict, compile, compiled};
+use sg_input::{Read, compile, compiled};
 use std::alloc::Global;
 use std::process::Abort;
 use std::test::Fail;
@@ -247,8 +247,8 @@ fn has_lines(
 // Whether the tables of a text are printed so.
 fn prints(alloc: Global, text: &[u8], want: &[u8]) -> Result<bool, Fail> {
     match compiled(alloc, text, &standard_shapes())? {
-        Verdict::Accepted(printed) => Ok(printed.as_slice() == want),
-        Verdict::Refused(_) => Ok(false),
+        Read::Ready(printed) => Ok(printed.as_slice() == want),
+        Read::Refused(_) => Ok(false),
     }
 }
 

@@ -1,23 +1,24 @@
 // What is said of a text, line by line.
 use crate::shapes::standard_shapes;
-use sg_input::{Examined, Verdict, compiled, examine, verdict};
+use sg_facts::Bytes;
+use sg_input::{Read, compiled, examine, verdict};
 use std::alloc::Global;
 use std::test::Fail;
 use test_interfaces::{LOCK, SCHED, TIMER};
 
 // Whether it is said that a text is accepted, by a line.
-fn accepts(said: &Verdict, line: &[u8]) -> bool {
+fn accepts(said: &Read<Bytes>, line: &[u8]) -> bool {
     match said {
-        Verdict::Accepted(said) => said.as_slice() == line,
-        Verdict::Refused(_) => false,
+        Read::Ready(said) => said.as_slice() == line,
+        Read::Refused(_) => false,
     }
 }
 
 // Whether it is said that a text is refused, by a line.
-fn refuses(said: &Verdict, line: &[u8]) -> bool {
+fn refuses(said: &Read<Bytes>, line: &[u8]) -> bool {
     match said {
-        Verdict::Accepted(_) => false,
-        Verdict::Refused(said) => said.as_slice() == line,
+        Read::Ready(_) => false,
+        Read::Refused(said) => said.as_slice() == line,
     }
 }
 
@@ -42,8 +43,8 @@ fn is_accepted(alloc: Global, text: &[u8], line: &[u8]) -> Result<bool, Fail> {
 // The name of the service of a text that is accepted.
 fn service_of(alloc: Global, text: &[u8]) -> Result<Option<&'static [u8]>, Fail> {
     match examine(alloc, text, &standard_shapes())? {
-        Examined::Accepted(accepted) => Ok(Some(accepted.interface().shape.name)),
-        Examined::Refused(_) => Ok(None),
+        Read::Ready(accepted) => Ok(Some(accepted.interface().shape.name)),
+        Read::Refused(_) => Ok(None),
     }
 }
 

@@ -10,3 +10,4 @@ pub use Rattle.sg_load.specs.Services.sg_lock
 pub use Rattle.sg_load.specs.Services.sg_mm
 pub use Rattle.sg_load.specs.Services.sg_ramfs
 pub use Rattle.sg_load.specs.Services.sg_sched
+pub use Rattle.sg_load.specs.Services.sg_timer

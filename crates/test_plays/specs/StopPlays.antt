@@ -145,6 +145,20 @@ setup_first = record {
   points = 19;
 }
 
+-- it isn't told that it waits
+abbrev pub wait_left_out : Run
+wait_left_out = record {
+  boots =
+      boot (
+      called (bare_call 1 1 1 0) 0 4 (replied (ok_at 1))
+      ∷ called (bare_call 1 2 1 0) 0 9 (replied (ok_at 2))
+      ∷ called (call_with 1 3 3 1 (word 1 ∷ [])) 1 13 (replied ok)
+      ∷ called (bare_call 2 1 2 1) 1 17 (replied ok)
+      ∷ []) None
+      ∷ [];
+  points = 18;
+}
+
 -- it waits as soon as the first is made, in the middle of the setup
 abbrev pub turn_in_setup : Run
 turn_in_setup = record {

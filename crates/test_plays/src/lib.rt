@@ -17,5 +17,5 @@ pub use locks::{four_lock_calls, own_backs, second_first, stays_blocked, wait_an
 pub use several::waits_by_number;
 pub use stops::{
     blocked_redone, setup_first, stop_after_take, stop_before_storage, stop_in_walk,
-    taken_by_another, trigger_not_twice, turn_in_setup, wrong_plays,
+    taken_by_another, trigger_not_twice, turn_in_setup, wait_left_out, wrong_plays,
 };

@@ -11,7 +11,9 @@ ghost use Rattle.sg_plain.specs.Inside.Kept.{somebody_waits};
 ghost use Rattle.sg_plain.specs.Promises.{AreScriptsCalls, AreScriptsStops, AreWoken, FollowsPlain, IsSetupFirst};
 ghost use Rattle.sg_plain.specs.Inside.Kept.{GetsPlainAlone};
 ghost use Rattle.test_plays.specs.LockPlays.{four_lock_calls};
-ghost use Rattle.test_plays.specs.StopPlays.{asked_in_vain, blocked_redone_script, call_left_out, calls_exchanged, setup_first, setup_first_history, setup_first_script, stop_after_take_script, stop_before_storage_script, stop_in_walk_script, taken_by_another, taken_by_another_history, taken_by_another_script, trigger_not_twice_script, turn_in_setup};
+ghost use Rattle.test_plays.specs.StopPlays.{asked_in_vain, blocked_redone_script, call_left_out, calls_exchanged, setup_first, setup_first_history, setup_first_script, stop_after_take_script, stop_before_storage_script, stop_in_walk_script, taken_by_another, taken_by_another_history, taken_by_another_script, trigger_not_twice_script, turn_in_setup, wait_left_out};
+ghost use Rattle.sg_multi.specs.sg_sim.sg_play.Asked.{AsksPlain};
+ghost use Rattle.sg_multi.specs.sg_sim.sg_play.Following.Asking.{asked_by};
 ghost use Rattle.test_recovery.specs.EventRuns.{blocked_redone, blocked_redone_ends, blocked_redone_history, trigger_not_twice, trigger_not_twice_ends, trigger_not_twice_history};
 ghost use Rattle.test_recovery.specs.LockRuns.{boot_without_a_stop, stop_after_take, stop_after_take_ends, stop_after_take_history, stop_before_storage, stop_before_storage_history, stop_in_walk, stop_in_walk_history};
 
@@ -72,6 +74,7 @@ pub fn taken_by_another()
     ensures stops { AreScriptsStops taken_by_another_script taken_by_another }
     ensures plain { IsPlainPlay (whole event_facts) event_table taken_by_another_script taken_by_another_history }
     ensures follows { FollowsPlain event_facts taken_by_another taken_by_another_history taken_by_another_history }
+    ensures asks { AsksPlain taken_by_another (asked_by (whole event_facts) event_table taken_by_another_script 9) }
     ensures woken { AreWoken event_facts taken_by_another_history taken_by_another }
 {}
 
@@ -82,15 +85,26 @@ pub fn setup_first()
     ensures stops { AreScriptsStops setup_first_script setup_first }
     ensures plain { IsPlainPlay (whole event_facts) event_table setup_first_script setup_first_history }
     ensures follows { FollowsPlain event_facts setup_first setup_first_history setup_first_history }
+    ensures asks { AsksPlain setup_first (asked_by (whole event_facts) event_table setup_first_script 9) }
     ensures woken { AreWoken event_facts setup_first_history setup_first }
 {}
 
-/// The client waits in the middle of the setup: the history is the same, so that nothing but the promise of the setup tells it.
+/// The client waits in the middle of the setup: the history is the same, so that nothing but the promise of the setup tells it, and where the
+/// turns are those of the play without stops what that asks.
 pub fn turn_in_setup()
     ensures stops { AreScriptsStops setup_first_script turn_in_setup }
     ensures follows { FollowsPlain event_facts turn_in_setup setup_first_history setup_first_history }
     ensures woken { AreWoken event_facts setup_first_history turn_in_setup }
     ensures not_first { IsSetupFirst setup_first_script setup_first_history turn_in_setup → ⊥ }
+    ensures not_asked { AsksPlain turn_in_setup (asked_by (whole event_facts) event_table setup_first_script 9) → ⊥ }
+{}
+
+/// A wait is left out of the run: all else is as it was.
+pub fn wait_left_out()
+    ensures setup { IsSetupFirst setup_first_script setup_first_history wait_left_out }
+    ensures follows { FollowsPlain event_facts wait_left_out setup_first_history setup_first_history }
+    ensures woken { AreWoken event_facts setup_first_history wait_left_out }
+    ensures not_asked { AsksPlain wait_left_out (asked_by (whole event_facts) event_table setup_first_script 9) → ⊥ }
 {}
 
 /// What no play may come to: calls in another order than the script's, or one left out; a setup whose calls aren't all done; a stop that the script doesn't have, or one of

@@ -1,5 +1,5 @@
 // Where inputs are divided, and in which order they are refused.
-use sg_top::{Input, NoMemory, cut, one_cut, one_input, read_input};
+use sg_top::{NoMemory, Read, cut, one_cut, one_input, read_input};
 use std::alloc::Global;
 use std::test::Fail;
 
@@ -77,8 +77,8 @@ fn divides_at_the_first_divider(rt: HostRuntime) {
 // Whether an input is refused with this line, where no service is known.
 fn is_refused(alloc: Global, input: &[u8], line: &[u8]) -> Result<bool, NoMemory> {
     match read_input(alloc, input, &[])? {
-        Input::Refused(said) => Ok(said.as_slice() == line),
-        Input::Ready(_, _) => Ok(false),
+        Read::Refused(said) => Ok(said.as_slice() == line),
+        Read::Ready(_) => Ok(false),
     }
 }
 

@@ -51,8 +51,7 @@ fn takes_the_longest_input(rt: HostRuntime) -> Result<(), Fail> {
     let alloc = rt.alloc();
     assert_eq!(rt; MOST_INPUT, MOST_INTERFACE + MOST_DIVIDER + MOST_SCRIPT);
     let play = Command::Play {
-        threads: false,
-        shows: Shows::Run,
+        shows: Shows::Report,
     };
     assert_eq!(rt; play.most_bytes(), 4_259_844);
     assert_eq!(rt; Command::Check.most_bytes(), 65_536);

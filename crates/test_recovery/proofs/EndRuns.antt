@@ -1,12 +1,12 @@
 -- Runs that end as none may, or whose calls are under way at the wrong time: what each of them lacks.
-use Rattle.std.proofs.Common.{◌≡◌, ◌≤◌, ◌-◌, true, ap, arith, inr, refl}
+use Rattle.std.proofs.Common.{◌≡◌, ◌≤◌, ◌-◌, true, ap, arith, inl, inr, refl}
 use Rattle.std.specs.Prelude.{[], ◌∷◌}
 use Rattle.sg_facts.specs.sg_base.Counts.{last_count}
 use Rattle.sg_recovery_laws.specs.sg_hist.Recovered.{ArePointsOf, IsRecovered, waiting}
 use Rattle.sg_recovery_laws.specs.sg_hist.Ending.{AreLost, HasRecovered}
 use Rattle.test_recovery.specs.LockRuns.{lock_stubs}
-use Rattle.test_recovery.specs.RamfsRuns.{held_behind, held_behind_history, held_lost, held_lost_history, ramfs_stubs}
-use Rattle.test_recovery.specs.EndRuns.{asked_early, asked_late, counted_for_nothing, held_asked_twice, load_shows_a_call, made_at_the_end, other_waits, refused_early, refused_late, slept_over_reboot, sought_and_read, sought_ends, stopped_unasked, stopped_unused, take_after_refusal, taken_and_held, waits_asked, waits_unasked, written_and_read}
+use Rattle.test_recovery.specs.RamfsRuns.{held_late, held_late_history, held_lost, held_lost_history, ramfs_stubs}
+use Rattle.test_recovery.specs.EndRuns.{asked_early, asked_late, both_opened, counted_for_nothing, held_asked_twice, held_seek, load_shows_a_call, made_at_the_end, other_waits, refused_early, refused_late, slept_over_reboot, sought_and_read, sought_at_last, sought_ends, stopped_after, stopped_unasked, stopped_unused, take_after_refusal, taken_and_held, waits_asked, waits_unasked, written_and_read}
 use Rattle.test_recovery.specs.StrictRuns.{one_made, one_made_ends, one_taken}
 use Rattle.test_recovery.proofs.Apart.{false_true}
 use Rattle.test_recovery.proofs.LockTables.{lock_tables}
@@ -151,12 +151,51 @@ held_asked_twice-recovered = record {
   held = (omega arith, (omega arith, (omega arith, tt)));
 }
 
+-- the stop took the reply, so that no entry after it may be of its boot
+pub committed_after_stop-wrong : IsRecovered ramfs_stubs sought_at_last stopped_after [] → ⊥
+committed_after_stop-wrong r = let e : 1 ≤ 0 = r.held.1.1.0 in omega (arith, e)
+
+-- where it is lost, the run recovers
+pub committed_after_stop-recovered : IsRecovered ramfs_stubs both_opened stopped_after (held_seek ∷ [])
+committed_after_stop-recovered = record {
+  reboots = record { booted = λ is. absurd (cc is); table = ((refl, refl), ((refl, refl), ((refl, refl), tt))); stopped = tt; last = (tt, (tt, (tt, tt))) };
+  served = record {
+    calls = (
+      (record { its = refl; made = (0, omega arith, refl) }, refl),
+      ((record { its = refl; made = (2, omega arith, refl) }, refl), ((record { its = refl; made = (1, omega arith, refl) }, refl), tt)),
+    );
+    items = ((refl, (refl, refl, refl)), ((refl, (refl, refl, refl)), tt));
+    committed = (refl, (tt, (refl, tt)));
+    order = (refl, (refl, tt));
+  };
+  walks = (tt, (tt, (tt, tt)));
+  on_demand = (
+    record { under_way = record { its = record { its = refl; made = (0, omega arith, refl) }; above = refl; first = refl }; guarded = refl },
+    (
+      record { under_way = record { its = record { its = refl; made = (2, omega arith, refl) }; above = refl; first = refl }; guarded = refl },
+      (record { under_way = record { its = record { its = refl; made = (1, omega arith, refl) }; above = refl; first = refl }; guarded = refl }, tt),
+    ),
+  );
+  tracked_state = (
+    record { whole = refl; rows = tt; real = refl; file = tt },
+    (
+      record { whole = refl; rows = (record { id = refl; made = refl; parent = refl; state = refl; fields = refl }, tt); real = refl; file = tt },
+      (record { whole = refl; rows = tt; real = refl; file = tt }, tt),
+    ),
+  );
+  points = ((refl, (refl, (refl, tt))), inl (refl, refl), refl);
+  held = (omega arith, (omega arith, tt));
+}
+
+pub committed_after_stop-lost : AreLost both_opened [] stopped_after.boots
+committed_after_stop-lost = ((tt, ((refl, refl), (tt, tt))), tt)
+
 -- a reply that a stop took, and one that was held until its entry, are as they may be
 pub held_lost-lost : AreLost held_lost_history [] held_lost.boots
 held_lost-lost = ((tt, ((refl, refl), tt)), ((tt, (tt, (tt, (tt, tt)))), tt))
 
-pub held_behind-lost : AreLost held_behind_history [] held_behind.boots
-held_behind-lost = ((tt, (tt, (tt, (tt, tt)))), tt)
+pub held_late-lost : AreLost held_late_history [] held_late.boots
+held_late-lost = ((tt, (tt, (tt, (tt, tt)))), tt)
 
 -- ---- the end of the count of points
 

@@ -14,3 +14,5 @@ pub mod SchedFaults
 pub mod SchedRuns
 pub mod Steps
 pub mod StrictRuns
+pub mod TimerFaults
+pub mod TimerRuns

@@ -2,7 +2,7 @@
 use Rattle.std.proofs.Common.{arith, inl, inr, refl, true}
 use Rattle.sg_facts.specs.sg_base.Lists.{Each}
 use Rattle.std.specs.Prelude.{[], ◌∷◌}
-use Rattle.test_recovery.specs.RamfsRuns.{ramfs_stubs, file_loaded, file_loaded_ends, file_loaded_history, held_behind, held_behind_ends, held_behind_history, held_lost, held_lost_ends, held_lost_history}
+use Rattle.test_recovery.specs.RamfsRuns.{ramfs_stubs, file_loaded, file_loaded_ends, file_loaded_history, held_late, held_late_ends, held_late_history, held_lost, held_lost_ends, held_lost_history}
 use Rattle.sg_recovery_laws.specs.sg_hist.Reading.{places_of}
 use Rattle.sg_recovery_laws.specs.sg_hist.Recovered.{ArePointsOf, IsRebooted, IsRecovered, IsServed, waiting}
 use Rattle.sg_recovery_laws.specs.sg_hist.Inside.Parts.{IsDemanded, IsTrackedAt, IsWalked}
@@ -86,41 +86,41 @@ held_lost-recovered = record {
   held = (omega arith, (omega arith, (omega arith, (omega arith, (omega arith, tt)))));
 }
 
-held_behind-reboots : IsRebooted ramfs_stubs.interface.facts ramfs_stubs.ask held_behind
-held_behind-reboots = record {
+held_late-reboots : IsRebooted ramfs_stubs.interface.facts ramfs_stubs.ask held_late
+held_late-reboots = record {
   booted = λ is. absurd (cc is);
   table = ((refl, refl), ((refl, refl), ((refl, refl), ((refl, refl), tt))));
   stopped = tt;
   last = (tt, (tt, (tt, (tt, tt))));
 }
 
-held_behind-served : IsServed ramfs_stubs.interface.facts held_behind_history held_behind (waiting held_behind_ends)
-held_behind-served = record {
+held_late-served : IsServed ramfs_stubs.interface.facts held_late_history held_late (waiting held_late_ends)
+held_late-served = record {
   calls = ((record { its = refl; made = (0, omega arith, refl) }, refl), ((record { its = refl; made = (2, omega arith, refl) }, refl), ((record { its = refl; made = (1, omega arith, refl) }, refl), ((record { its = refl; made = (3, omega arith, refl) }, refl), tt))));
   items = ((refl, (refl, refl, refl)), ((refl, (refl, refl, refl)), ((refl, (refl, refl, refl)), ((refl, (refl, refl, refl)), tt))));
   committed = (refl, (tt, (refl, (refl, tt))));
   order = (refl, (refl, (tt, (refl, tt))));
 }
 
-held_behind-walks : Each (λ p. IsWalked ramfs_stubs.interface.facts ramfs_stubs.walks held_behind_history p p.item.tag) (places_of held_behind)
-held_behind-walks = (tt, (tt, (tt, (tt, tt))))
+held_late-walks : Each (λ p. IsWalked ramfs_stubs.interface.facts ramfs_stubs.walks held_late_history p p.item.tag) (places_of held_late)
+held_late-walks = (tt, (tt, (tt, (tt, tt))))
 
-held_behind-demanded : Each (λ p. IsDemanded ramfs_stubs.interface ramfs_stubs.walks held_behind_history (waiting held_behind_ends) p p.item.tag) (places_of held_behind)
-held_behind-demanded = (record { under_way = record { its = record { its = refl; made = (0, omega arith, refl) }; above = refl; first = refl }; guarded = refl }, (record { under_way = record { its = record { its = refl; made = (2, omega arith, refl) }; above = refl; first = refl }; guarded = refl }, (record { under_way = record { its = record { its = refl; made = (1, omega arith, refl) }; above = refl; first = refl }; guarded = refl }, (record { under_way = record { its = record { its = refl; made = (3, omega arith, refl) }; above = refl; first = refl }; guarded = refl }, tt))))
+held_late-demanded : Each (λ p. IsDemanded ramfs_stubs.interface ramfs_stubs.walks held_late_history (waiting held_late_ends) p p.item.tag) (places_of held_late)
+held_late-demanded = (record { under_way = record { its = record { its = refl; made = (0, omega arith, refl) }; above = refl; first = refl }; guarded = refl }, (record { under_way = record { its = record { its = refl; made = (2, omega arith, refl) }; above = refl; first = refl }; guarded = refl }, (record { under_way = record { its = record { its = refl; made = (1, omega arith, refl) }; above = refl; first = refl }; guarded = refl }, (record { under_way = record { its = record { its = refl; made = (3, omega arith, refl) }; above = refl; first = refl }; guarded = refl }, tt))))
 
-held_behind-tracked : Each (λ p. IsTrackedAt ramfs_stubs.interface ramfs_stubs.walks held_behind_history p p.item.tag) (places_of held_behind)
-held_behind-tracked = (record { whole = refl; rows = tt; real = refl; file = tt }, (record { whole = refl; rows = (record { id = refl; made = refl; parent = refl; state = refl; fields = refl }, tt); real = refl; file = tt }, (record { whole = refl; rows = tt; real = refl; file = tt }, (record { whole = refl; rows = (record { id = refl; made = refl; parent = refl; state = refl; fields = refl }, tt); real = refl; file = (refl, refl) }, tt))))
+held_late-tracked : Each (λ p. IsTrackedAt ramfs_stubs.interface ramfs_stubs.walks held_late_history p p.item.tag) (places_of held_late)
+held_late-tracked = (record { whole = refl; rows = tt; real = refl; file = tt }, (record { whole = refl; rows = (record { id = refl; made = refl; parent = refl; state = refl; fields = refl }, tt); real = refl; file = tt }, (record { whole = refl; rows = tt; real = refl; file = tt }, (record { whole = refl; rows = (record { id = refl; made = refl; parent = refl; state = refl; fields = refl }, tt); real = refl; file = (refl, refl) }, tt))))
 
-held_behind-points : ArePointsOf true ramfs_stubs.interface.facts ramfs_stubs.ask ramfs_stubs.parts 0 held_behind.boots held_behind.points
-held_behind-points = ((refl, (refl, (refl, (refl, tt)))), refl, refl)
+held_late-points : ArePointsOf true ramfs_stubs.interface.facts ramfs_stubs.ask ramfs_stubs.parts 0 held_late.boots held_late.points
+held_late-points = ((refl, (refl, (refl, (refl, tt)))), refl, refl)
 
-pub held_behind-recovered : IsRecovered ramfs_stubs held_behind_history held_behind (waiting held_behind_ends)
-held_behind-recovered = record {
-  reboots = held_behind-reboots;
-  served = held_behind-served;
-  walks = held_behind-walks;
-  on_demand = held_behind-demanded;
-  tracked_state = held_behind-tracked;
-  points = held_behind-points;
+pub held_late-recovered : IsRecovered ramfs_stubs held_late_history held_late (waiting held_late_ends)
+held_late-recovered = record {
+  reboots = held_late-reboots;
+  served = held_late-served;
+  walks = held_late-walks;
+  on_demand = held_late-demanded;
+  tracked_state = held_late-tracked;
+  points = held_late-points;
   held = (omega arith, (omega arith, (omega arith, (omega arith, tt))));
 }

@@ -1,5 +1,5 @@
 -- Runs that end as none may, or whose calls are under way at the wrong time; and one beside them that ended well.
-use Rattle.std.specs.Prelude.{ℕ, List, [], ◌∷◌, None, Some, codes}
+use Rattle.std.specs.Prelude.{ℕ, List, [], ◌∷◌, ◌++◌, None, Some, codes}
 use Rattle.sg_facts.specs.sg_base.declared.call.Call.{Call}
 use Rattle.sg_facts.specs.sg_base.declared.reply.Code.TheVariants.{Held, NoDesc}
 use Rattle.sg_facts.specs.sg_base.declared.reply.Reply.TheVariants.{Refused}
@@ -78,6 +78,29 @@ held_asked_twice = in_one_boot (
     ∷ called (call_with 1 2 4 1 (word 0 ∷ [])) 1 11 (replied ok)
     ∷ called (call_with 1 3 2 1 (word 8 ∷ [])) 1 14 (replied (ok_with 0 0))
     ∷ []) 15
+
+-- client 1's seek, whose reply is held while client 2 opens its file
+abbrev pub held_seek : Call
+held_seek = call_with 1 2 4 1 (word 0 ∷ [])
+
+-- both files are opened, and the seek is no entry
+abbrev pub both_opened : List Entry
+both_opened = entry (call_with 1 1 1 0 (text (codes "a") ∷ [])) (ok_at 1) ∷ entry (call_with 2 1 1 0 (text (codes "b") ∷ [])) (ok_at 2) ∷ []
+
+-- the seek is an entry after them
+abbrev pub sought_at_last : List Entry
+sought_at_last = both_opened ++ entry held_seek ok ∷ []
+
+-- the service stops right after the commit of client 2's file
+abbrev pub stopped_after : Run
+stopped_after = record {
+  boots = boot (
+      called (call_with 1 1 1 0 (text (codes "a") ∷ [])) 0 4 (replied (ok_at 1))
+      ∷ called held_seek 1 8 (replied ok)
+      ∷ called (call_with 2 1 1 0 (text (codes "b") ∷ [])) 0 12 (replied (ok_at 2))
+      ∷ []) (Some 13) ∷ [];
+  points = 13;
+}
 
 -- ---- the end of the count of points
 

@@ -6,6 +6,7 @@ pub mod MmRuns
 pub mod RamfsRuns
 pub mod SchedRuns
 pub mod StrictRuns
+pub mod TimerRuns
 pub mod Written
 pub use Rattle.test_histories.specs as test_histories
 pub use Rattle.sg_facts.specs as sg_facts

@@ -91,19 +91,19 @@ held_lost = record {
 }
 
 -- a reply that others don't see is committed after a creation that was asked for later
-abbrev pub held_behind_history : List Entry
-held_behind_history =
+abbrev pub held_late_history : List Entry
+held_late_history =
     entry (call_with 1 1 1 0 ((text (codes "a")) ∷ [])) (ok_at 1)
     ∷ entry (call_with 2 1 1 0 ((text (codes "b")) ∷ [])) (ok_at 2)
     ∷ entry (call_with 1 2 4 1 ((word 0) ∷ [])) ok
     ∷ entry (call_with 1 3 2 1 ((word 8) ∷ [])) (ok_with 0 0)
     ∷ []
 
-abbrev pub held_behind_ends : List (ℕ × End)
-held_behind_ends = (1, Done) ∷ (2, Done) ∷ []
+abbrev pub held_late_ends : List (ℕ × End)
+held_late_ends = (1, Done) ∷ (2, Done) ∷ []
 
-abbrev pub held_behind : Run
-held_behind = record {
+abbrev pub held_late : Run
+held_late = record {
   boots =
       boot (
       called (call_with 1 1 1 0 ((text (codes "a")) ∷ [])) 0 4 (replied (ok_at 1))

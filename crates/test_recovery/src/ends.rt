@@ -4,8 +4,8 @@ ghost use Rattle.sg_facts.specs.sg_base.Counts.{last_count};
 ghost use Rattle.sg_recovery_laws.specs.sg_hist.Recovered.{ArePointsOf, IsRecovered, waiting};
 ghost use Rattle.sg_recovery_laws.specs.sg_hist.Ending.{AreLost, HasRecovered};
 ghost use Rattle.test_recovery.specs.LockRuns.{lock_stubs};
-ghost use Rattle.test_recovery.specs.RamfsRuns.{held_behind, held_behind_history, held_lost, held_lost_history, ramfs_stubs};
-ghost use Rattle.test_recovery.specs.EndRuns.{asked_early, asked_late, counted_for_nothing, held_asked_twice, load_shows_a_call, made_at_the_end, other_waits, refused_early, refused_late, slept_over_reboot, sought_and_read, sought_ends, stopped_unasked, stopped_unused, take_after_refusal, taken_and_held, waits_asked, waits_unasked, written_and_read};
+ghost use Rattle.test_recovery.specs.RamfsRuns.{held_late, held_late_history, held_lost, held_lost_history, ramfs_stubs};
+ghost use Rattle.test_recovery.specs.EndRuns.{asked_early, asked_late, both_opened, counted_for_nothing, held_asked_twice, held_seek, load_shows_a_call, made_at_the_end, other_waits, refused_early, refused_late, slept_over_reboot, sought_and_read, sought_at_last, sought_ends, stopped_after, stopped_unasked, stopped_unused, take_after_refusal, taken_and_held, waits_asked, waits_unasked, written_and_read};
 ghost use Rattle.test_recovery.specs.StrictRuns.{one_made, one_made_ends, one_taken};
 
 /// A run that ended hasn't recovered where a client waits in a call that the service was never asked for, though the run recovers so far.
@@ -41,10 +41,18 @@ pub fn held_asked_twice()
     ensures recovered { IsRecovered ramfs_stubs sought_and_read held_asked_twice (waiting sought_ends) }
 {}
 
+/// It doesn't recover where a reply that was held as the service stopped right after a commit is an entry's after that. Where it is no
+/// entry's, the run recovers.
+pub fn committed_after_stop()
+    ensures wrong { IsRecovered ramfs_stubs sought_at_last stopped_after [] → ⊥ }
+    ensures recovered { IsRecovered ramfs_stubs both_opened stopped_after (held_seek ∷ []) }
+    ensures lost { AreLost both_opened [] stopped_after.boots }
+{}
+
 /// A reply that a stop took may be no entry's, and one that was held until its entry is its.
 pub fn held_or_lost()
     ensures lost { AreLost held_lost_history [] held_lost.boots }
-    ensures held { AreLost held_behind_history [] held_behind.boots }
+    ensures held { AreLost held_late_history [] held_late.boots }
 {}
 
 /// A run doesn't recover that counts all points where none was asked, and the count of points stands still at its end.

@@ -1,5 +1,5 @@
 // Runs of files.
-ghost use Rattle.test_recovery.specs.RamfsRuns.{ramfs_stubs, loaded_twice, file_loaded, file_loaded_ends, file_loaded_history, held_behind, held_behind_ends, held_behind_history, held_lost, held_lost_ends, held_lost_history};
+ghost use Rattle.test_recovery.specs.RamfsRuns.{ramfs_stubs, loaded_twice, file_loaded, file_loaded_ends, file_loaded_history, held_late, held_late_ends, held_late_history, held_lost, held_lost_ends, held_lost_history};
 ghost use Rattle.sg_recovery_laws.specs.sg_hist.Recovered.{IsRecovered, waiting};
 
 /// A file that was written before the stop is loaded before it is read.
@@ -13,8 +13,8 @@ pub fn held_lost()
 {}
 
 /// A reply that others don't see is committed after a creation that was asked for later.
-pub fn held_behind()
-    ensures recovered { IsRecovered ramfs_stubs held_behind_history held_behind (waiting held_behind_ends) }
+pub fn held_late()
+    ensures recovered { IsRecovered ramfs_stubs held_late_history held_late (waiting held_late_ends) }
 {}
 
 /// It doesn't recover where a file is loaded that was loaded in this boot.

@@ -1,4 +1,4 @@
-//! Runs with stops of the five services, written out: some recover, and some don't.
+//! Runs with stops of the six services, written out: some recover, and some don't.
 //!
 //! Each function does nothing; its clause says that the run recovers, or that it doesn't, and is proved by computing.
 //! `specs/Written.antt` has the words in which runs are written out.
@@ -12,14 +12,16 @@ mod locks;
 mod pages;
 mod strict;
 mod threads;
+mod timers;
 
 pub use eager::{both_rebuilt, one_rebuilt, second_first};
 pub use ends::{
-    asked_early, asked_late, counted_to_the_end, held_asked_twice, held_or_lost, load_shows_a_call,
-    slept_over_reboot, stopped_unasked, stopped_unused, waits_asked, waits_unasked,
+    asked_early, asked_late, committed_after_stop, counted_to_the_end, held_asked_twice,
+    held_or_lost, load_shows_a_call, slept_over_reboot, stopped_unasked, stopped_unused,
+    waits_asked, waits_unasked,
 };
 pub use events::{blocked_redone, earlier_value, present_value, trigger_not_twice};
-pub use files::{file_loaded, held_behind, held_lost, loaded_twice};
+pub use files::{file_loaded, held_late, held_lost, loaded_twice};
 pub use locks::{
     another_id, asked_after_a_stop, boot_without_a_stop, half_a_walk, out_of_order,
     point_asked_in_vain, point_left_out, rebuilt_for_nobody, rebuilt_for_take, rebuilt_needlessly,
@@ -35,3 +37,4 @@ pub use strict::{
     write_before_seek,
 };
 pub use threads::{one_walk_two_clients, ranks_kept, service_id_shown};
+pub use timers::{time_kept, waited_unset};

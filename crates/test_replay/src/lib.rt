@@ -1,4 +1,4 @@
-//! The engine of recovery, tried from outside with each of the five services.
+//! The engine of recovery, tried from outside with each of the six services.
 //!
 //! - `turns`: a lock that is made, lost in a stop, rebuilt, and taken (`make`, `lose`, `rebuild`, `take`)
 //! - `ending`: what ends an engine (`discard`); whoever owns one hands it over

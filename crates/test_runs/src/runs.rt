@@ -207,7 +207,7 @@ fn comes_out<R: Threads + Wait + Sync>(
 }
 
 #[test]
-fn comes_out_or_wants_memory(rt: HostRuntime) {
+fn comes_out_or_lacked_memory(rt: HostRuntime) {
     let runs = [
         ("sim trace", LOCK, LOCK_STOPS),
         ("sim trace", RAMFS, FILE_STOPS),
@@ -227,7 +227,7 @@ fn comes_out_or_wants_memory(rt: HostRuntime) {
 }
 
 #[test]
-fn load_comes_out_or_wants_memory(rt: HostRuntime) {
+fn load_comes_out_or_lacked_memory(rt: HostRuntime) {
     if let Ok(comes) = comes_out(&rt, rt.alloc(), "load sched 7", b"", LOAD_LINE) {
         assert!(rt; comes);
     }

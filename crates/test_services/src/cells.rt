@@ -90,7 +90,7 @@ fn stop_at(rt: &impl Abort, alloc: Global, cell: &mut Cell<LockService>, point: 
 }
 
 #[test]
-fn stops_at_a_part_and_behind_the_reply(rt: HostRuntime) -> Result<(), Fail> {
+fn stops_at_a_part_and_after_the_reply(rt: HostRuntime) -> Result<(), Fail> {
     for point in [1, 2, 3] {
         let mut cell = Cell::<LockService>::new(rt.alloc(), ())?;
         stop_at(&rt, rt.alloc(), &mut cell, point);

@@ -134,7 +134,7 @@ fn carries_decisions_out(rt: HostRuntime) -> Result<(), Fail> {
 }
 
 #[test]
-fn ids_ascend_behind_ended_ones(rt: HostRuntime) -> Result<(), Fail> {
+fn ids_ascend_after_ended_ones(rt: HostRuntime) -> Result<(), Fail> {
     let alloc = rt.alloc();
     let mut slots: Slots<Seat> = Slots::new(alloc);
     let mut stops = Once::new(0);

@@ -5,7 +5,7 @@ ghost use Rattle.sg_lock.specs.LockFacts.{lock_facts};
 ghost use Rattle.sg_sim.specs.sg_plain.Playing.Playable.{IsPlayable};
 
 use sg_facts::Bytes;
-use sg_input::{Accepted, Input, Script, read_input};
+use sg_input::{Accepted, Read, Script, read_input};
 use sg_lock::LockService;
 use std::alloc::Global;
 use std::test::Fail;
@@ -20,7 +20,7 @@ pub fn ready(alloc: Global, script: &[u8]) -> Result<(Accepted, Script), Fail>
     let mut input = Bytes::from_slice(alloc, LOCK)?;
     input.extend_from_slice(script)?;
     match read_input(alloc, input.as_slice(), &[LockService::shape()])? {
-        Input::Ready(accepted, script) => Ok((accepted, script)),
-        Input::Refused(_) => Err("refused")?,
+        Read::Ready((accepted, script)) => Ok((accepted, script)),
+        Read::Refused(_) => Err("refused")?,
     }
 }

@@ -19,7 +19,7 @@ static FUNS: [FunShape; 5] = [
     FunShape {
         name: b"tread",
         kinds: &[Kind::Desc, Kind::Word],
-        flags: 0,
+        flags: FunShape::DATA,
         leaves: Leaves::Own,
         effects: &[],
     },

@@ -24,7 +24,7 @@ enum Ask {
     Wait(u64),
     Next,
     // At a rank.
-    Place(u64, u64),
+    BoardSeat(u64, u64),
     Exit(u64),
 }
 
@@ -180,7 +180,7 @@ fn make_call(
         Ask::Wake(id) => on(rt, service, alloc, stops, calls, 4, id),
         Ask::Wait(id) => on(rt, service, alloc, stops, calls, 5, id),
         Ask::Next => next(service, alloc, stops, calls),
-        Ask::Place(id, rank) => {
+        Ask::BoardSeat(id, rank) => {
             assert!(rt; rank < 100);
             place(rt, service, alloc, stops, calls, id, rank)
         }
@@ -274,19 +274,19 @@ fn threads_are_placed(rt: HostRuntime) -> Result<(), Fail> {
     let table = [
         (Ask::Make(3), Answer::Ranked(1, 1)),
         (Ask::Make(3), Answer::Ranked(2, 2)),
-        (Ask::Place(1, 9), Answer::Done(0)),
+        (Ask::BoardSeat(1, 9), Answer::Done(0)),
         (Ask::Next, Answer::Done(2)),
-        (Ask::Place(2, 9), Answer::Done(0)),
+        (Ask::BoardSeat(2, 9), Answer::Done(0)),
         (Ask::Next, Answer::Done(1)),
         (Ask::Sleep(1), Answer::Done(0)),
         (Ask::Next, Answer::Done(2)),
-        (Ask::Place(1, 0), Answer::Done(0)),
+        (Ask::BoardSeat(1, 0), Answer::Done(0)),
         (Ask::Make(3), Answer::Ranked(3, 10)),
-        (Ask::Place(2, 20), Answer::Done(0)),
+        (Ask::BoardSeat(2, 20), Answer::Done(0)),
         (Ask::Next, Answer::Done(3)),
         (Ask::Wake(1), Answer::Done(0)),
         (Ask::Next, Answer::Done(1)),
-        (Ask::Place(2, 5), Answer::Done(0)),
+        (Ask::BoardSeat(2, 5), Answer::Done(0)),
         (Ask::Yield(1), Answer::Ranked(0, 11)),
         (Ask::Next, Answer::Done(2)),
     ];

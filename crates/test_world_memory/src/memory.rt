@@ -7,8 +7,8 @@ use std::alloc::Global;
 use std::process::Abort;
 use std::test::Fail;
 use test_world::tables::{
-    EventService, LockService, MmService, RamfsService, SchedService, event_tables, lock_tables,
-    mm_tables, ramfs_tables, sched_tables,
+    EventService, LockService, MmService, RamfsService, SchedService, TimerService, event_tables,
+    lock_tables, mm_tables, ramfs_tables, sched_tables, timer_tables,
 };
 use test_world::{Bytes, Event, Judge, NoMemory, Run, Service, Tables, Unmade, headed, judged};
 
@@ -385,6 +385,50 @@ call c2.1 sched_wait(1) replied
 points 27
 ";
 
+// A timer is rebuilt for a client that waits until it is due, and ticked.
+const TIMERS: &str = "stop 8
+marks 14
+offer 1 tmr_create 0 2 7
+step 1 served
+step 1 ok #1 2
+offer 1 tmr_tick 1 1
+step 1 struck
+step 1 ok
+offer 2 tmr_wait 1
+step 2 booted
+offer 1 tmr_tick 1 1
+step 1 replayed
+step 1 replayed
+step 2 replayed
+step 2 blocked
+step 1 served
+step 1 ok
+step 2 served
+step 2 ok 2
+leave 1
+leave 2
+
+c1.1 tmr_create(2, 7) = ok #1 2
+c1.2 tmr_tick(1, 1) = ok
+c1.3 tmr_tick(1, 1) = ok
+c2.1 tmr_wait(1) = ok 2
+client 1 done
+client 2 done
+calls 4 boots 2 replays 3
+boot 1
+call c1.1 tmr_create(2, 7) replied
+call c1.2 tmr_tick(1, 1) replied
+stop 10
+boot 2
+walk 1.1 for c1 by c1 tmr_create(2, 7) replied
+walk 1.2 for c1 by c1 tmr_tick(1, 1) replied
+walk 1.3 for c2 by c1 tmr_place(1, 2) replied
+call c2.1 tmr_wait(1) blocked
+call c1.3 tmr_tick(1, 1) replied
+call c2.1 tmr_wait(1) replied
+points 30
+";
+
 #[test]
 fn locks_persist(rt: HostRuntime) -> Result<(), Fail> {
     let alloc = rt.alloc();
@@ -426,6 +470,15 @@ fn threads_persist(rt: HostRuntime) -> Result<(), Fail> {
     let alloc = rt.alloc();
     let begun = persists::<SchedService>(&rt, alloc, (), sched_tables(alloc)?, THREADS)?
         || persists::<SchedService>(&rt, alloc, (), sched_tables(alloc)?, THREADS)?;
+    assert!(rt; begun);
+    Ok(())
+}
+
+#[test]
+fn timers_persist(rt: HostRuntime) -> Result<(), Fail> {
+    let alloc = rt.alloc();
+    let begun = persists::<TimerService>(&rt, alloc, (), timer_tables(alloc)?, TIMERS)?
+        || persists::<TimerService>(&rt, alloc, (), timer_tables(alloc)?, TIMERS)?;
     assert!(rt; begun);
     Ok(())
 }

@@ -1,10 +1,10 @@
-// Each call of a world, at each of the five services: a client makes and uses something, another waits for it or is refused, and
+// Each call of a world, at each of the six services: a client makes and uses something, another waits for it or is refused, and
 // withdraws its call once; the service stops. All that is seen of the world at the end is told.
 use std::test::Fail;
 use test_world::play;
 use test_world::tables::{
-    EventService, LockService, MmService, RamfsService, SchedService, event_tables, lock_tables,
-    mm_tables, ramfs_tables, sched_tables,
+    EventService, LockService, MmService, RamfsService, SchedService, TimerService, event_tables,
+    lock_tables, mm_tables, ramfs_tables, sched_tables, timer_tables,
 };
 
 // A client takes a lock that another waits for: that one withdraws its call, asks again, and waits anew after a stop.
@@ -272,6 +272,64 @@ call c2.1 sched_wait(1) replied
 points 29
 ";
 
+// A client waits for a timer that isn't due, withdraws its call, asks again, and waits anew after a stop.
+const TIMERS: &str = "clients 2
+stops 12
+offer 1 tmr_create 0 2 7
+step 1 served
+step 1 ok #1 2
+offer 1 tmr_tick 1 1
+step 1 served
+step 1 ok
+offer 2 tmr_wait 1
+step 2 blocked
+withdraw 2
+offer 2 tmr_wait 1
+step 2 struck
+step 2 booted
+step 2 replayed
+step 2 replayed
+step 2 replayed
+step 2 blocked
+offer 1 tmr_tick 1 1
+step 1 served
+step 1 ok
+step 2 served
+step 2 ok 2
+leave 1
+leave 2
+
+ends left left
+up
+seqs 3 1
+marks 1 offer entry answer offer entry answer 2 offer withdraw offer 1 offer entry answer 2 entry answer 1 leave 2 leave
+withdrawn 2 1 2 idle blocked
+entries 4
+points 32
+refused 0
+
+c1.1 tmr_create(2, 7) = ok #1 2
+c1.2 tmr_tick(1, 1) = ok
+c1.3 tmr_tick(1, 1) = ok
+c2.1 tmr_wait(1) = ok 2
+client 1 done
+client 2 done
+calls 4 boots 2 replays 3
+boot 1
+call c1.1 tmr_create(2, 7) replied
+call c1.2 tmr_tick(1, 1) replied
+call c2.1 tmr_wait(1) blocked
+stop 12
+boot 2
+walk 1.1 for c2 by c1 tmr_create(2, 7) replied
+walk 1.2 for c2 by c1 tmr_tick(1, 1) replied
+walk 1.3 for c2 by c1 tmr_place(1, 2) replied
+call c2.1 tmr_wait(1) blocked
+call c1.3 tmr_tick(1, 1) replied
+call c2.1 tmr_wait(1) replied
+points 32
+";
+
 #[test]
 fn each_call_at_locks(rt: HostRuntime) -> Result<(), Fail> {
     let alloc = rt.alloc();
@@ -300,4 +358,10 @@ fn each_call_at_files(rt: HostRuntime) -> Result<(), Fail> {
 fn each_call_at_threads(rt: HostRuntime) -> Result<(), Fail> {
     let alloc = rt.alloc();
     Ok(play::<SchedService>(alloc, (), sched_tables(alloc)?, THREADS)?)
+}
+
+#[test]
+fn each_call_at_timers(rt: HostRuntime) -> Result<(), Fail> {
+    let alloc = rt.alloc();
+    Ok(play::<TimerService>(alloc, (), timer_tables(alloc)?, TIMERS)?)
 }

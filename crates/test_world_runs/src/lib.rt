@@ -7,7 +7,8 @@
 //! - `pages`: pages with aliases that are rebuilt, occupied and removed
 //! - `files`: a file that is loaded, and a held reply that is lost
 //! - `threads`: ranks that are kept, and one walk that two clients go on with
-//! - `calls`: each call of a world, at each of the five services
+//! - `timers`: a timer that keeps its clock and when it is due
+//! - `calls`: each call of a world, at each of the six services
 #![tactic(auto)]
 
 #[cfg(test)]
@@ -22,3 +23,5 @@ mod locks;
 mod pages;
 #[cfg(test)]
 mod threads;
+#[cfg(test)]
+mod timers;

@@ -247,7 +247,7 @@ fn plays(alloc: Global, text: &str) -> Result<(), Fail> {
 }
 
 #[test]
-fn a_stop_behind_a_take(rt: HostRuntime) -> Result<(), Fail> {
+fn a_stop_after_a_take(rt: HostRuntime) -> Result<(), Fail> {
     plays(rt.alloc(), STOP_BEHIND_A_TAKE)
 }
 

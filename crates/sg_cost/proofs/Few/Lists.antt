@@ -25,9 +25,9 @@ last_of {A = A} test (x ∷ xs) any = by (list_any test xs) (test x) refl refl a
     by false false later is any rest = absurd (cc any)
 
 -- what is found after others of which none passes
-pub find_behind : {A : Type 0} (test : A → Bool) (xs ys : List A) → list_any test xs ≡ false → find test (xs ++ ys) ≡ find test ys
-find_behind test [] ys none = refl
-find_behind test (x ∷ xs) ys none = by (test x) none (find_behind test xs ys)
+pub find_after : {A : Type 0} (test : A → Bool) (xs ys : List A) → list_any test xs ≡ false → find test (xs ++ ys) ≡ find test ys
+find_after test [] ys none = refl
+find_after test (x ∷ xs) ys none = by (test x) none (find_after test xs ys)
   where
     by : (here : Bool) → (here || list_any test xs) ≡ false → (list_any test xs ≡ false → find test (xs ++ ys) ≡ find test ys) → cond here (Some x) (find test (xs ++ ys)) ≡ find test ys
     by true none rest = absurd (cc none)
@@ -50,7 +50,7 @@ pub find_last : {A : Type 0} (test : A → Bool) (xs : List A) (y : A) (zs : Lis
 find_last test xs y zs passes none =
     ap (find test) (reverse-append xs (y ∷ zs)) ∙ ap (λ l. find test (l ++ reverse xs)) (reverse-append (y ∷ []) zs)
     ∙ ap (find test) (append_assoc (reverse zs) (y ∷ []) (reverse xs))
-    ∙ find_behind test (reverse zs) (y ∷ reverse xs) (any_reverse test zs ∙ none)
+    ∙ find_after test (reverse zs) (y ∷ reverse xs) (any_reverse test zs ∙ none)
     ∙ ap (λ b. cond b (Some y) (find test (reverse xs))) passes
 
 -- what holds of each that passes a test holds of each that is left

@@ -10,7 +10,7 @@ use Rattle.sg_report.specs.sg_hist.Reading.{desc_in, id_given}
 use Rattle.sg_report.specs.sg_hist.Inside.Reads.{desc_of}
 use Rattle.sg_facts.proofs.Replaying.Found.{same_test}
 use Rattle.sg_world_laws.proofs.Entered.{numbers_below}
-use Rattle.sg_cost.proofs.Few.Lists.{both_true, find_behind}
+use Rattle.sg_cost.proofs.Few.Lists.{both_true, find_after}
 
 -- whether an entry is of the call of a number of a client
 abbrev is_numbered : ℕ → ℕ → Entry → Bool
@@ -50,13 +50,13 @@ own_is history front e rest numbered is =
     let all = subst (AreNumbered []) is numbered in
     let none = none_above e.call.client (length (calls_of front e.call.client)) e.call.seq front (numbers_below [] front e.call.client (numbered_front [] front (e ∷ rest) all)) (numbered_here [] front e rest all) in
     ap (λ h. desc_in (find (is_numbered e.call.client e.call.seq) h)) is
-    ∙ ap desc_in (find_behind (is_numbered e.call.client e.call.seq) front (e ∷ rest) none)
+    ∙ ap desc_in (find_after (is_numbered e.call.client e.call.seq) front (e ∷ rest) none)
     ∙ ap (λ b. desc_in (cond b (Some e) (find (is_numbered e.call.client e.call.seq) rest))) (ap (λ a. a && (e.call.seq == e.call.seq)) (same_test e.call.client e.call.client refl) ∙ same_test e.call.seq e.call.seq refl)
 
-given_behind : (history front hs : List Entry) → AreNumbered [] history → history ≡ front ++ hs → Each (λ e. id_given history e.call.client e.call.seq ≡ desc_of e.reply) hs
-given_behind history front [] numbered is = tt
-given_behind history front (e ∷ hs) numbered is =
-    (own_is history front e hs numbered is, given_behind history (front ++ e ∷ []) hs numbered (is ∙ sym (append_assoc front (e ∷ []) hs)))
+given_later : (history front hs : List Entry) → AreNumbered [] history → history ≡ front ++ hs → Each (λ e. id_given history e.call.client e.call.seq ≡ desc_of e.reply) hs
+given_later history front [] numbered is = tt
+given_later history front (e ∷ hs) numbered is =
+    (own_is history front e hs numbered is, given_later history (front ++ e ∷ []) hs numbered (is ∙ sym (append_assoc front (e ∷ []) hs)))
 
 pub given_own : (history : List Entry) → AreNumbered [] history → Each (λ e. id_given history e.call.client e.call.seq ≡ desc_of e.reply) history
-given_own history numbered = given_behind history [] history numbered refl
+given_own history numbered = given_later history [] history numbered refl

@@ -2,11 +2,12 @@
 use Rattle.std.proofs.Common.{◌≡◌, ℕ, suc, ◌+◌, ◌<◌, ◌≤◌, Bool, true, false, cond, ◌&&◌, not, List, [], ◌∷◌, ◌++◌, Some, filter, length, refl, sym, ◌∙◌, ap, append_assoc, length-append, arith}
 use Rattle.std.specs.Prelude.{if◌then◌else◌}
 use Rattle.std.specs.List.{list_any}
+use Rattle.sg_facts.specs.Facts.{Facts}
 use Rattle.sg_facts.specs.Trace.{Boot, Run}
 use Rattle.sg_facts.specs.declared.entry.Entry.{Entry}
 use Rattle.sg_facts.specs.declared.trace.Item.{Item}
 use Rattle.sg_report.specs.sg_hist.Reading.{Position, is_by_guard, is_item_of, item_of, items_of, stands_before}
-use Rattle.sg_report.specs.sg_hist.Recovered.{AreInBoots, start_of}
+use Rattle.sg_report.specs.sg_hist.Recovered.{AreInBoots, is_stopped_after, start_after, start_of}
 use Rattle.sg_report.specs.sg_hist.Inside.Parts.{boot_start}
 use Rattle.sg_cost.specs.Inside.Pieces.{stands_in}
 use Rattle.sg_cost.proofs.Few.Lists.{any_left, both_true, last_of, none_all, none_both}
@@ -30,6 +31,14 @@ three g a n is =
 
 all_three : (g a n : Bool) → g ≡ false → a ≡ true → n ≡ false → (not g && a && not n) ≡ true
 all_three g a n one two three = ap (λ x. not x && a && not n) one ∙ ap (λ x. x && not n) two ∙ ap not three
+
+-- an entry makes no later one stand before its own boot
+pub no_earlier : (facts : Facts) (run : Run) (e : Entry) (low : ℕ) → start_of run e low ≤ start_after facts run e low
+no_earlier facts run e low = at (not (is_by_guard e.reply) && list_any (is_stopped_after facts e) run.boots)
+  where
+    at : (stopped : Bool) → start_of run e low ≤ cond stopped (start_of run e low + 1) (start_of run e low)
+    at true = omega arith
+    at false = omega arith
 
 module _ (run : Run) (before : List Boot) (b : Boot) (behind : List Boot) (boots : run.boots ≡ before ++ b ∷ behind) where
   abbrev older : List Item
@@ -59,9 +68,9 @@ module _ (run : Run) (before : List Boot) (b : Boot) (behind : List Boot) (boots
       omega (arith, start, one, two, more)
 
   -- from an entry on whose boot isn't an earlier one none stands before the boot
-  pub none_opens : (low : ℕ) (hs : List Entry) → length older ≤ low → AreInBoots run low hs → filter opens hs ≡ []
-  none_opens low [] far in_boots = refl
-  none_opens low (e ∷ hs) far in_boots = by (opens e) refl (none_opens (start_of run e low) hs (omega (arith, far, in_boots.0)) in_boots.1)
+  pub none_opens : (facts : Facts) (low : ℕ) (hs : List Entry) → length older ≤ low → AreInBoots facts run low hs → filter opens hs ≡ []
+  none_opens facts low [] far in_boots = refl
+  none_opens facts low (e ∷ hs) far in_boots = by (opens e) refl (none_opens facts (start_after facts run e low) hs (let more = no_earlier facts run e low in omega (arith, far, in_boots.0, more)) in_boots.1)
     where
       by : (o : Bool) → opens e ≡ o → filter opens hs ≡ [] → cond o (e ∷ filter opens hs) (filter opens hs) ≡ []
       by true is rest = absurd (let below = starts_below e low is in omega (arith, below, far, in_boots.0))
@@ -74,8 +83,8 @@ module _ (run : Run) (before : List Boot) (b : Boot) (behind : List Boot) (boots
     abbrev pub comes : Entry → Bool
     comes e = stands_before here e
 
-    behind_is : (e : Entry) → list_any (is_item_of e) (items_of (b ∷ behind)) ≡ false → list_any (is_item_of e) (y ∷ (rest ++ items_of behind)) ≡ false
-    behind_is e none =
+    after_is : (e : Entry) → list_any (is_item_of e) (items_of (b ∷ behind)) ≡ false → list_any (is_item_of e) (y ∷ (rest ++ items_of behind)) ≡ false
+    after_is e none =
         let two = none_both (is_item_of e) f (y ∷ (rest ++ items_of behind))
         (ap (list_any (is_item_of e)) (sym (append_assoc f (y ∷ rest) (items_of behind)) ∙ ap (λ l. l ++ items_of behind) (sym items)) ∙ none) in
         two.two
@@ -84,7 +93,7 @@ module _ (run : Run) (before : List Boot) (b : Boot) (behind : List Boot) (boots
     pub opens_comes : (e : Entry) → opens e ≡ true → comes e ≡ true
     opens_comes e is =
         let t = three (is_by_guard e.reply) (list_any (is_item_of e) older) (list_any (is_item_of e) (items_of (b ∷ behind))) is in
-        all_three (is_by_guard e.reply) (list_any (is_item_of e) (older ++ f)) (list_any (is_item_of e) (y ∷ (rest ++ items_of behind))) t.guard (any_left (is_item_of e) older f t.any) (behind_is e t.none)
+        all_three (is_by_guard e.reply) (list_any (is_item_of e) (older ++ f)) (list_any (is_item_of e) (y ∷ (rest ++ items_of behind))) t.guard (any_left (is_item_of e) older f t.any) (after_is e t.none)
 
     -- an entry of the boot, before the place: its item stands between the opening and the place
     pub record InBoot (e : Entry) : Type 0 where
@@ -134,9 +143,9 @@ module _ (run : Run) (before : List Boot) (b : Boot) (behind : List Boot) (boots
     abbrev pub newer_ones : List Entry → List Entry
     newer_ones hs = filter (λ e. comes e && not (opens e)) hs
 
-    pub ordered : (low : ℕ) (hs : List Entry) → AreInBoots run low hs → filter comes hs ≡ filter opens hs ++ newer_ones hs
-    ordered low [] in_boots = refl
-    ordered low (e ∷ hs) in_boots = by (opens e) (comes e) refl refl (ordered (start_of run e low) hs in_boots.1)
+    pub ordered : (facts : Facts) (low : ℕ) (hs : List Entry) → AreInBoots facts run low hs → filter comes hs ≡ filter opens hs ++ newer_ones hs
+    ordered facts low [] in_boots = refl
+    ordered facts low (e ∷ hs) in_boots = by (opens e) (comes e) refl refl (ordered facts (start_after facts run e low) hs in_boots.1)
       where
         by : (o c : Bool) → opens e ≡ o → comes e ≡ c → filter comes hs ≡ filter opens hs ++ newer_ones hs
             → cond c (e ∷ filter comes hs) (filter comes hs) ≡ cond o (e ∷ filter opens hs) (filter opens hs) ++ cond (c && not o) (e ∷ newer_ones hs) (newer_ones hs)
@@ -145,5 +154,6 @@ module _ (run : Run) (before : List Boot) (b : Boot) (behind : List Boot) (boots
         by false false o_is c_is rest = rest
         by false true o_is c_is rest =
             let start = starts_here e low c_is o_is in
-            let none = none_opens (start_of run e low) hs (omega (arith, start)) in_boots.1 in
+            let more = no_earlier facts run e low in
+            let none = none_opens facts (start_after facts run e low) hs (omega (arith, start, more)) in_boots.1 in
             ap (λ l. e ∷ l) (rest ∙ ap (λ l. l ++ newer_ones hs) none) ∙ ap (λ l. l ++ e ∷ newer_ones hs) (sym none)

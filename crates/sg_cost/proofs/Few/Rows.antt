@@ -33,7 +33,7 @@ use Rattle.sg_report.specs.sg_hist.Recovered.{IsAdmitted, IsNextCall, IsRebuiltF
 use Rattle.sg_report.specs.sg_hist.Inside.Parts.{GivesEntry, IsCallOfRow, IsWalked, HasItem, IsDemanded, IsTrackedAt}
 use Rattle.sg_world_laws.proofs.sg_recovery_laws.Objects.Guarded.{acts, let_pass}
 use Rattle.sg_facts.proofs.Replaying.Found.{from_left, from_more, other_test, same_test}
-use Rattle.sg_world_laws.proofs.Drawn.{object_behind}
+use Rattle.sg_world_laws.proofs.Drawn.{object_after}
 use Rattle.sg_cost.specs.Costs.{opening}
 use Rattle.sg_cost.proofs.Few.Lists.{any_right, both_true, each_left}
 use Rattle.sg_cost.proofs.Few.Openings.{InBoot, comes, in_boot, newer_ones, opens, ordered}
@@ -229,8 +229,8 @@ module _ (s : Stubs) (history : List Entry) (run : Run) (unanswered : List Call)
   row_then has calls given r there =
       rows_back facts id r (newer_ones run before b behind boots f y rest items history) (opening facts history before (b ∷ behind))
       (each_left (Leaves facts id) (λ e. comes run before b behind boots f y rest items e && not (opens run before b behind boots e)) history (all history has calls given))
-      (sym (ap (λ o. row_at o.rows id) (ap (object_of facts) (ordered run before b behind boots f y rest items 0 history recovered.held)
-      ∙ object_behind facts empty_object (filter (opens run before b behind boots) history) (newer_ones run before b behind boots f y rest items history))) ∙ there)
+      (sym (ap (λ o. row_at o.rows id) (ap (object_of facts) (ordered run before b behind boots f y rest items facts 0 history recovered.held)
+      ∙ object_after facts empty_object (filter (opens run before b behind boots) history) (newer_ones run before b behind boots f y rest items history))) ∙ there)
     where
       all : (hs : List Entry) → Each (HasItem facts history run) hs → Each (λ e. IsCall facts e.call) hs → Each (λ e. id_given history e.call.client e.call.seq ≡ desc_of e.reply) hs
           → Each (λ e. (comes run before b behind boots f y rest items e && not (opens run before b behind boots e)) ≡ true → Leaves facts id e) hs

@@ -36,4 +36,4 @@ pub record AreFewRows (rows : List Row) : Type 0 where
 -- never go back
 pub record AreInRun (facts : Facts) (history : List Entry) (run : Run) : Type 0 where
   pub items : Each (HasItem facts history run) history
-  pub held : AreInBoots run 0 history
+  pub held : AreInBoots facts run 0 history

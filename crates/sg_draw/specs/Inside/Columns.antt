@@ -1,25 +1,22 @@
 -- Parts of lines in columns.
-use Rattle.std.specs.Prelude.{ℕ, ◌≡◌, ◌==◌, Bool, true, not, List, ◌++◌, length}
-use Rattle.std.specs.List.{list_all}
-use Rattle.sg_draw.specs.Pictures.{column_texts}
+use Rattle.std.specs.Prelude.{ℕ, ◌≡◌, ◌==◌, true, ◌&&◌, List, ◌++◌, length, map}
+use Rattle.std.specs.List.{flat_map, list_all}
+use Rattle.sg_draw.specs.Pictures.{column_line, is_mark}
 
--- whether a byte ends no line
-abbrev pub ends_none : ℕ → Bool
-ends_none b = not (b == 10)
-
--- bytes that take so many columns of one line
+-- marks that take so many columns
 pub record IsMarks (width : ℕ) (marks : List ℕ) : Type 0 where
   pub wide : length marks ≡ width
-  pub whole : list_all ends_none marks ≡ true
+  pub are_marks : list_all is_mark marks ≡ true
 
--- so many columns of a line were added
+-- marks of so many columns were added to a line
 pub record AddsMarks (width : ℕ) (old new : List ℕ) : Type 0 where
   pub more : List ℕ
   pub is : new ≡ old ++ more
   pub marks : IsMarks width more
 
--- lines were added, and these texts stand in them after marks of this width
+-- lines of marks of this width were added, and these texts stand in them
 pub record Prints (width : ℕ) (old new : List ℕ) (texts : List (List ℕ)) : Type 0 where
-  pub more : List ℕ
-  pub is : new ≡ old ++ more
-  pub shows : (rest : List ℕ) → column_texts width (more ++ rest) ≡ texts ++ column_texts width rest
+  pub lines : List (List ℕ × List ℕ)
+  pub is : new ≡ old ++ flat_map (λ l. column_line l.0 l.1) lines
+  pub are_marks : list_all (λ l. (length l.0 == width) && list_all is_mark l.0) lines ≡ true
+  pub shows : map (λ l. l.1) lines ≡ texts

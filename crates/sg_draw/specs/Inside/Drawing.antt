@@ -1,31 +1,22 @@
 -- Parts of a document.
-use Rattle.std.specs.Prelude.{ℕ, ◌≡◌, ◌==◌, Bool, true, false, not, ◌&&◌, List, [], ◌∷◌, ◌++◌, codes}
+use Rattle.std.specs.Prelude.{ℕ, ◌≡◌, true, List, ◌++◌, codes}
 use Rattle.std.specs.Fmt.{decimal}
-use Rattle.sg_facts.specs.Words.{line_end}
-use Rattle.sg_draw.specs.Shown.{shown_texts}
+use Rattle.std.specs.List.{filter_map, flat_map, list_all}
+use Rattle.sg_draw.specs.Documents.{Part, fixed_part, is_known, part_text, text_in}
 
--- whether a byte is neither `<` nor `>`
-abbrev pub is_plain : ℕ → Bool
-is_plain b = not (b == 60) && not (b == 62)
-
--- whether a part begins with `<` and shows nothing
-abbrev pub is_mute : List ℕ → Bool
-is_mute [] = false
-is_mute (b ∷ bs) = (b == 60) && elim (shown_texts bs) [ [] ↦ true | text ∷ texts ↦ false ]
-
--- the beginning of a document of this size
+-- the beginning of a document of this width and height
 abbrev pub opening : ℕ → ℕ → List ℕ
-opening width height =
-    codes "<svg xmlns='http://www.w3.org/2000/svg' width='" ++ decimal width ++ codes "' height='" ++ decimal height ++ codes "'>" ++ line_end
+opening width height = codes "<svg xmlns='http://www.w3.org/2000/svg' width='" ++ decimal width ++ codes "' height='" ++ decimal height ++ codes "'>\n"
 
--- what was added to a document shows these texts
-pub record Draws (old new : List ℕ) (texts : List (List ℕ)) : Type 0 where
-  pub more : List ℕ
-  pub is : new ≡ old ++ more
-  pub shows : shown_texts new ≡ shown_texts old ++ texts
-
--- a document has begun, and shows nothing yet
+-- a document has begun, at some size: its fixed part stands there
 pub record Begins (out : List ℕ) : Type 0 where
-  pub more : List ℕ
-  pub is : out ≡ codes "<svg " ++ more
-  pub shows : shown_texts out ≡ []
+  pub width : ℕ
+  pub height : ℕ
+  pub is : out ≡ opening width height ++ fixed_part
+
+-- lines and texts were added to a document, and these are the texts
+pub record Draws (old new : List ℕ) (texts : List (List ℕ)) : Type 0 where
+  pub parts : List Part
+  pub is : new ≡ old ++ flat_map part_text parts
+  pub known : list_all is_known parts ≡ true
+  pub shows : filter_map text_in parts ≡ texts

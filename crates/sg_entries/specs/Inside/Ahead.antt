@@ -22,8 +22,8 @@ abbrev pub front_of : ℕ → Ahead → Spelling
 front_of n ahead = record { bytes = take n ahead.rest; at = ahead.at }
 
 -- what is left after them
-abbrev pub behind_of : ℕ → Ahead → Ahead
-behind_of n ahead = record { at = ahead.at + n; rest = drop n ahead.rest }
+abbrev pub after_of : ℕ → Ahead → Ahead
+after_of n ahead = record { at = ahead.at + n; rest = drop n ahead.rest }
 
 -- how many bytes at the front are a number that isn't 0, as many as may be
 abbrev pub positive_len : List ℕ → ℕ

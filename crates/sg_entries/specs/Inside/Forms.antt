@@ -2,7 +2,6 @@
 use Rattle.std.specs.Prelude.{ℕ, Bool, List, [], ◌∷◌, ◌++◌, None, Some, codes}
 use Rattle.std.specs.declared.option.Option.{Option}
 use Rattle.std.specs.List.{flat_map}
-use Rattle.std.specs.Str.{bytes_eq}
 use Rattle.sg_lex.specs.Lexeme.{Spelling}
 use Rattle.sg_entries.specs.declared.tree.WrittenArg.{WrittenArg}
 use Rattle.sg_entries.specs.declared.tree.WrittenEntry.{WrittenEntry}
@@ -40,10 +39,7 @@ bytes_pieces (Some t) = fixed (codes " ") ∷ text_pieces t
 abbrev pub entry_bytes : WrittenEntry → List ℕ
 entry_bytes e = flat_map piece_bytes (entry_pieces e)
 
--- whether a function's Ok shows its bytes: the one that reads a file
-abbrev pub shows_bytes : List ℕ → Bool
-shows_bytes function = bytes_eq function (codes "tread")
-
--- each piece is what it is said to be and stands at its place, and the answer is one of this function
-abbrev pub IsWellFormed : WrittenEntry → Type 0
-IsWellFormed e = ArePlaced 0 (entry_pieces e) × IsAnswer (shows_bytes e.name.bytes) e.answer
+-- each piece is what it is said to be and stands at its place, and the answer is one of this function, by whether a function of its name
+-- shows its bytes
+abbrev pub IsWellFormed : (List ℕ → Bool) → WrittenEntry → Type 0
+IsWellFormed shows e = ArePlaced 0 (entry_pieces e) × IsAnswer (shows e.name.bytes) e.answer

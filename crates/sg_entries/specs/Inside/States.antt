@@ -15,7 +15,7 @@ use Rattle.sg_entries.specs.declared.tree.WrittenAnswer.TheVariants.{Refused, Ok
 use Rattle.sg_entries.specs.declared.tree.WrittenEntry.{WrittenEntry}
 use Rattle.sg_lex.specs.Lexeme.{Spelling}
 use Rattle.sg_entries.specs.Inside.Classes.{is_first_digit}
-use Rattle.sg_entries.specs.Inside.Forms.{quote_byte, shows_bytes}
+use Rattle.sg_entries.specs.Inside.Forms.{quote_byte}
 use Rattle.sg_entries.specs.Inside.CodeWords.{code_of, begins_code}
 
 -- ---- states
@@ -93,7 +93,7 @@ words_and_bytes (suc n) desc read k =
 abbrev pub spaced_rest : (WrittenAnswer → WrittenEntry) → EntryState
 spaced_rest k = orelse (λ c. c == 0x23) (λ place c. positive (λ d. words 4 (Some d) [] k)) (number (λ w. words 3 None (w ∷ []) k))
 
--- after `ok` and a space, of the function that shows its bytes
+-- after `ok` and a space, of a function that shows its bytes
 abbrev pub shown_rest : (WrittenAnswer → WrittenEntry) → EntryState
 shown_rest k = orelse (λ c. c == 0x23) (λ place c. positive (λ d. byte 0x20 (words_and_bytes 4 (Some d) [] k))) (words_and_bytes 4 None [] k)
 
@@ -108,22 +108,22 @@ abbrev pub answered : Bool → (WrittenAnswer → WrittenEntry) → EntryState
 answered shown k =
     orelse (λ c. c == 0x6F) (λ place c. byte 0x6B (given shown k)) (bytes (codes "refused ") (coded [] (λ code. k (Refused code))))
 
--- after the arguments: the answer
-abbrev pub call_answer : Spelling → Spelling → Spelling → List WrittenArg → EntryState
-call_answer client seq function args =
-    bytes (codes " = ") (answered (shows_bytes function.bytes) (λ answer. record { client = client; seq = seq; name = function; args = args; answer = answer }))
+-- after the arguments: the answer, by whether a function of a name shows its bytes
+abbrev pub call_answer : (List ℕ → Bool) → Spelling → Spelling → Spelling → List WrittenArg → EntryState
+call_answer shows client seq function args =
+    bytes (codes " = ") (answered (shows function.bytes) (λ answer. record { client = client; seq = seq; name = function; args = args; answer = answer }))
 
 -- after the name: the arguments and the answer
-abbrev pub call_rest : Spelling → Spelling → Spelling → EntryState
-call_rest client seq function = byte open_bracket_byte (bracketed (call_answer client seq function))
+abbrev pub call_rest : (List ℕ → Bool) → Spelling → Spelling → Spelling → EntryState
+call_rest shows client seq function = byte open_bracket_byte (bracketed (call_answer shows client seq function))
 
 -- after the client's number: the number of the call, its name and the rest
-abbrev pub client_rest : Spelling → EntryState
-client_rest client = byte 0x2E (number (λ seq. byte 0x20 (name (call_rest client seq))))
+abbrev pub client_rest : (List ℕ → Bool) → Spelling → EntryState
+client_rest shows client = byte 0x2E (number (λ seq. byte 0x20 (name (call_rest shows client seq))))
 
 -- before the first byte
-abbrev pub entry_start : EntryState
-entry_start = byte 0x63 (number client_rest)
+abbrev pub entry_start : (List ℕ → Bool) → EntryState
+entry_start shows = byte 0x63 (number (client_rest shows))
 
 -- ---- steps
 

@@ -19,7 +19,7 @@ use Rattle.sg_facts.specs.Object.{Object}
 use Rattle.sg_facts.specs.Sound.{AreFields, IsRow}
 use Rattle.sg_facts.specs.Track.{field_at, fields_after, row_at, word_of}
 use Rattle.sg_facts.specs.Inside.Rows.{empty_field}
-use Rattle.sg_facts.specs.Walks.{restores_fields, Mark, Spot, good, unknown, unset}
+use Rattle.sg_facts.specs.Walks.{restores_fields, FieldMark, Spot, good, unknown, unset}
 use Rattle.sg_facts.specs.Inside.Walking.{may_go_on, next_spot}
 use Rattle.sg_event.specs.EventFacts.{event_facts}
 use Rattle.sg_event.specs.EventTable.{event_table}
@@ -64,7 +64,7 @@ module _ (own : Declared) where
   stays_lost fits_steps s f is may =
       subst (λ g. IsLost (next_spot event_facts g s)) (sym (one_step s.state f (fits_steps s f may))) (subst (λ m. IsLost (next_spot event_facts 3 (record { state = s.state; marks = m }))) (sym is) refl)
 
-  lost_never : (marks : List Mark) (set : List Bool) → marks ≡ unknown ∷ [] → restores_fields marks set ≡ true → ⊥
+  lost_never : (marks : List FieldMark) (set : List Bool) → marks ≡ unknown ∷ [] → restores_fields marks set ≡ true → ⊥
   lost_never [] set is restores = absurd (cc is)
   lost_never (m ∷ n ∷ marks) set is restores = absurd (cc is)
   lost_never (unset ∷ []) set is restores = absurd (cc is)
@@ -73,7 +73,7 @@ module _ (own : Declared) where
   lost_never (unknown ∷ []) (b ∷ set) is restores = absurd (cc restores)
 
   -- what a trigger finds
-  count_none : (marks : List Mark) (vs ws : List Value) → AreFields event_facts.fields vs → FieldsHold marks vs ws → ((next_spot event_facts 3 (record { state = 1; marks = marks })).marks ≡ unknown ∷ [] → ⊥) → word_of (field_at ws 0) ≡ 0
+  count_none : (marks : List FieldMark) (vs ws : List Value) → AreFields event_facts.fields vs → FieldsHold marks vs ws → ((next_spot event_facts 3 (record { state = 1; marks = marks })).marks ≡ unknown ∷ [] → ⊥) → word_of (field_at ws 0) ≡ 0
   count_none marks [] ws are hold lost = absurd are
   count_none marks (v ∷ v' ∷ vs) ws are hold lost = absurd are.1
   count_none [] (v ∷ []) ws are hold lost = absurd hold

@@ -10,9 +10,10 @@ use Rattle.sg_script.specs.declared.script.Script.{Script}
 use Rattle.sg_input.specs.sg_walk.declared.place.Triple.{Triple}
 use Rattle.sg_input.specs.sg_print.TablesText.{set_names}
 use Rattle.sg_input.specs.Lines.{too_long_line}
-use Rattle.sg_input.specs.Verdicts.{IsRefused}
-use Rattle.sg_input.specs.declared.outcome.Verdict.{Verdict}
-use Rattle.sg_input.specs.declared.outcome.Verdict.TheVariants.{Accepted, Refused}
+use Rattle.sg_input.specs.Inputs.{IsInterface}
+use Rattle.sg_input.specs.Verdicts.{IsRefused, IsVerdict}
+use Rattle.sg_input.specs.declared.read.Read.{Read}
+use Rattle.sg_input.specs.declared.read.Read.TheVariants.{Ready, Refused}
 use Rattle.sg_input.specs.declared.refusal.RefusalKind.{RefusalKind}
 use Rattle.sg_explain.specs.Explained.{IsMore, why_at}
 use Rattle.sg_explain.specs.Rebuilt.{come_to_words, rebuilt_line}
@@ -53,7 +54,16 @@ pub record IsReason (services : List Facts) (text why : List ℕ) : Type 0 where
 abbrev pub TellsReason : List Facts → List ℕ → List ℕ → List ℕ → Type 0
 TellsReason services text old new = (why : List ℕ) × IsReason services text why × (new ≡ old ++ why)
 
+-- the line that refuses a text stands before why it is refused
+abbrev pub TellsRefusal : List Facts → List ℕ → List ℕ → Type 0
+TellsRefusal services text told = (line : List ℕ) × IsVerdict services text (Refused line) × TellsReason services text line told
+
+-- a text is accepted with this interface, or it is refused, and this is told of it
+abbrev pub IsExaminedWithReason : List Facts → List ℕ → Read Declared → Type 0
+IsExaminedWithReason services text (Ready i) = IsInterface services text i
+IsExaminedWithReason services text (Refused told) = TellsRefusal services text told
+
 -- what is told of an input that is too long
-abbrev pub TellsLength : Verdict → Type 0
-TellsLength (Accepted told) = ⊥
+abbrev pub TellsLength : Read (List ℕ) → Type 0
+TellsLength (Ready told) = ⊥
 TellsLength (Refused told) = told ≡ too_long_line ++ too_long_words

@@ -19,7 +19,7 @@ use Rattle.sg_facts.specs.Kinds.{may_be_root}
 use Rattle.sg_facts.specs.Object.{Object}
 use Rattle.sg_facts.specs.Sound.{IsRow, IsSound}
 use Rattle.sg_facts.specs.Track.{row_at}
-use Rattle.sg_facts.specs.Walks.{IsWalkOf, Mark, good, no_later, mark_after, marks_after, unknown, unset, restores_fields, spot_of}
+use Rattle.sg_facts.specs.Walks.{IsWalkOf, FieldMark, good, no_later, mark_after, marks_after, unknown, unset, restores_fields, spot_of}
 use Rattle.sg_facts.specs.Inside.Walking.{restores_field, restores_at}
 use Rattle.sg_facts.specs.Fits.{Fits}
 use Rattle.sg_facts.proofs.Replaying.Found.{above, met, same_test}
@@ -47,12 +47,12 @@ no_parents facts o r c none all there there_c parent =
 
 -- ---- a row that is as it will be in the end, while steps are left
 
-abbrev pub IsKnown : Mark → Type 0
+abbrev pub IsKnown : FieldMark → Type 0
 IsKnown unset = Unit {0}
 IsKnown good = Unit {0}
 IsKnown unknown = ⊥
 
-restores_same : (m : Mark) (v : Value) → IsKnown m → FieldHolds m v v → restores_field m (is_set v) ≡ true
+restores_same : (m : FieldMark) (v : Value) → IsKnown m → FieldHolds m v v → restores_field m (is_set v) ≡ true
 restores_same good v known holds = refl
 restores_same unknown v known holds = absurd known
 restores_same unset (Word zero) known holds = refl
@@ -60,7 +60,7 @@ restores_same unset (Word (suc n)) known holds = absurd (cc holds)
 restores_same unset (Text []) known holds = refl
 restores_same unset (Text (b ∷ bs)) known holds = absurd (cc holds)
 
-restore_same : (marks : List Mark) (vs : List Value) → Each IsKnown marks → FieldsHold marks vs vs → restores_fields marks (map is_set vs) ≡ true
+restore_same : (marks : List FieldMark) (vs : List Value) → Each IsKnown marks → FieldsHold marks vs vs → restores_fields marks (map is_set vs) ≡ true
 restore_same [] [] known hold = refl
 restore_same [] (v ∷ vs) known hold = absurd hold
 restore_same (m ∷ marks) [] known hold = absurd hold
@@ -90,7 +90,7 @@ never_alike i names held r w first done rest fun found walk part has known =
 
 -- ---- known fields stay known
 
-mark_known : (e : Effect) (m : Mark) → leaves_known e ≡ true → IsKnown m → IsKnown (mark_after e m)
+mark_known : (e : Effect) (m : FieldMark) → leaves_known e ≡ true → IsKnown m → IsKnown (mark_after e m)
 mark_known SetCaller m known is = tt
 mark_known (SetArg k) m known is = tt
 mark_known (AddArg k) m known is = absurd (cc known)
@@ -100,17 +100,17 @@ mark_known Clear m known is = tt
 mark_known SubOne m known is = absurd (cc known)
 mark_known SubRet m known is = absurd (cc known)
 
-known_at : (marks : List Mark) (x : ℕ) → Each IsKnown marks → IsKnown (unwrap_or (slice_get marks x) unset)
+known_at : (marks : List FieldMark) (x : ℕ) → Each IsKnown marks → IsKnown (unwrap_or (slice_get marks x) unset)
 known_at [] x each = tt
 known_at (m ∷ marks) zero each = each.0
 known_at (m ∷ marks) (suc x) each = known_at marks x each.1
 
-known_set : (marks : List Mark) (x : ℕ) (m : Mark) → Each IsKnown marks → IsKnown m → Each IsKnown (slice_set marks x m)
+known_set : (marks : List FieldMark) (x : ℕ) (m : FieldMark) → Each IsKnown marks → IsKnown m → Each IsKnown (slice_set marks x m)
 known_set [] x m each is = tt
 known_set (n ∷ marks) zero m each is = (is, each.1)
 known_set (n ∷ marks) (suc x) m each is = (each.0, known_set marks x m each.1 is)
 
-marks_known : (es : List (ℕ × Effect)) (marks : List Mark) → list_all (λ e. leaves_known e.1) es ≡ true → Each IsKnown marks → Each IsKnown (marks_after es marks)
+marks_known : (es : List (ℕ × Effect)) (marks : List FieldMark) → list_all (λ e. leaves_known e.1) es ≡ true → Each IsKnown marks → Each IsKnown (marks_after es marks)
 marks_known [] marks all each = each
 marks_known (e ∷ es) marks all each =
     let parts = both_true (leaves_known e.1) (list_all (λ x. leaves_known x.1) es) all in

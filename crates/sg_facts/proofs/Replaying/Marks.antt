@@ -16,11 +16,11 @@ use Rattle.sg_facts.specs.Held.{FieldHolds, FieldsHold, SameKind}
 use Rattle.sg_facts.specs.Sound.{AreFields, IsOfField}
 use Rattle.sg_facts.specs.Track.{arg_at, effect_of, field_at, fields_after, word_of}
 use Rattle.sg_facts.specs.Inside.Rows.{cleared, empty_field}
-use Rattle.sg_facts.specs.Walks.{Mark, good, unknown, unset, mark_after, marks_after}
+use Rattle.sg_facts.specs.Walks.{FieldMark, good, unknown, unset, mark_after, marks_after}
 
 -- ---- one field of several
 
-abbrev mark_at : List Mark → ℕ → Mark
+abbrev mark_at : List FieldMark → ℕ → FieldMark
 mark_at marks x = unwrap_or (slice_get marks x) unset
 
 set_other : (ws : List Value) (x y : ℕ) (w : Value) → (x ≡ y → ⊥) → field_at (slice_set ws x w) y ≡ field_at ws y
@@ -35,7 +35,7 @@ set_own [] x w low = absurd (omega (arith, low))
 set_own (v ∷ ws) zero w low = refl
 set_own (v ∷ ws) (suc x) w low = set_own ws x w (omega (arith, low))
 
-hold_length : (marks : List Mark) (vs ws : List Value) → FieldsHold marks vs ws → length ws ≡ length vs
+hold_length : (marks : List FieldMark) (vs ws : List Value) → FieldsHold marks vs ws → length ws ≡ length vs
 hold_length [] [] [] hold = refl
 hold_length [] [] (w ∷ ws) hold = absurd hold
 hold_length [] (v ∷ vs) [] hold = absurd hold
@@ -45,7 +45,7 @@ hold_length (m ∷ marks) [] (w ∷ ws) hold = absurd hold
 hold_length (m ∷ marks) (v ∷ vs) [] hold = absurd hold
 hold_length (m ∷ marks) (v ∷ vs) (w ∷ ws) hold = ap suc (hold_length marks vs ws hold.1)
 
-hold_at : (marks : List Mark) (vs ws : List Value) (x : ℕ) → FieldsHold marks vs ws → FieldHolds (mark_at marks x) (field_at vs x) (field_at ws x)
+hold_at : (marks : List FieldMark) (vs ws : List Value) (x : ℕ) → FieldsHold marks vs ws → FieldHolds (mark_at marks x) (field_at vs x) (field_at ws x)
 hold_at [] [] [] x hold = refl
 hold_at [] [] (w ∷ ws) x hold = absurd hold
 hold_at [] (v ∷ vs) [] x hold = absurd hold
@@ -56,7 +56,7 @@ hold_at (m ∷ marks) (v ∷ vs) [] x hold = absurd hold
 hold_at (m ∷ marks) (v ∷ vs) (w ∷ ws) zero hold = hold.0
 hold_at (m ∷ marks) (v ∷ vs) (w ∷ ws) (suc x) hold = hold_at marks vs ws x hold.1
 
-hold_set : (marks : List Mark) (vs ws : List Value) (x : ℕ) (m : Mark) (w : Value) → FieldsHold marks vs ws → (x < length vs → FieldHolds m (field_at vs x) w)
+hold_set : (marks : List FieldMark) (vs ws : List Value) (x : ℕ) (m : FieldMark) (w : Value) → FieldsHold marks vs ws → (x < length vs → FieldHolds m (field_at vs x) w)
     → FieldsHold (slice_set marks x m) vs (slice_set ws x w)
 hold_set [] [] [] x m w hold so = tt
 hold_set [] [] (w' ∷ ws) x m w hold so = absurd hold
@@ -116,7 +116,7 @@ clear_kind (Text m) (Text n) same = refl
 clear_kind (Word m) (Text n) same = absurd same
 clear_kind (Text m) (Word n) same = absurd same
 
-clear_held : (m : Mark) (v old : Value) → FieldHolds m v old → cleared old ≡ cleared v
+clear_held : (m : FieldMark) (v old : Value) → FieldHolds m v old → cleared old ≡ cleared v
 clear_held unset v old holds = ap cleared holds ∙ clear_twice v
 clear_held good v old holds = ap cleared holds
 clear_held unknown v old holds = clear_kind v old holds
@@ -130,7 +130,7 @@ module _ (call : Call) (reply : Good) where
   add_first k (Word n) old holds from kind = ap (λ x. Word (word_of x + word_of (arg_at call k))) holds ∙ ap (λ x. Word (0 + word_of x)) from ∙ ap Word (let z : 0 + n ≡ n = omega arith in z)
   add_first k (Text bytes) old holds from kind = absurd kind
 
-  pub effect_holds : (e : Effect) (m : Mark) (v old : Value) → FieldHolds m v old → IsFrom call v e → SameKind v (effect_of call reply e old) → FieldHolds (mark_after e m) v (effect_of call reply e old)
+  pub effect_holds : (e : Effect) (m : FieldMark) (v old : Value) → FieldHolds m v old → IsFrom call v e → SameKind v (effect_of call reply e old) → FieldHolds (mark_after e m) v (effect_of call reply e old)
   effect_holds SetCaller m v old holds from kind = set_caller v from kind
   effect_holds (SetArg k) m v old holds from kind = from
   effect_holds (AddArg k) unset v old holds from kind = add_first k v old holds from kind
@@ -154,7 +154,7 @@ module _ (call : Call) (reply : Good) where
   both_once true b is = absurd (cc is)
 
   -- the effects of a call leave of each field what the marks say
-  pub marks_hold : (fs : List Field) (vs : List Value) (es : List (ℕ × Effect)) (marks : List Mark) (ws : List Value) → sets_once es ≡ true → AreFrom call vs es → FieldsHold marks vs ws
+  pub marks_hold : (fs : List Field) (vs : List Value) (es : List (ℕ × Effect)) (marks : List FieldMark) (ws : List Value) → sets_once es ≡ true → AreFrom call vs es → FieldsHold marks vs ws
       → AreFields fs vs → AreFields fs (fields_after call reply es ws) → FieldsHold (marks_after es marks) vs (fields_after call reply es ws)
   marks_hold fs vs [] marks ws once from hold are last = hold
   marks_hold fs vs (e ∷ es) marks ws once from hold are last =

@@ -13,7 +13,7 @@ use Rattle.sg_facts.specs.declared.tables.WalkLine.{WalkLine}
 use Rattle.sg_facts.specs.declared.shape.Leaves.{Leaves}
 use Rattle.sg_facts.specs.declared.shape.Leaves.TheVariants.{Of}
 use Rattle.std.specs.declared.cmp.Ordering.{Ordering}
-use Rattle.sg_facts.specs.Walks.{Mark, Spot, good, marks_after, no_later, restores, restores_fields, unknown, unset}
+use Rattle.sg_facts.specs.Walks.{FieldMark, Spot, good, marks_after, no_later, restores, restores_fields, unknown, unset}
 
 -- no field is set
 abbrev pub none_set : List Field → List Bool
@@ -44,7 +44,7 @@ may_go_on i s fun =
     declares i fun && steps_on i s.state fun && not (fun_at i.facts.funs fun).terminal && not (fun_at i.facts.funs fun).query
 
 -- a field that is set has the row's value; one that isn't is 0 or empty, or has the row's value
-abbrev pub restores_field : Mark → Bool → Bool
+abbrev pub restores_field : FieldMark → Bool → Bool
 restores_field mark set = elim mark [ good ↦ true | unset ↦ not set | unknown ↦ false ]
 
 -- whether a walk that leads to a spot restores a state with a set of fields; no walk, None, restores nothing

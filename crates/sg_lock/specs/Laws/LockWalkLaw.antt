@@ -18,7 +18,7 @@ use Rattle.sg_facts.specs.Object.{Object}
 use Rattle.sg_facts.specs.Sound.{AreFields, IsRow}
 use Rattle.sg_facts.specs.Track.{field_at, fields_after, word_of}
 use Rattle.sg_facts.specs.Inside.Rows.{empty_field}
-use Rattle.sg_facts.specs.Walks.{Mark, Spot, good, spot_of, unknown, unset}
+use Rattle.sg_facts.specs.Walks.{FieldMark, Spot, good, spot_of, unknown, unset}
 use Rattle.sg_facts.specs.Inside.Walking.{first_spot, may_go_on, next_spot}
 use Rattle.sg_lock.specs.LockFacts.{lock_facts}
 use Rattle.sg_lock.specs.LockTable.{lock_table}
@@ -71,7 +71,7 @@ module _ (own : Declared) where
   stays_taken : (fits_steps : (s : Spot) (f : ℕ) → may_go_on i s f ≡ true → has_pair lock_facts.steps s.state f ≡ true) (s : Spot) (f : ℕ) → IsTaken s → may_go_on i s f ≡ true → IsTaken (next_spot lock_facts f s)
   stays_taken fits_steps s f is may = absurd (let one = (one_step s.state f (fits_steps s f may)).0 in omega (arith, is, one))
 
-  owner_free : (marks : List Mark) (vs ws : List Value) → marks ≡ unset ∷ [] → FieldsHold marks vs ws → word_of (field_at ws 0) ≡ 0
+  owner_free : (marks : List FieldMark) (vs ws : List Value) → marks ≡ unset ∷ [] → FieldsHold marks vs ws → word_of (field_at ws 0) ≡ 0
   owner_free [] vs ws is hold = absurd (cc is)
   owner_free (m ∷ n ∷ marks) vs ws is hold = absurd (cc is)
   owner_free (good ∷ []) vs ws is hold = absurd (cc is)

@@ -19,7 +19,7 @@ use Rattle.sg_facts.specs.Object.{Object}
 use Rattle.sg_facts.specs.Sound.{AreFields, AreRows, IsRow}
 use Rattle.sg_facts.specs.Track.{field_at, row_at, word_of}
 use Rattle.sg_facts.specs.Inside.Rows.{empty_field}
-use Rattle.sg_facts.specs.Walks.{Mark, Spot, good, spot_of}
+use Rattle.sg_facts.specs.Walks.{FieldMark, Spot, good, spot_of}
 use Rattle.sg_facts.specs.Inside.Walking.{first_spot, may_go_on}
 use Rattle.sg_mm.specs.MmFacts.{mm_facts}
 use Rattle.sg_mm.specs.MmTable.{is_at, mm_table}
@@ -70,7 +70,7 @@ module _ (own : Declared) where
       first f (inl one) = subst (λ g. IsGood (first_spot mm_facts g)) (sym one) refl
       first f (inr two) = subst (λ g. IsGood (first_spot mm_facts g)) (sym two) refl
 
-  good_fields : (marks : List Mark) (vs ws : List Value) → marks ≡ good ∷ good ∷ [] → FieldsHold marks vs ws → ws ≡ vs
+  good_fields : (marks : List FieldMark) (vs ws : List Value) → marks ≡ good ∷ good ∷ [] → FieldsHold marks vs ws → ws ≡ vs
   good_fields marks vs ws is hold = at vs ws (subst (λ m. FieldsHold m vs ws) is hold)
     where
       at : (vs ws : List Value) → FieldsHold (good ∷ good ∷ []) vs ws → ws ≡ vs

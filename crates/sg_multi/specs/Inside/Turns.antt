@@ -51,8 +51,8 @@ abbrev pub may_go_now : MultiScript → Running → ℕ → Bool
 may_go_now script r client = may_go_on r.members script (lists_of r.given) client
 
 -- none of these clients may
-abbrev pub NoneBehind : MultiScript → Running → ℕ → ℕ → Type 0
-NoneBehind script r behind last = (client : ℕ) → behind < client → client ≤ last → may_go_now script r client ≡ false
+abbrev pub NoneAfter : MultiScript → Running → ℕ → ℕ → Type 0
+NoneAfter script r behind last = (client : ℕ) → behind < client → client ≤ last → may_go_now script r client ≡ false
 
 -- no client may
 abbrev pub NobodyGoesNow : MultiScript → Running → Type 0
@@ -68,7 +68,7 @@ abbrev pub NoneScheduled : MultiScript → Running → ℕ → Type 0
 NoneScheduled script r to = (k client : ℕ) → r.passed ≤ k → k < to → slice_get script.schedule k ≡ Some client → 1 ≤ client → client ≤ most_client script.clients → may_go_now script r client ≡ false
 
 -- the first client after one, and up to another, that may
-pub record IsFirstBehind (script : MultiScript) (r : Running) (behind last client : ℕ) : Type 0 where
+pub record IsFirstAfter (script : MultiScript) (r : Running) (behind last client : ℕ) : Type 0 where
   pub above : behind < client
   pub within : client ≤ last
   pub may : may_go_now script r client ≡ true

@@ -21,7 +21,7 @@ use Rattle.sg_parse.specs.Grammar.Pieces.{Piece, word, mark, name, two, kept, ne
 use Rattle.sg_lex.specs.Sentences.{ArePieces}
 use Rattle.sg_parse.specs.Grammar.Sentence.{IsStatement}
 use Rattle.sg_parse.specs.Grammar.Inside.Forms.{star, comma, close_bracket, IsType}
-use Rattle.sg_parse.specs.Grammar.Inside.States.{State, dead, due, fork, want, names, stars, either, listed, statements, in_newer, has_sort, fits, named_by, type_of, declared, with_param, param, one_rest, two_rest, proto_rest, returned_behind, returned_rest, plain_rest, statement_behind, with_statement, fact, head_end, first_end, second_end, head0, head1, head2, head3, head4, head5, head6, start, step}
+use Rattle.sg_parse.specs.Grammar.Inside.States.{State, dead, due, fork, want, names, stars, either, listed, statements, in_newer, has_sort, fits, named_by, type_of, declared, with_param, param, one_rest, two_rest, proto_rest, returned_after, returned_rest, plain_rest, statement_after, with_statement, fact, head_end, first_end, second_end, head0, head1, head2, head3, head4, head5, head6, start, step}
 use Rattle.sg_parse.proofs.Grammar.Basics.{some_is, none_is, by_test, if_then, if_else, mark-fits_mark, seen_back}
 use Rattle.sg_parse.proofs.Grammar.Rests.{Off, Rest, closed-star, name-star}
 use Rattle.sg_parse.proofs.Grammar.Parts.{listed_closed}
@@ -282,14 +282,14 @@ returned_alive go h make = (
   (refl, refl),
   λ first. (
     (λ front last n. behind front last n),
-    (λ front last n. (behind_false front last (suc n), λ token is. mark-fits_mark (codes ",") (codes "*") token is refl)),
+    (λ front last n. (after_false front last (suc n), λ token is. mark-fits_mark (codes ",") (codes "*") token is refl)),
   ),
 )
   where
-    behind_false : (front : List Named) (last : Named) (n : ℕ) → Alive false (returned_behind go make front last n)
-    behind_false front last n = ((refl, refl), λ field. ((refl, refl), λ m. proto_alive go h (make (type_of front last n) field) m))
+    after_false : (front : List Named) (last : Named) (n : ℕ) → Alive false (returned_after go make front last n)
+    after_false front last n = ((refl, refl), λ field. ((refl, refl), λ m. proto_alive go h (make (type_of front last n) field) m))
 
-    behind : (front : List Named) (last : Named) (n : ℕ) → Alive true (returned_behind go make front last n)
+    behind : (front : List Named) (last : Named) (n : ℕ) → Alive true (returned_after go make front last n)
     behind front last n = ((refl, refl), λ field. ((refl, refl), λ m. proto_alive go h (make (type_of front last n) field) m))
 
 plain_alive : (go : Statement → State) → ((s : Statement) → Alive false (go s)) → (first : Named) → Alive false (plain_rest go first)
@@ -298,7 +298,7 @@ plain_alive go h first = (
   declared_starred (λ ty n. proto_rest go (Plain ty) n) (λ ty n. proto_alive go h (Plain ty) n),
 )
 
-statement_alive : (go : Statement → State) → ((s : Statement) → Alive false (go s)) → (token : Lexeme) (next : State) → statement_behind go token ≡ Some next → Alive false next
+statement_alive : (go : Statement → State) → ((s : Statement) → Alive false (go s)) → (token : Lexeme) (next : State) → statement_after go token ≡ Some next → Alive false next
 statement_alive go h token next e =
     by_test (has_sort One token)
     (λ t. along (one_rest go (named_by token)) (sym (if_then (has_sort One token) _ _ t) ∙ e)
@@ -325,42 +325,42 @@ statement_alive go h token next e =
     along : (s : State) → Some s ≡ Some next → Alive false s → Alive false next
     along s g a = subst (Alive false) (some_is s next g) a
 
-pub alive_behind : (may : Bool) (s : State) (token : Lexeme) (next : State) → Alive may s → step s token ≡ Some next → Alive false next
+pub alive_after : (may : Bool) (s : State) (token : Lexeme) (next : State) → Alive may s → step s token ≡ Some next → Alive false next
 unfolding step
-alive_behind may dead token next a e = none_is (Alive false next) next None refl e
-alive_behind may (due p s) token next a e =
+alive_after may dead token next a e = none_is (Alive false next) next None refl e
+alive_after may (due p s) token next a e =
     by_test (fits p token)
     (λ h. subst (Alive false) (some_is s next (sym (if_then (fits p token) (Some s) None h) ∙ e)) a.1)
     (λ h. none_is (Alive false next) next (if fits p token then Some s else None) (if_else (fits p token) (Some s) None h) e)
-alive_behind may (fork what s other) token next a e =
+alive_after may (fork what s other) token next a e =
     by_test (fits (word what) token)
     (λ h. subst (Alive false) (some_is s next (sym (if_then (fits (word what) token) _ _ h) ∙ e)) a.0)
-    (λ h. alive_behind true other token next a.1 (sym (if_else (fits (word what) token) (Some s) (step other token) h) ∙ e))
-alive_behind may (want sort k) token next a e =
+    (λ h. alive_after true other token next a.1 (sym (if_else (fits (word what) token) (Some s) (step other token) h) ∙ e))
+alive_after may (want sort k) token next a e =
     by_test (has_sort sort token)
     (λ h. subst (Alive false) (some_is (k (named_by token)) next (sym (if_then (has_sort sort token) (Some (k (named_by token))) None h) ∙ e)) (a (named_by token)))
     (λ h. none_is (Alive false next) next (if has_sort sort token then Some (k (named_by token)) else None)
     (if_else (has_sort sort token) (Some (k (named_by token))) None h) e)
-alive_behind may (names front last k) token next a e =
+alive_after may (names front last k) token next a e =
     by_test (has_sort Name token)
     (λ h. subst (Alive false) (some_is (names (front ++ last ∷ []) (named_by token) k) next (sym (if_then (has_sort Name token) _ _ h) ∙ e)) (a.0, a.1))
     (λ h1. let e1 = sym (if_else (has_sort Name token) _ _ h1) ∙ e in
     by_test (fits star token)
     (λ h. subst (Alive false) (some_is (stars front last 1 k) next (sym (if_then (fits star token) _ _ h) ∙ e1))
     (λ m. subst (λ v. Alive false (k front last v) × Starless (k front last v)) (let f : suc m ≡ 1 + m = omega arith in f) (a.1 front last m)))
-    (λ h2. alive_behind true (k front last 0) token next (a.0 front last 0)
+    (λ h2. alive_after true (k front last 0) token next (a.0 front last 0)
     (sym (if_else (fits star token) (Some (stars front last 1 k)) (step (k front last 0) token) h2) ∙ e1)))
-alive_behind may (stars front last n k) token next a e =
+alive_after may (stars front last n k) token next a e =
     by_test (fits star token)
     (λ h. subst (Alive false) (some_is (stars front last (n + 1) k) next (sym (if_then (fits star token) _ _ h) ∙ e))
     (λ m. subst (λ v. Alive false (k front last v) × Starless (k front last v)) (let f : n + suc m ≡ n + 1 + m = omega arith in f) (a (suc m))))
-    (λ h. alive_behind false (k front last n) token next (subst (λ v. Alive false (k front last v)) (let f : n + 0 ≡ n = omega arith in f) (a 0).0)
+    (λ h. alive_after false (k front last n) token next (subst (λ v. Alive false (k front last v)) (let f : n + 0 ≡ n = omega arith in f) (a 0).0)
     (sym (if_else (fits star token) (Some (stars front last (n + 1) k)) (step (k front last n) token) h) ∙ e))
-alive_behind may (either k s) token next a e =
+alive_after may (either k s) token next a e =
     by_test (has_sort Form token)
     (λ h. subst (Alive false) (some_is (k (named_by token)) next (sym (if_then (has_sort Form token) _ _ h) ∙ e)) (a.0 (named_by token)))
-    (λ h. alive_behind true s token next a.1 (sym (if_else (has_sort Form token) (Some (k (named_by token))) (step s token) h) ∙ e))
-alive_behind may (listed params k) token next a e =
+    (λ h. alive_after true s token next a.1 (sym (if_else (has_sort Form token) (Some (k (named_by token))) (step s token) h) ∙ e))
+alive_after may (listed params k) token next a e =
     by_test (fits comma token)
     (λ h. subst (Alive false) (some_is (param k params) next (sym (if_then (fits comma token) _ _ h) ∙ e)) (param_alive k params a))
     (λ h1. let e1 = sym (if_else (fits comma token) _ _ h1) ∙ e in
@@ -368,9 +368,9 @@ alive_behind may (listed params k) token next a e =
     (λ h. subst (Alive false) (some_is (k params) next (sym (if_then (fits close_bracket token) _ _ h) ∙ e1)) (a params))
     (λ h. none_is (Alive false next) next (if fits close_bracket token then Some (k params) else None)
     (if_else (fits close_bracket token) (Some (k params)) None h) e1))
-alive_behind may (statements facts before) token next a e =
+alive_after may (statements facts before) token next a e =
     statement_alive (with_statement facts before) (λ s. tt) token next e
-alive_behind may (in_newer s) token next a e = by (λ inner is. alive_behind may s (seen token) inner a is) (step s (seen token)) refl e
+alive_after may (in_newer s) token next a e = by (λ inner is. alive_after may s (seen token) inner a is) (step s (seen token)) refl e
   where
     by : ((inner : State) → step s (seen token) ≡ Some inner → Alive false inner) → (found : Option State) → step s (seen token) ≡ found → option_map in_newer found ≡ Some next → Alive false next
     by deeper None is found = absurd (cc found)

@@ -13,7 +13,7 @@ use Rattle.sg_lex.specs.Lexeme.{Spelling as Named}
 use Rattle.sg_parse.specs.Grammar.Pieces.{Piece, name}
 use Rattle.sg_parse.specs.Grammar.Sentence.{type_pieces, param_pieces}
 use Rattle.sg_parse.specs.Grammar.Inside.Forms.{star, open_bracket, close_bracket, form_pieces, more_params, IsType}
-use Rattle.sg_parse.specs.Grammar.Inside.States.{State, dead, want, names, listed, has_sort, type_of, declared, param_behind, with_param, param}
+use Rattle.sg_parse.specs.Grammar.Inside.States.{State, dead, want, names, listed, has_sort, type_of, declared, param_after, with_param, param}
 use Rattle.sg_parse.proofs.Grammar.Basics.{by_test, if_then, if_else}
 use Rattle.sg_parse.proofs.Grammar.Rests.{Off, Rest, Whole, whole_of, type_rest_of, Closed, closed-star, closed-sort, name-star, name-form, form-name, front_of, last_of, front-last}
 
@@ -148,7 +148,7 @@ pub param_back : (go : List Param → State) (params : List Param) (tree : Tree)
     → Rest (param go params) ps tree
     → Parameter (λ p behind. Rest (listed (params ++ p ∷ []) go) behind tree) ps
 param_back go params tree ps r =
-    let w = whole_of (λ f l n qs. Rest (param_behind go params f l n) qs tree) r.value r.behind r.rest in
+    let w = whole_of (λ f l n qs. Rest (param_after go params f l n) qs tree) r.value r.behind r.rest in
     elim w.rest [
       | inl h ↦
           let ty = type_of w.front w.last w.count in
@@ -202,14 +202,14 @@ pub param_forth : (go : List Param → State) (params : List Param) (tree : Tree
 param_forth go params tree p qs is_type closed r = by p.form refl
   where
     k : List Named → Named → ℕ → State
-    k = param_behind go params
+    k = param_after go params
 
     by : (form : Option Named) → p.form ≡ form → Rest (param go params) (param_pieces p ++ qs) tree
     by None e =
-        let w = declared_forth (λ ty n. with_param go params ty None n) tree (λ f l n rs. Rest (param_behind go params f l n) rs tree)
+        let w = declared_forth (λ ty n. with_param go params ty None n) tree (λ f l n rs. Rest (param_after go params f l n) rs tree)
         (λ f l n rs off d. inr (off, d)) p.ty p.name qs is_type closed
         (subst (λ v. Rest (listed (params ++ record { ty = p.ty; form = v; name = p.name } ∷ []) go) qs tree) e r) in
-        let whole = type_forth (param_behind go params) tree p.ty (name Name p.name ∷ qs) is_type w in
+        let whole = type_forth (param_after go params) tree p.ty (name Name p.name ∷ qs) is_type w in
         let all : type_pieces p.ty ++ name Name p.name ∷ qs ≡ param_pieces p ++ qs =
         sym (append_assoc (type_pieces p.ty) (name Name p.name ∷ []) qs)
         ∙ ap (λ v. (type_pieces p.ty ++ form_pieces v p.name) ++ qs) (sym e) in
@@ -218,7 +218,7 @@ param_forth go params tree p qs is_type closed r = by p.form refl
         let t = ends p.ty.names is_type in
         let ty : p.ty ≡ type_of t.front t.last p.ty.stars = ap (λ v. record { names = v; stars = p.ty.stars }) t.all in
         let behind : List Piece = name Form form ∷ open_bracket ∷ name Name p.name ∷ close_bracket ∷ qs in
-        let whole : Whole (λ f l n rs. Rest (param_behind go params f l n) rs tree) (type_pieces p.ty ++ behind) = record {
+        let whole : Whole (λ f l n rs. Rest (param_after go params f l n) rs tree) (type_pieces p.ty ++ behind) = record {
           front = t.front;
           last = t.last;
           count = p.ty.stars;
@@ -250,7 +250,7 @@ param_forth go params tree p qs is_type closed r = by p.form refl
         let all : type_pieces p.ty ++ behind ≡ param_pieces p ++ qs =
         sym (append_assoc (type_pieces p.ty) (form_pieces (Some form) p.name) qs)
         ∙ ap (λ v. (type_pieces p.ty ++ form_pieces v p.name) ++ qs) (sym e) in
-        subst (λ v. Rest (param go params) v tree) all (type_forth (param_behind go params) tree p.ty behind is_type whole)
+        subst (λ v. Rest (param go params) v tree) all (type_forth (param_after go params) tree p.ty behind is_type whole)
 
 -- what follows a parameter begins with a mark
 pub listed_closed : (more : List Param) (qs : List Piece) → Closed (more_params more ++ close_bracket ∷ qs)

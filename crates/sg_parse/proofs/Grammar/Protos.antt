@@ -16,7 +16,7 @@ use Rattle.sg_parse.specs.Grammar.Inside.Words.{one_words, two_words}
 use Rattle.sg_parse.specs.Grammar.Pieces.{Piece, word, name, kept, IsPiece}
 use Rattle.sg_parse.specs.Grammar.Sentence.{type_pieces, param_pieces, ret_pieces, statement_pieces, IsStatement}
 use Rattle.sg_parse.specs.Grammar.Inside.Forms.{comma, semicolon, open_bracket, close_bracket, more_params, params_pieces, returned_pieces, IsType, IsRet}
-use Rattle.sg_parse.specs.Grammar.Inside.States.{State, due, want, has_sort, fits, named_by, type_of, declared, param, one_rest, two_rest, proto_rest, returned_behind, returned_rest, plain_rest, statement_behind}
+use Rattle.sg_parse.specs.Grammar.Inside.States.{State, due, want, has_sort, fits, named_by, type_of, declared, param, one_rest, two_rest, proto_rest, returned_after, returned_rest, plain_rest, statement_after}
 use Rattle.sg_parse.proofs.Grammar.Basics.{some_is, none_is, by_test, if_then, if_else, has_sort-is, is-has_sort, named, fits-is, is-fits, sort-has_sort, sort-fits_word, word-has_sort, word-fits_word, word-fits_kept, mark-has_sort, mark-fits_word, apart, name_apart}
 use Rattle.sg_parse.proofs.Grammar.Rests.{Rest, Whole, whole_of, closed-star, closed-sort}
 use Rattle.sg_parse.proofs.Grammar.Parts.{declared_back, declared_forth, param_back, param_forth, type_forth, ends, listed_closed}
@@ -143,7 +143,7 @@ returned_back : (go : Statement → State) (tree : Tree) (token : Lexeme) (ps : 
     → fits what token ≡ true → Rest (returned_rest go make) ps tree → Spelled go tree token ps
 returned_back go tree token ps what make pieces is_ret h r =
     let first = r.rest in
-    let w = whole_of (λ f l n qs. Rest (returned_behind go make f l n) qs tree) first.value first.behind first.rest in
+    let w = whole_of (λ f l n qs. Rest (returned_after go make f l n) qs tree) first.value first.behind first.rest in
     let ty = type_of w.front w.last w.count in
     let sep = w.rest in let field = sep.rest in let close = field.rest in let n = close.rest in
     let p = proto_back go (make ty field.value) n.value tree n.behind n.rest in
@@ -167,7 +167,7 @@ returned_back go tree token ps what make pieces is_ret h r =
     full (x ∷ xs) last e = cc
 
 pub statement_back : (go : Statement → State) (tree : Tree) (token : Lexeme) (next : State) (ps : List Piece)
-    → statement_behind go token ≡ Some next → Rest next ps tree → Spelled go tree token ps
+    → statement_after go token ≡ Some next → Rest next ps tree → Spelled go tree token ps
 statement_back go tree token next ps e r =
     by_test (has_sort one_word token)
     (λ h. one_back go tree token ps h (along (one_rest go (named_by token)) (sym (if_then (has_sort one_word token) _ _ h) ∙ e)))
@@ -205,7 +205,7 @@ pub record Follows (at : Option State) (ps : List Piece) (tree : Tree) : Type 0 
 
 one_forth : (go : Statement → State) (tree : Tree) (token : Lexeme) (w fun : Named) (qs : List Piece)
     → IsPiece token (name one_word w) → Rest (go (One w fun)) qs tree
-    → Follows (statement_behind go token) (open_bracket ∷ name Name fun ∷ close_bracket ∷ semicolon ∷ qs) tree
+    → Follows (statement_after go token) (open_bracket ∷ name Name fun ∷ close_bracket ∷ semicolon ∷ qs) tree
 one_forth go tree token w fun qs is r = record {
   next = one_rest go (named_by token);
   is = if_then (has_sort one_word token) _ _ (is-has_sort one_word token w is);
@@ -228,7 +228,7 @@ one_forth go tree token w fun qs is r = record {
 
 two_forth : (go : Statement → State) (tree : Tree) (token : Lexeme) (w first second : Named) (qs : List Piece)
     → IsPiece token (name two_word w) → Rest (go (Two w first second)) qs tree
-    → Follows (statement_behind go token) (open_bracket ∷ name Name first ∷ comma ∷ name Name second ∷ close_bracket ∷ semicolon ∷ qs) tree
+    → Follows (statement_after go token) (open_bracket ∷ name Name first ∷ comma ∷ name Name second ∷ close_bracket ∷ semicolon ∷ qs) tree
 two_forth go tree token w first second qs is r = record {
   next = two_rest go (named_by token);
   is = if_else (has_sort one_word token) _ _ (sort-has_sort two_word one_word token w is (apart two_words one_words w.bytes refl is.3))
@@ -260,7 +260,7 @@ two_forth go tree token w first second qs is r = record {
 }
 
 -- the first token of a plain return is none of the words before it
-plain_is : (go : Statement → State) (token : Lexeme) (n : Named) → IsPiece token (name Name n) → statement_behind go token ≡ Some (plain_rest go (named_by token))
+plain_is : (go : Statement → State) (token : Lexeme) (n : Named) → IsPiece token (name Name n) → statement_after go token ≡ Some (plain_rest go (named_by token))
 plain_is go token n is =
     if_else (has_sort one_word token) _ _ (sort-has_sort Name one_word token n is (name_apart one_words n.bytes refl is.3))
     ∙ if_else (has_sort two_word token) _ _ (sort-has_sort Name two_word token n is (name_apart two_words n.bytes refl is.3))
@@ -284,7 +284,7 @@ typed_forth go tree ty n params qs is_type full types r =
 plain_forth : (go : Statement → State) (tree : Tree) (token : Lexeme) (p : Piece) (ps : List Piece) (ty : TypeName) (n : Named) (params : List Param) (qs : List Piece)
     → IsPiece token p → p ∷ ps ≡ statement_pieces (Proto (Plain ty) n params) ++ qs
     → IsType ty → params ≢ [] → All (λ q. IsType q.ty) params → Rest (go (Proto (Plain ty) n params)) qs tree
-    → Follows (statement_behind go token) ps tree
+    → Follows (statement_after go token) ps tree
 plain_forth go tree token p ps ty n params qs is all is_type full types r =
     let w = typed_forth go tree ty n params qs is_type full types r in
     let e : p ∷ ps ≡ name Name w.value ∷ w.behind = all ∙ sym (proto_all (Plain ty) n params qs) ∙ w.all in
@@ -305,7 +305,7 @@ returned_forth go tree what make ty field n params qs is_type full types r =
     let behind : List Piece = comma ∷ name Name field ∷ close_bracket ∷ name Name n ∷ tail in
     let t = ends ty.names is_type in
     let same : ty ≡ type_of t.front t.last ty.stars = ap (λ v. record { names = v; stars = ty.stars }) t.all in
-    let w : Whole (λ f l c rs. Rest (returned_behind go make f l c) rs tree) (type_pieces ty ++ behind) = record {
+    let w : Whole (λ f l c rs. Rest (returned_after go make f l c) rs tree) (type_pieces ty ++ behind) = record {
       front = t.front;
       last = t.last;
       count = ty.stars;
@@ -333,7 +333,7 @@ returned_forth go tree what make ty field n params qs is_type full types r =
         };
       };
     } in
-    record { behind = type_pieces ty ++ behind; all = refl; rest = type_forth (returned_behind go make) tree ty behind is_type w }
+    record { behind = type_pieces ty ++ behind; all = refl; rest = type_forth (returned_after go make) tree ty behind is_type w }
 
 -- the pieces of a return that sets a field, with what follows them
 returned_all : (what : Piece) (make : TypeName → Named → Ret) (ty : TypeName) (field n : Named) (params : List Param) (qs : List Piece)
@@ -346,20 +346,20 @@ returned_all what make ty field n params qs pieces =
     ∙ ap (λ v. what ∷ open_bracket ∷ v) (append_assoc (type_pieces ty) (comma ∷ name Name field ∷ close_bracket ∷ []) tail)
 
 -- the word of a return that sets a field is none of the words before it
-retval_is : (go : Statement → State) (token : Lexeme) → IsPiece token (word (codes "desc_data_retval")) → statement_behind go token ≡ Some (returned_rest go Set)
+retval_is : (go : Statement → State) (token : Lexeme) → IsPiece token (word (codes "desc_data_retval")) → statement_after go token ≡ Some (returned_rest go Set)
 retval_is go token is =
     if_else (has_sort one_word token) _ _ (word-has_sort one_word (codes "desc_data_retval") token is refl)
     ∙ if_else (has_sort two_word token) _ _ (word-has_sort two_word (codes "desc_data_retval") token is refl)
     ∙ if_then (fits (word (codes "desc_data_retval")) token) _ _ (is-fits (word (codes "desc_data_retval")) token is)
 
-retval_add_is : (go : Statement → State) (token : Lexeme) → IsPiece token (word (codes "desc_data_retval_add")) → statement_behind go token ≡ Some (returned_rest go Add)
+retval_add_is : (go : Statement → State) (token : Lexeme) → IsPiece token (word (codes "desc_data_retval_add")) → statement_after go token ≡ Some (returned_rest go Add)
 retval_add_is go token is =
     if_else (has_sort one_word token) _ _ (word-has_sort one_word (codes "desc_data_retval_add") token is refl)
     ∙ if_else (has_sort two_word token) _ _ (word-has_sort two_word (codes "desc_data_retval_add") token is refl)
     ∙ if_else (fits (word (codes "desc_data_retval")) token) _ _ (word-fits_word (codes "desc_data_retval_add") (codes "desc_data_retval") token is refl)
     ∙ if_then (fits (word (codes "desc_data_retval_add")) token) _ _ (is-fits (word (codes "desc_data_retval_add")) token is)
 
-retval_sub_is : (go : Statement → State) (token : Lexeme) → IsPiece token kept → statement_behind go token ≡ Some (returned_rest go Sub)
+retval_sub_is : (go : Statement → State) (token : Lexeme) → IsPiece token kept → statement_after go token ≡ Some (returned_rest go Sub)
 retval_sub_is go token is =
     if_else (has_sort one_word token) _ _ (mark-has_sort one_word token is.0)
     ∙ if_else (has_sort two_word token) _ _ (mark-has_sort two_word token is.0)
@@ -369,15 +369,15 @@ retval_sub_is go token is =
 
 pub statement_forth : (go : Statement → State) (tree : Tree) (token : Lexeme) (p : Piece) (ps : List Piece) (statement : Statement) (qs : List Piece)
     → IsPiece token p → p ∷ ps ≡ statement_pieces statement ++ qs → IsStatement statement → Rest (go statement) qs tree
-    → Follows (statement_behind go token) ps tree
+    → Follows (statement_after go token) ps tree
 statement_forth go tree token p ps (One w fun) qs is all s r =
     let e0 : p ≡ name one_word w = cc in
     let e1 : open_bracket ∷ name Name fun ∷ close_bracket ∷ semicolon ∷ qs ≡ ps = cc in
-    subst (λ v. Follows (statement_behind go token) v tree) e1 (one_forth go tree token w fun qs (subst (IsPiece token) e0 is) r)
+    subst (λ v. Follows (statement_after go token) v tree) e1 (one_forth go tree token w fun qs (subst (IsPiece token) e0 is) r)
 statement_forth go tree token p ps (Two w first second) qs is all s r =
     let e0 : p ≡ name two_word w = cc in
     let e1 : open_bracket ∷ name Name first ∷ comma ∷ name Name second ∷ close_bracket ∷ semicolon ∷ qs ≡ ps = cc in
-    subst (λ v. Follows (statement_behind go token) v tree) e1 (two_forth go tree token w first second qs (subst (IsPiece token) e0 is) r)
+    subst (λ v. Follows (statement_after go token) v tree) e1 (two_forth go tree token w first second qs (subst (IsPiece token) e0 is) r)
 statement_forth go tree token p ps (Proto (Plain ty) n params) qs is all s r =
     plain_forth go tree token p ps ty n params qs is all s.0 s.1 s.2 r
 statement_forth go tree token p ps (Proto (Set ty field) n params) qs is all s r =

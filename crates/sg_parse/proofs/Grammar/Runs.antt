@@ -21,7 +21,7 @@ use Rattle.sg_parse.specs.Grammar.Inside.States.{State, dead, due, fork, want, n
 use Rattle.sg_parse.proofs.Grammar.Basics.{word-fits_word}
 use Rattle.sg_parse.proofs.Grammar.Rests.{Rest, front_of, last_of}
 use Rattle.sg_parse.proofs.Grammar.Steps.{back, forth}
-use Rattle.sg_parse.proofs.Grammar.Alive.{Alive, completed, alive_behind, start_alive}
+use Rattle.sg_parse.proofs.Grammar.Alive.{Alive, completed, alive_after, start_alive}
 
 -- ---- at the end
 
@@ -381,28 +381,28 @@ start_back tree ps r =
     ]
 
 -- what stands after the first brace, where the text is of a version
-abbrev behind_brace : Tree → ℕ → List Piece
-behind_brace tree n = of_version n (facts_pieces (record tree.facts { version = n }) (flat_map statement_pieces tree.statements))
+abbrev after_brace : Tree → ℕ → List Piece
+after_brace tree n = of_version n (facts_pieces (record tree.facts { version = n }) (flat_map statement_pieces tree.statements))
 
 start_forth : (tree : Tree) → IsWellFormed tree → Rest start (tree_pieces tree) tree
 start_forth tree h = record {
-  behind = equals ∷ open_brace ∷ behind_brace tree tree.facts.version;
+  behind = equals ∷ open_brace ∷ after_brace tree tree.facts.version;
   all = refl;
   rest = record {
-    behind = open_brace ∷ behind_brace tree tree.facts.version;
+    behind = open_brace ∷ after_brace tree tree.facts.version;
     all = refl;
-    rest = record { behind = behind_brace tree tree.facts.version; all = refl; rest = by h.0 };
+    rest = record { behind = after_brace tree tree.facts.version; all = refl; rest = by h.0 };
   };
 }
   where
-    by : IsHead tree.facts → Rest (fork (codes "version") (due equals (due two (due comma (in_newer (head0 second_end))))) (head0 first_end)) (behind_brace tree tree.facts.version) tree
+    by : IsHead tree.facts → Rest (fork (codes "version") (due equals (due two (due comma (in_newer (head0 second_end))))) (head0 first_end)) (after_brace tree tree.facts.version) tree
     by (inl first) =
-        subst (λ n. Rest (fork (codes "version") (due equals (due two (due comma (in_newer (head0 second_end))))) (head0 first_end)) (behind_brace tree n) tree) (sym first.0)
+        subst (λ n. Rest (fork (codes "version") (due equals (due two (due comma (in_newer (head0 second_end))))) (head0 first_end)) (after_brace tree n) tree) (sym first.0)
         (inr (λ token p. word-fits_word (codes "service") (codes "version") token p refl, first_forth tree first.0 first.1 h.1))
     by (inr version) =
         let q = tree.facts in
         let ps = head_pieces q.service q.parent q.close q.global q.block q.has_data q.resc_data (end_pieces (record q { version = 2 }) (flat_map statement_pieces tree.statements)) in
-        subst (λ n. Rest (fork (codes "version") (due equals (due two (due comma (in_newer (head0 second_end))))) (head0 first_end)) (behind_brace tree n) tree) (sym version)
+        subst (λ n. Rest (fork (codes "version") (due equals (due two (due comma (in_newer (head0 second_end))))) (head0 first_end)) (after_brace tree n) tree) (sym version)
         (inl (record {
           behind = equals ∷ two ∷ comma ∷ map newer ps;
           all = refl;
@@ -440,7 +440,7 @@ sentence_of tokens tree end h e =
 
 alive_end : (s end : State) (tokens : List Lexeme) → Alive false s → Runs trees s tokens end → Alive false end
 alive_end s end [] a h = subst (Alive false) h a
-alive_end s end (t ∷ ts) a h = alive_end h.0 end ts (alive_behind false s t h.0 a h.1) h.2
+alive_end s end (t ∷ ts) a h = alive_end h.0 end ts (alive_after false s t h.0 a h.1) h.2
 
 are-append : (xs ys : List Lexeme) (ps qs : List Piece) → ArePieces IsPiece xs ps → ArePieces IsPiece ys qs → ArePieces IsPiece (xs ++ ys) (ps ++ qs)
 are-append [] ys [] qs a b = b

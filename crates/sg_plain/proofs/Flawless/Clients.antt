@@ -17,8 +17,8 @@ use Rattle.sg_script.specs.declared.fault.ScriptKind.TheVariants.{BadClient, Twi
 use Rattle.sg_script.specs.Numbers.{counts_as, is_known_client}
 use Rattle.sg_script.specs.Scripts.{calls_of_setup, clients_of, placed}
 use Rattle.sg_script.specs.Inside.Parts.{comes_again, is_of_client, with_client}
-use Rattle.sg_script.specs.Flaws.{calls_before, calls_flaws, calls_in, client_flaws, flaws_behind, flaws_of, part_flaws}
-use Rattle.sg_script.proofs.Held.{back_none, behind_none, counted, front_none, inner_none, is_true, not_flawed, part_few}
+use Rattle.sg_script.specs.Flaws.{calls_before, calls_flaws, calls_in, client_flaws, flaws_after, flaws_of, part_flaws}
+use Rattle.sg_script.proofs.Held.{back_none, after_none, counted, front_none, inner_none, is_true, not_flawed, part_few}
 use Rattle.sg_plain.proofs.Flawless.Parts.{left, right}
 
 -- ---- how many calls clients have, and which numbers
@@ -200,19 +200,19 @@ module _ {C : Type 0} (members : List Declared) (setup : ℕ) (make : WrittenCal
       came m (inl is_own) = any_last (is_of_client m) front (Client at n calls) is_own
       came m (inr has) = any_more (is_of_client m) front (Client at n calls) (is.from_parts m has)
 
-  pub parts_read : (front parts : List Part) (clients : List (ℕ × List C)) → flaws_behind members setup front parts ≡ [] → IsRead IsGood front clients
+  pub parts_read : (front parts : List Part) (clients : List (ℕ × List C)) → flaws_after members setup front parts ≡ [] → IsRead IsGood front clients
       → IsRead IsGood (front ++ parts) (fold (λ clients p. with_client make p clients) clients parts)
   parts_read front [] clients none is = subst (λ f. IsRead IsGood f clients) (sym (append-nil front)) is
   parts_read front (p ∷ parts) clients none is =
       subst (λ f. IsRead IsGood f (fold (λ clients p. with_client make p clients) (with_client make p clients) parts)) (append_assoc front (p ∷ []) parts)
-      (parts_read (front ++ p ∷ []) parts (with_client make p clients) (behind_none members setup front p parts none) (part_read front p clients (front_none (part_flaws members setup front p) _ none) is))
+      (parts_read (front ++ p ∷ []) parts (with_client make p clients) (after_none members setup front p parts none) (part_read front p clients (front_none (part_flaws members setup front p) _ none) is))
 
-pub all_counted : (members : List Declared) (setup : ℕ) (front parts : List Part) → length (flat_map calls_in front) ≤ 65536 → flaws_behind members setup front parts ≡ [] → length (flat_map calls_in (front ++ parts)) ≤ 65536
+pub all_counted : (members : List Declared) (setup : ℕ) (front parts : List Part) → length (flat_map calls_in front) ≤ 65536 → flaws_after members setup front parts ≡ [] → length (flat_map calls_in (front ++ parts)) ≤ 65536
 all_counted members setup front [] few none = subst (λ f. length (flat_map calls_in f) ≤ 65536) (sym (append-nil front)) few
 all_counted members setup front (p ∷ parts) few none =
     subst (λ f. length (flat_map calls_in f) ≤ 65536) (append_assoc front (p ∷ []) parts)
     (all_counted members setup (front ++ p ∷ []) parts (subst (λ v. v ≤ 65536) (sym (counted front p)) (part_few members setup (length (flat_map calls_in front)) p few (inner_none members setup front p parts none)))
-    (behind_none members setup front p parts none))
+    (after_none members setup front p parts none))
 
 -- all clients of flawless parts
 module _ {C : Type 0} (members : List Declared) (make : WrittenCall → C) (parts : List Part) (none : flaws_of members parts ≡ []) where

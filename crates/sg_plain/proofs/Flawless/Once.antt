@@ -14,8 +14,8 @@ use Rattle.sg_script.specs.declared.fault.ScriptKind.TheVariants.{BadClient, Not
 use Rattle.sg_script.specs.Numbers.{counts_as}
 use Rattle.sg_script.specs.Scripts.{calls_of_setup, is_stop_of, stop_member, stops_of}
 use Rattle.sg_script.specs.Inside.Parts.{comes_again, inner_flaws, is_setup, part_place, stops_in, turns_of}
-use Rattle.sg_script.specs.Flaws.{calls_flaws, calls_in, client_flaws, flaws_behind, flaws_of, part_flaws, stops_flaws}
-use Rattle.sg_script.proofs.Held.{back_none, behind_none, both, front_none, inner_none, is_true, not_flawed}
+use Rattle.sg_script.specs.Flaws.{calls_flaws, calls_in, client_flaws, flaws_after, flaws_of, part_flaws, stops_flaws}
+use Rattle.sg_script.proofs.Held.{back_none, after_none, both, front_none, inner_none, is_true, not_flawed}
 use Rattle.sg_script.proofs.Parts.{by_part}
 use Rattle.sg_plain.proofs.Flawless.Clients.{any_last, any_more}
 use Rattle.sg_plain.proofs.Flawless.Parts.{left}
@@ -24,10 +24,10 @@ some_false : (b : Bool) → b ≡ true → b ≡ false → ⊥
 some_false b is isn't = cc (sym is ∙ isn't)
 
 -- the next part doesn't come again
-first_none : (members : List Declared) (setup : ℕ) (front : List Part) (p : Part) (parts : List Part) → flaws_behind members setup front (p ∷ parts) ≡ [] → comes_again members front p ≡ false
+first_none : (members : List Declared) (setup : ℕ) (front : List Part) (p : Part) (parts : List Part) → flaws_after members setup front (p ∷ parts) ≡ [] → comes_again members front p ≡ false
 first_none members setup front p parts none =
     not_flawed (comes_again members front p) Twice (part_place p)
-    (front_none _ (inner_flaws members setup (length (flat_map calls_in front)) p) (sym (by_part members setup front p) ∙ front_none (part_flaws members setup front p) (flaws_behind members setup (front ++ p ∷ []) parts) none))
+    (front_none _ (inner_flaws members setup (length (flat_map calls_in front)) p) (sym (by_part members setup front p) ∙ front_none (part_flaws members setup front p) (flaws_after members setup (front ++ p ∷ []) parts) none))
 
 -- ---- parts of a kind of which there is one at most
 
@@ -35,10 +35,10 @@ first_none members setup front p parts none =
 module _ {A : Type 0} (members : List Declared) (setup : ℕ) (kind : Part → Bool) (has : Part → List A)
     (others : (p : Part) → kind p ≡ false → has p ≡ [])
     (single : (front : List Part) (p : Part) → kind p ≡ true → comes_again members front p ≡ false → list_any kind front ≡ false) where
-  no_more : (front parts : List Part) → list_any kind front ≡ true → flaws_behind members setup front parts ≡ [] → flat_map has parts ≡ []
+  no_more : (front parts : List Part) → list_any kind front ≡ true → flaws_after members setup front parts ≡ [] → flat_map has parts ≡ []
   no_more front [] there none = refl
   no_more front (p ∷ parts) there none =
-      ap (λ l. l ++ flat_map has parts) (by (kind p) refl) ∙ no_more (front ++ p ∷ []) parts (any_more kind front p there) (behind_none members setup front p parts none)
+      ap (λ l. l ++ flat_map has parts) (by (kind p) refl) ∙ no_more (front ++ p ∷ []) parts (any_more kind front p there) (after_none members setup front p parts none)
     where
       by : (b : Bool) → kind p ≡ b → has p ≡ []
       by true is = absurd (some_false (list_any kind front) there (single front p is (first_none members setup front p parts none)))
@@ -46,13 +46,13 @@ module _ {A : Type 0} (members : List Declared) (setup : ℕ) (kind : Part → B
 
   -- so what holds of nothing, and of what a part of that kind has, holds of all that they have
   of_one : (P : List A → Type 0) → P [] → ((before : ℕ) (p : Part) → kind p ≡ true → inner_flaws members setup before p ≡ [] → P (has p)) → (front parts : List Part)
-      → flaws_behind members setup front parts ≡ [] → P (flat_map has parts)
+      → flaws_after members setup front parts ≡ [] → P (flat_map has parts)
   of_one P empty good front [] none = empty
-  of_one P empty good front (p ∷ parts) none = by (kind p) refl (of_one P empty good (front ++ p ∷ []) parts (behind_none members setup front p parts none))
+  of_one P empty good front (p ∷ parts) none = by (kind p) refl (of_one P empty good (front ++ p ∷ []) parts (after_none members setup front p parts none))
     where
       by : (b : Bool) → kind p ≡ b → P (flat_map has parts) → P (has p ++ flat_map has parts)
       by true is rest =
-          subst P (sym (ap (λ l. has p ++ l) (no_more (front ++ p ∷ []) parts (any_last kind front p is) (behind_none members setup front p parts none)) ∙ append-nil (has p)))
+          subst P (sym (ap (λ l. has p ++ l) (no_more (front ++ p ∷ []) parts (any_last kind front p is) (after_none members setup front p parts none)) ∙ append-nil (has p)))
           (good (length (flat_map calls_in front)) p is (inner_none members setup front p parts none))
       by false is rest = subst (λ l. P (l ++ flat_map has parts)) (sym (others p is)) rest
 
@@ -143,11 +143,11 @@ turns_from_one (n ∷ numbers) rest none all =
     both (nat_le 1 (counts_as n.bytes)) _ (left _ _ (is_true _ (not_flawed _ BadClient n.at (front_none _ _ (front_none (client_flaws n) (flat_map client_flaws numbers) none)))))
     (turns_from_one numbers rest (back_none (client_flaws n) (flat_map client_flaws numbers) none) all)
 
-pub all_turns : (members : List Declared) (setup : ℕ) (front parts : List Part) → flaws_behind members setup front parts ≡ []
+pub all_turns : (members : List Declared) (setup : ℕ) (front parts : List Part) → flaws_after members setup front parts ≡ []
     → list_all (λ client. nat_le 1 client) (map (λ (n : Spelling). counts_as n.bytes) (flat_map turns_of parts)) ≡ true
 all_turns members setup front [] none = refl
 all_turns members setup front (Schedule at numbers ∷ parts) none =
-    turns_from_one numbers (flat_map turns_of parts) (inner_none members setup front (Schedule at numbers) parts none) (all_turns members setup (front ++ Schedule at numbers ∷ []) parts (behind_none members setup front (Schedule at numbers) parts none))
-all_turns members setup front (Stop at service numbers ∷ parts) none = all_turns members setup (front ++ Stop at service numbers ∷ []) parts (behind_none members setup front (Stop at service numbers) parts none)
-all_turns members setup front (Client at n calls ∷ parts) none = all_turns members setup (front ++ Client at n calls ∷ []) parts (behind_none members setup front (Client at n calls) parts none)
-all_turns members setup front (Setup at calls ∷ parts) none = all_turns members setup (front ++ Setup at calls ∷ []) parts (behind_none members setup front (Setup at calls) parts none)
+    turns_from_one numbers (flat_map turns_of parts) (inner_none members setup front (Schedule at numbers) parts none) (all_turns members setup (front ++ Schedule at numbers ∷ []) parts (after_none members setup front (Schedule at numbers) parts none))
+all_turns members setup front (Stop at service numbers ∷ parts) none = all_turns members setup (front ++ Stop at service numbers ∷ []) parts (after_none members setup front (Stop at service numbers) parts none)
+all_turns members setup front (Client at n calls ∷ parts) none = all_turns members setup (front ++ Client at n calls ∷ []) parts (after_none members setup front (Client at n calls) parts none)
+all_turns members setup front (Setup at calls ∷ parts) none = all_turns members setup (front ++ Setup at calls ∷ []) parts (after_none members setup front (Setup at calls) parts none)

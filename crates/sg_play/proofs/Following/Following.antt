@@ -19,7 +19,7 @@ use Rattle.sg_plain.specs.OneService.{workload_of}
 use Rattle.sg_plain.specs.Plain.{Stage, left_schedule, next_turn, player_at}
 use Rattle.sg_plain.specs.Promises.{FollowsPlain, is_in_first_boot, up_to_last}
 use Rattle.sg_play.specs.Recovering.{RecoversSoFar}
-use Rattle.sg_play.specs.Turning.{StepsInTurn, behind_step, with_call, with_leaving, with_offer}
+use Rattle.sg_play.specs.Turning.{StepsInTurn, after_step, with_call, with_leaving, with_offer}
 use Rattle.sg_plain.specs.Playing.Plays.{IsPlaying}
 use Rattle.sg_plain.specs.Playing.Turns.{is_free_phase}
 use Rattle.sg_plain.proofs.sg_clients.Lines.{seat_here}
@@ -32,11 +32,14 @@ use Rattle.sg_plain.specs.sg_clients.declared.phase.Phase.{Phase as SeatPhase}
 use Rattle.sg_plain.specs.sg_clients.declared.phase.Phase.TheVariants.{Idle, Asked, Held, Receipted, Blocked, Left}
 use Rattle.sg_world.specs.declared.did.Did.{Did}
 use Rattle.sg_world.specs.declared.did.Did.TheVariants.{Answered, Blocked as Waits, Booted, Loaded, Lost, Replayed, Served, Skipped, Struck}
-use Rattle.sg_world.specs.Steps.{Steps, WantsMemory}
+use Rattle.sg_world.specs.Steps.{Steps, LackedMemory}
 use Rattle.sg_world.specs.sg_world_laws.Setting.{Setting}
+use Rattle.sg_play.specs.Asked.{AsksPlain, are_asked_so, first_items}
+use Rattle.sg_play.specs.Following.Asking.{asked_by}
 use Rattle.sg_play.specs.Following.Follows.{IsPastStop, HoldsSo, IsFollowing, NeverStopped}
 use Rattle.sg_play.specs.Following.Stages.{IsNextTurn, player_by, stage_of}
 use Rattle.sg_play.proofs.Fronts.{up_to_front, up_to_takes}
+use Rattle.sg_play.proofs.Following.Asks.{asked_front, front_of_asked, whole_asked}
 use Rattle.sg_play.proofs.Following.Onward.{front_of_play, whole_play}
 use Rattle.sg_play.proofs.Following.Players.{new_players, same_players}
 use Rattle.sg_play.proofs.Following.Seats.{each_set, plain_holds}
@@ -62,6 +65,8 @@ following_new z script w new = subst (λ y. IsFollowing z script y 0 0) (sym new
     held = λ client from. subst (λ (s : Seat). s.phase ≡ Held → s.boot ≡ 1) (sym (new_seat_in (most_client script.clients) (client - 1))) (λ held. absurd (cc held));
     turns = 0;
     at = ap (λ ps. record { history = []; players = ps; schedule = script.schedule; last = 0 }) (new_players script 1 (most_client script.clients));
+    asks = refl;
+    all_asked = refl;
   });
 })
 
@@ -90,6 +95,8 @@ reseated z script w passed last c new first within f same not_held not_receipted
       held = each_set (λ (s : Seat). s.phase ≡ Held → s.boot ≡ 1) w.seats c new first within never.held (λ held. absurd (not_held held));
       turns = never.turns;
       at = ap (λ ps. record { history = w.history; players = ps; schedule = drop passed script.schedule; last = last }) (same_players script w.seats c new first within same) ∙ never.at;
+      asks = never.asks;
+      all_asked = never.all_asked;
     })
 
 -- something is marked of a client
@@ -208,7 +215,7 @@ module _ (z : Setting) (script : Script) (x now : WorldView) (given : List (List
       (idle_stepped z script x given client first within is passed last later f reply w l)
       (following_happened z script w later client (stepped (Answered reply) w l (λ is_served. absurd (cc is_served))))))
 
-  by_did : (did : Did) (w : WorldView) → Steps z x client did w → (y : WorldView) → y ≡ happened w → now ≡ behind_step script client did y → IsFollowing z script now later client
+  by_did : (did : Did) (w : WorldView) → Steps z x client did w → (y : WorldView) → y ≡ happened w → now ≡ after_step script client did y → IsFollowing z script now later client
   by_did (Answered reply) w l y counted same = answered reply w l y counted same
   by_did Skipped w l y counted same = plain Skipped w l (same ∙ counted)
   by_did Struck w l y counted same = plain Struck w l (same ∙ counted)
@@ -240,7 +247,7 @@ module _ (z : Setting) (script : Script) (w : WorldView) (given : List (List ℕ
 -- ---- a turn that wanted memory
 
 -- it changes nothing of it
-pub following_wanted : (z : Setting) (script : Script) (x now : WorldView) (client passed last : ℕ) → WantsMemory z x client now → IsFollowing z script x passed last → IsFollowing z script now passed last
+pub following_wanted : (z : Setting) (script : Script) (x now : WorldView) (client passed last : ℕ) → LackedMemory z x client now → IsFollowing z script x passed last → IsFollowing z script now passed last
 following_wanted z script x now client passed last wants f = subst (λ y. IsFollowing z script y passed last) (sym wants.counted) (record { hold = f.hold; follows = f.follows })
 
 -- ---- the end
@@ -275,6 +282,28 @@ module _ (z : Setting) (script : Script) (w : WorldView) (passed last : ℕ) (f 
           let same : up_to_last test w.history ≡ up_to_last test front = ap (up_to_last test) stopped.entries ∙ up_to_front test front stopped.more stopped.later in
           record {
             first_boot = same ∙ up_to_takes test front begins.rest ∙ ap (take (length (up_to_last test front))) (sym begins.is) ∙ ap (λ l. take (length l) plain) (sym same);
+            whole = λ none. absurd (was_struck w.run stopped.first stopped.newer stopped.are stopped.stopped none);
+          }
+
+  -- and so is what it asked
+  pub following_asked : (plain : List Entry) (play : IsPlainPlay z.iface z.ask script plain) → AsksPlain w.run (asked_by z.iface z.ask script play.turns)
+  following_asked plain play = by f.follows
+    where
+      by : NeverStopped z script w.history w.run.boots w.running w.seats (stage_of script w passed last) ⊎ IsPastStop z script w.history w.run.boots w.running
+          → AsksPlain w.run (asked_by z.iface z.ask script play.turns)
+      by (inl never) =
+          let same = whole_asked z.iface z.ask script never.turns plain (ap (next_turn (workload_of script)) (sym never.at) ∙ over) play in
+          let first : first_items w.run.boots ≡ never.items = ap first_items never.one in
+          record {
+            first_boot = ap (λ l. are_asked_so l (asked_by z.iface z.ask script play.turns)) first ∙ ap (are_asked_so never.items) same ∙ never.asks;
+            whole = λ none. ap length first ∙ never.all_asked ∙ sym (ap length same);
+          }
+      by (inr stopped) =
+          let front = front_of_asked z.iface z.ask script stopped.asked plain play in
+          let first : first_items w.run.boots ≡ stopped.first.items = ap first_items stopped.are in
+          record {
+            first_boot = ap (λ l. are_asked_so l (asked_by z.iface z.ask script play.turns)) first ∙ ap (are_asked_so stopped.first.items) front.1
+                ∙ asked_front stopped.first.items (asked_by z.iface z.ask script stopped.asked) front.0 stopped.asks;
             whole = λ none. absurd (was_struck w.run stopped.first stopped.newer stopped.are stopped.stopped none);
           }
 

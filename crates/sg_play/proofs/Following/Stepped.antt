@@ -1,5 +1,5 @@
 -- A step of a client leads a play on along the play without stops, or its service stops.
-use Rattle.std.proofs.Common.{◌≡◌, ◌≢◌, ◌⊎◌, ℕ, suc, ◌+◌, ◌-◌, ◌≤◌, Bool, true, false, List, [], ◌∷◌, ◌++◌, None, Some, IsSome, drop, is_some, length, map, refl, sym, ◌∙◌, ap, subst, inl, inr, arith, slice_set}
+use Rattle.std.proofs.Common.{◌≡◌, ◌≢◌, ◌⊎◌, ℕ, suc, ◌+◌, ◌-◌, ◌≤◌, Bool, true, false, List, [], ◌∷◌, ◌++◌, None, Some, IsSome, drop, is_some, length, map, not, refl, sym, ◌∙◌, ap, subst, inl, inr, arith, append-nil, length-append, slice_set}
 use Rattle.std.specs.Prelude.{◌==◌, ◌&&◌, nat_lt}
 use Rattle.std.specs.declared.option.Option.{Option}
 use Rattle.sg_facts.specs.sg_base.Lists.{Each}
@@ -23,7 +23,7 @@ use Rattle.sg_plain.specs.sg_hist.Inside.Reads.{after_item}
 use Rattle.sg_plain.specs.sg_hist.Inside.Parts.{HasItem}
 use Rattle.sg_plain.specs.Calls.{script_calls}
 use Rattle.sg_plain.specs.OneService.{one_service, workload_of}
-use Rattle.sg_plain.specs.Plain.{Stage, blocked, holding, left_schedule, next_turn, player_at, player_of, replied, turned}
+use Rattle.sg_plain.specs.Plain.{PlainPhase, Stage, blocked, holding, left_schedule, next_turn, player_at, player_of, ready, replied, through, turned}
 use Rattle.sg_plain.specs.Inside.Turns.{after_turn, stage_after}
 use Rattle.sg_play.specs.Recovering.{RecoversSoFar}
 use Rattle.sg_plain.specs.Playing.Callers.{handed}
@@ -34,24 +34,27 @@ use Rattle.sg_plain.proofs.Playing.Lines.{handed_woken}
 use Rattle.sg_plain.proofs.sg_clients.Lines.{length_map, length_set, seat_here, seat_woken}
 use Rattle.sg_plain.specs.sg_hist.Growing.{IsNextItem, noted, place_after, struck}
 use Rattle.sg_plain.specs.sg_script.declared.script.Script.{Script}
-use Rattle.sg_plain.specs.sg_clients.WorldView.{Seat, WorldView, answered_to, boot_number, committed, given_to, is_offered, item_noted, no_reply, rebooted, seat_in, seat_of, struck_at, unanswered, wakes_seat, woken_seat}
+use Rattle.sg_plain.specs.sg_clients.WorldView.{Seat, WorldView, answered_to, boot_number, committed, given_to, is_offered, no_reply, rebooted, seat_in, seat_of, struck_at, unanswered, wakes_seat, woken_seat}
 use Rattle.sg_plain.specs.sg_clients.declared.phase.Phase.{Phase as SeatPhase}
 use Rattle.sg_plain.specs.sg_clients.declared.phase.Phase.TheVariants.{Idle, Asked, Held, Receipted, Blocked, Left}
 use Rattle.sg_world.specs.sg_recovery_laws.LastItem.LastPlace.{HaveItems, last_place}
 use Rattle.sg_facts.proofs.Replaying.Found.{same_test}
 use Rattle.sg_world.specs.declared.did.Did.{Did}
 use Rattle.sg_world.specs.declared.did.Did.TheVariants.{Answered, Blocked as Waits, Booted, Loaded, Lost, Replayed, Served, Skipped, Struck}
-use Rattle.sg_world.specs.Steps.{Commits, HandsOver, Holds, Loads, Loses, Refuses, Replays, Returns, Skips, Steps, WaitsNow}
+use Rattle.sg_world.specs.Steps.{Commits, HandsOver, Holds, Loads, Loses, Refuses, Replays, Returns, Skips, Steps, StopsCall, StopsReplay, WaitsNow}
 use Rattle.sg_world.proofs.sg_world_laws.Refusing.{by_the_guard}
 use Rattle.sg_world.specs.sg_world_laws.Setting.{Setting, stubs_of}
+use Rattle.sg_play.specs.Asked.{Asked as AskedCall, are_asked_so, asked_in_turn, is_asked_so}
+use Rattle.sg_play.specs.Following.Asking.{asked_by, asked_next}
 use Rattle.sg_play.specs.Following.Follows.{IsPastStop, HoldAll, HoldsSo, IsAllThere, IsFollowing, NeverStopped}
 use Rattle.sg_play.specs.Following.Stages.{player_by, stage_of}
+use Rattle.sg_play.proofs.Following.Asks.{asked_more, asked_one_more, is_outcome_so, own_asked, replied_so}
 use Rattle.sg_play.proofs.Following.Numbered.{NoneHas, have_items, next_is_new, one_boot}
 use Rattle.sg_play.proofs.Following.Onward.{after_more}
 use Rattle.sg_play.proofs.Following.Seats.{HeldFirst, asked_first, asked_holds, each_set, each_woken, plain_holds}
 use Rattle.sg_play.proofs.Following.Stopped.{guard_later, hidden_later, stopped_again, stopped_booted, stopped_committed, stopped_entered, stopped_noted, stops_first}
 use Rattle.sg_play.proofs.Following.There.{none_loaded, none_walked, there_committed, there_hidden, there_noted, there_refused}
-use Rattle.sg_play.proofs.Following.Turned.{handed_offering, stage_with, turn, turn_blocked, turn_commits, turn_handed, turn_held, turn_holds, turn_over, turn_refused, turn_waits}
+use Rattle.sg_play.proofs.Following.Turned.{asks, asks_blocked, asks_handed, asks_held, asks_over, asks_passes, asks_refused, handed_offering, stage_with, turn, turn_blocked, turn_commits, turn_handed, turn_held, turn_holds, turn_over, turn_refused, turn_waits}
 
 some_is : (o : Option Object) (v : Object) → o ≡ Some v → IsSome o
 some_is o v is = ap is_some is
@@ -233,10 +236,59 @@ module _ (z : Setting) (script : Script) (x : WorldView) (given : List (List ℕ
     abbrev with_these : List Entry → List Seat → Stage Entry
     with_these h l = stage_with z.iface z.ask script x.history x.seats c first last is.callers schedule c h l
 
+    -- what it asks
+    abbrev its_asks : List AskedCall
+    its_asks = asks z.iface z.ask script x.history x.seats c first last is.callers schedule c
+
+    asks_alike : (p : PlainPhase) → asked_in_turn (one_service z.iface z.ask script) c (stage_of script x passed before) p ≡ asked_in_turn (one_service z.iface z.ask script) c (with_these x.history x.seats) p
+    asks_alike ready = refl
+    asks_alike replied = refl
+    asks_alike (holding reply) = refl
+    asks_alike blocked = refl
+    asks_alike through = refl
+
+    asked_so_far : asked_by z.iface z.ask script (suc a.turns) ≡ asked_by z.iface z.ask script a.turns ++ its_asks
+    asked_so_far =
+        asked_one_more z.iface z.ask script a.turns
+        ∙ ap (λ l. asked_by z.iface z.ask script a.turns ++ l)
+        (ap (λ (t : Stage Entry). asked_next (one_service z.iface z.ask script) t (next_turn (workload_of script) t)) (sym a.at)
+        ∙ ap (asked_next (one_service z.iface z.ask script) (stage_of script x passed before)) turn_is
+        ∙ asks_alike (player_of (stage_of script x passed before) c).phase)
+
+    -- items are those that the play without stops asks up to this turn, this taken in
+    abbrev AreAsked : List Item → Type 0
+    AreAsked items = (are_asked_so items (asked_by z.iface z.ask script (suc a.turns)) ≡ true) × (length items ≡ length (asked_by z.iface z.ask script (suc a.turns)))
+
+    none_asked : its_asks ≡ [] → AreAsked a.items
+    none_asked none =
+        let same : asked_by z.iface z.ask script (suc a.turns) ≡ asked_by z.iface z.ask script a.turns =
+        asked_so_far ∙ ap (λ l. asked_by z.iface z.ask script a.turns ++ l) none ∙ append-nil (asked_by z.iface z.ask script a.turns) in
+        (ap (are_asked_so a.items) same ∙ a.asks, a.all_asked ∙ sym (ap length same))
+
+    one_asked : (item : Item) (call : AskedCall) → its_asks ≡ call ∷ [] → is_asked_so item call ≡ true → AreAsked (a.items ++ item ∷ [])
+    one_asked item call one own =
+        let same : asked_by z.iface z.ask script (suc a.turns) ≡ asked_by z.iface z.ask script a.turns ++ call ∷ [] =
+        asked_so_far ∙ ap (λ l. asked_by z.iface z.ask script a.turns ++ l) one in
+        let long : length (a.items ++ item ∷ []) ≡ length (asked_by z.iface z.ask script a.turns ++ call ∷ []) =
+        omega (arith, length-append a.items (item ∷ []), length-append (asked_by z.iface z.ask script a.turns) (call ∷ []), a.all_asked) in (
+          ap (are_asked_so (a.items ++ item ∷ [])) same ∙ asked_more a.items (asked_by z.iface z.ask script a.turns) item call a.asks a.all_asked own,
+          long ∙ sym (ap length same),
+        )
+
+    -- the item of the client's call, which the guard lets pass and the service answers so
+    call_asked : s.phase ≡ Asked → guard z.iface (object_of z.iface.facts x.history) s.call ≡ None → (reply : Option Reply) → z.ask (object_of z.iface.facts x.history) s.call ≡ reply
+        → (item : Item) → item.tag ≡ Client c s.call.seq → is_outcome_so item.outcome (not (is_some reply)) ≡ true → AreAsked (a.items ++ item ∷ [])
+    call_asked asked_now passes reply answers item tag out =
+        let offers = offers_by Asked asked_now refl in
+        let number_is : s.call.seq ≡ handed s + 1 = number offers ∙ ap (λ n. n + 1) (sym (handed_offering s offers)) in
+        one_asked item (record { client = c; seq = handed s + 1; waited = not (is_some reply) })
+        (asks_passes z.iface z.ask script x.history x.seats c first last is.callers schedule c offers asked_now passes reply answers)
+        (own_asked item c s.call.seq (handed s + 1) (not (is_some reply)) tag number_is out)
+
     -- it goes on
     goes_on : (h : List Entry) (boots : List Boot) (running : Option Object) (l : List Seat) (items : List Item) → boots ≡ record { items = items; stop = None } ∷ [] → IsSome running
-        → IsAllThere z.iface.facts h items → ((client : ℕ) → 1 ≤ client → HeldFirst (seat_in l client)) → its_turn ≡ with_these h l → NeverStopped z script h boots running l (with_these h l)
-    goes_on h boots running l items one up there held same = record {
+        → IsAllThere z.iface.facts h items → ((client : ℕ) → 1 ≤ client → HeldFirst (seat_in l client)) → its_turn ≡ with_these h l → AreAsked items → NeverStopped z script h boots running l (with_these h l)
+    goes_on h boots running l items one up there held same asked_then = record {
       items = items;
       one = one;
       up = up;
@@ -244,6 +296,8 @@ module _ (z : Setting) (script : Script) (x : WorldView) (given : List (List ℕ
       held = held;
       turns = suc a.turns;
       at = sym same ∙ turned_on;
+      asks = asked_then.0;
+      all_asked = asked_then.1;
     }
 
     history_is : x.history ≡ (stage_after z.iface z.ask script a.turns).history
@@ -270,8 +324,17 @@ module _ (z : Setting) (script : Script) (x : WorldView) (given : List (List ℕ
     -- ---- the lines
 
     now_skips : (w : WorldView) → Skips z x c w → Now w
-    now_skips w l = subst Now (sym l.now) (inl (goes_on x.history x.run.boots x.running x.seats a.items a.one a.up a.all_there a.held (by l.phase)))
+    now_skips w l = subst Now (sym l.now) (inl (goes_on x.history x.run.boots x.running x.seats a.items a.one a.up a.all_there a.held (by l.phase) (none_asked (asks_none l.phase))))
       where
+        asks_none : (s.phase ≡ Idle) ⊎ (s.phase ≡ Blocked) ⊎ (s.phase ≡ Left) → its_asks ≡ []
+        asks_none (inl idle) =
+            let free : is_free_phase s.phase ≡ true = ap is_free_phase idle in
+            asks_over z.iface z.ask script x.history x.seats c first last is.callers schedule c free (offered_first free)
+        asks_none (inr (inl waits)) = asks_blocked z.iface z.ask script x.history x.seats c first last is.callers schedule c waits
+        asks_none (inr (inr left)) =
+            let free : is_free_phase s.phase ≡ true = ap is_free_phase left in
+            asks_over z.iface z.ask script x.history x.seats c first last is.callers schedule c free (offered_first free)
+
         by : (s.phase ≡ Idle) ⊎ (s.phase ≡ Blocked) ⊎ (s.phase ≡ Left) → its_turn ≡ with_these x.history x.seats
         by (inl idle) =
             let free : is_free_phase s.phase ≡ true = ap is_free_phase idle in
@@ -285,16 +348,17 @@ module _ (z : Setting) (script : Script) (x : WorldView) (given : List (List ℕ
     now_hands_over reply w l = subst Now (sym l.now)
         (let new : Seat = record s { phase = Idle; reply = no_reply } in
         inl (goes_on x.history x.run.boots x.running (slice_set x.seats (c - 1) new) a.items a.one a.up a.all_there (held_set new (λ held. absurd (cc held)))
-        (turn_handed z.iface z.ask script x.history x.seats c first last is.callers schedule c new l.phase ((f.hold c first).receipt l.phase) refl)))
+        (turn_handed z.iface z.ask script x.history x.seats c first last is.callers schedule c new l.phase ((f.hold c first).receipt l.phase) refl)
+        (none_asked (asks_handed z.iface z.ask script x.history x.seats c first last is.callers schedule c l.phase))))
 
     -- a call is entered, whose client is handed its reply
     entered : (reply : Reply) (w : WorldView) → is_offered s.phase ≡ true → w ≡ answered_to (committed z.iface.facts x (entry_by reply)) (entry_by reply)
         → IsAllThere z.iface.facts (x.history ++ entry_by reply ∷ []) a.items
-        → its_turn ≡ with_these (x.history ++ entry_by reply ∷ []) (slice_set (woken reply) (c - 1) (behind reply Idle no_reply)) → Now w
-    entered reply w offers now there same = subst Now (sym now)
+        → its_turn ≡ with_these (x.history ++ entry_by reply ∷ []) (slice_set (woken reply) (c - 1) (behind reply Idle no_reply)) → its_asks ≡ [] → Now w
+    entered reply w offers now there same none = subst Now (sym now)
         (inl (subst (λ l. NeverStopped z script (x.history ++ entry_by reply ∷ []) x.run.boots x.running l (with_these (x.history ++ entry_by reply ∷ []) l)) (sym (answered_seats reply offers))
         (goes_on (x.history ++ entry_by reply ∷ []) x.run.boots x.running (slice_set (woken reply) (c - 1) (behind reply Idle no_reply)) a.items a.one a.up there
-        (held_entered reply (behind reply Idle no_reply) (λ held. absurd (cc held))) same)))
+        (held_entered reply (behind reply Idle no_reply) (λ held. absurd (cc held))) same (none_asked none))))
 
     -- the client goes on to its next call
     next_player : (reply : Reply) → is_offered s.phase ≡ true → player_by script c (behind reply Idle no_reply) ≡ player_at (workload_of script) c (handed (seat_in (woken reply) c) + 1)
@@ -306,6 +370,7 @@ module _ (z : Setting) (script : Script) (x : WorldView) (given : List (List ℕ
         entered s.reply w offers (subst (λ r. w ≡ answered_to (committed z.iface.facts x (entry_by r)) (entry_by r)) l.its l.now)
         (there_hidden z.iface.facts x.history s.call s.reply a.items a.all_there ((f.hold c first).hidden l.phase))
         (turn_held z.iface z.ask script x.history x.seats c first last is.callers schedule c offers (behind s.reply Idle no_reply) l.phase (next_player s.reply offers))
+        (asks_held z.iface z.ask script x.history x.seats c first last is.callers schedule c l.phase)
 
     now_refuses : (reply : Reply) (w : WorldView) → Refuses z x c reply w → Now w
     now_refuses reply w l =
@@ -313,6 +378,7 @@ module _ (z : Setting) (script : Script) (x : WorldView) (given : List (List ℕ
         entered (Refused l.code) w offers (subst (λ r. w ≡ answered_to (committed z.iface.facts x (entry_by r)) (entry_by r)) l.its l.now)
         (there_refused z.iface.facts x.history s.call (Refused l.code) a.items a.all_there a.items (λ test any. any) (λ good same. cc same))
         (turn_refused z.iface z.ask script x.history x.seats c first last is.callers schedule c offers l.phase l.code (behind (Refused l.code) Idle no_reply) l.guarded (next_player (Refused l.code) offers))
+        (asks_refused z.iface z.ask script x.history x.seats c first last is.callers schedule c offers l.phase l.code l.guarded)
 
     now_loses : (w : WorldView) → Loses z x c w → Now w
     now_loses w l = absurd (by l.gone)
@@ -322,18 +388,31 @@ module _ (z : Setting) (script : Script) (x : WorldView) (given : List (List ℕ
         by (inr other) = other (a.held c first l.phase ∙ sym (ap length a.one))
 
     -- the service stops before an entry
-    stops : (boots : List Boot) (items : List Item) (stop : ℕ) → boots ≡ record { items = items; stop = Some stop } ∷ [] → IsPastStop z script x.history boots None
-    stops boots items stop one = stops_first z script x.history boots items stop a.turns one history_is
+    stops : (boots : List Boot) (items : List Item) (stop asked_then : ℕ) → boots ≡ record { items = items; stop = Some stop } ∷ [] → are_asked_so items (asked_by z.iface z.ask script asked_then) ≡ true
+        → IsPastStop z script x.history boots None
+    stops boots items stop asked_then one so_asked = stops_first z script x.history boots items stop a.turns one history_is asked_then so_asked
 
     now_stops : (stop : ℕ) (w : WorldView) → w ≡ struck_at x stop → Now w
-    now_stops stop w now = subst Now (sym now) (inr (stops (struck x.run.boots stop) a.items stop (ap (λ l. struck l stop) a.one)))
+    now_stops stop w now = subst Now (sym now) (inr (stops (struck x.run.boots stop) a.items stop a.turns (ap (λ l. struck l stop) a.one) a.asks))
 
-    now_stops_within : (item : Item) (w : WorldView) → w ≡ struck_at (item_noted x item) item.points → Now w
-    now_stops_within item w now = subst Now (sym now) (inr (stops (struck (noted x.run.boots item) item.points) (a.items ++ item ∷ []) item.points (ap (λ l. struck l item.points) (noted_is item))))
+    -- or within the client's call
+    now_stops_within : (w : WorldView) → StopsCall z x c w → Now w
+    now_stops_within w l =
+        let item = l.asks.item in
+        let let_in = l.asks.reaches.uses.let_in in
+        subst Now (sym l.now)
+        (inr (stops (struck (noted x.run.boots item) item.points) (a.items ++ item ∷ []) item.points (suc a.turns) (ap (λ l. struck l item.points) (noted_is item))
+        (call_asked let_in.phase let_in.passes (z.ask (object_of z.iface.facts x.history) s.call) refl item l.asks.tag
+        (ap (λ o. is_outcome_so o (not (is_some (z.ask (object_of z.iface.facts x.history) s.call)))) l.outcome)).0))
 
     -- nothing is to be brought back
     now_replays : (w : WorldView) → Replays z x c w → ⊥
     now_replays w l =
+        let next : IsNextItem (stubs_of z) x.history (unanswered x) (last_place [] a.items l.item) = subst (λ b. IsNextItem (stubs_of z) x.history (unanswered x) (place_after [] b l.item)) a.one l.noted.next in
+        none_walked z.iface.facts (stubs_of z) x.history a.items l.item l.id l.k c a.all_there has l.tag next.settled.walk
+
+    now_stops_replay : (w : WorldView) → StopsReplay z x c w → ⊥
+    now_stops_replay w l =
         let next : IsNextItem (stubs_of z) x.history (unanswered x) (last_place [] a.items l.item) = subst (λ b. IsNextItem (stubs_of z) x.history (unanswered x) (place_after [] b l.item)) a.one l.noted.next in
         none_walked z.iface.facts (stubs_of z) x.history a.items l.item l.id l.k c a.all_there has l.tag next.settled.walk
 
@@ -350,7 +429,9 @@ module _ (z : Setting) (script : Script) (x : WorldView) (given : List (List ℕ
         inl (goes_on x.history (noted x.run.boots l.asks.item) x.running (slice_set x.seats (c - 1) new) (a.items ++ l.asks.item ∷ []) (noted_is l.asks.item) a.up
         (there_noted z.iface.facts x.history a.items l.asks.item a.all_there) (held_set new (λ held. absurd (cc held)))
         (turn_waits z.iface z.ask script x.history x.seats c first last is.callers schedule c offers l.asks.reaches.uses.let_in.phase passes new
-        (asked z (object_of z.iface.facts x.history) s.call None passes l.none) (ap (λ n. record { done = n; phase = blocked }) (sym (handed_offering s offers))))))
+        (asked z (object_of z.iface.facts x.history) s.call None passes l.none) (ap (λ n. record { done = n; phase = blocked }) (sym (handed_offering s offers))))
+        (call_asked l.asks.reaches.uses.let_in.phase passes None (asked z (object_of z.iface.facts x.history) s.call None passes l.none) l.asks.item l.asks.tag
+        (ap (λ o. is_outcome_so o true) l.outcome))))
 
     now_holds : (w : WorldView) → Holds z x c w → Now w
     now_holds w l = subst Now (sym l.now)
@@ -360,7 +441,9 @@ module _ (z : Setting) (script : Script) (x : WorldView) (given : List (List ℕ
         inl (goes_on x.history (noted x.run.boots l.asks.item) (Some (after_item z.iface.facts l.asks.service l.asks.item)) (slice_set x.seats (c - 1) new) (a.items ++ l.asks.item ∷ []) (noted_is l.asks.item) refl
         (there_noted z.iface.facts x.history a.items l.asks.item a.all_there) (held_set new (λ held. ap length a.one))
         (turn_holds z.iface z.ask script x.history x.seats c first last is.callers schedule c offers l.asks.reaches.uses.let_in.phase passes l.reply new
-        (asked z (object_of z.iface.facts x.history) s.call (Some l.reply) passes l.answers) l.hidden (ap (λ n. record { done = n; phase = holding l.reply }) (sym (handed_offering s offers))))))
+        (asked z (object_of z.iface.facts x.history) s.call (Some l.reply) passes l.answers) l.hidden (ap (λ n. record { done = n; phase = holding l.reply }) (sym (handed_offering s offers))))
+        (call_asked l.asks.reaches.uses.let_in.phase passes (Some l.reply) (asked z (object_of z.iface.facts x.history) s.call (Some l.reply) passes l.answers) l.asks.item l.asks.tag
+        (replied_so l.asks.item.outcome l.outcome))))
 
     -- ---- a commit
 
@@ -413,17 +496,20 @@ module _ (z : Setting) (script : Script) (x : WorldView) (given : List (List ℕ
           new_number = subst (λ n. NoneHas n s.call.seq x.history) (sym (its offering)) (subst (λ n. NoneHas c n x.history) (sym (counted offering))
               (next_is_new z.iface.facts x.history c (script_calls script c) (is.callers.each c first last).made))
 
+      asked_then : AreAsked (a.items ++ l.asks.item ∷ [])
+      asked_then = call_asked at_asked passing (Some l.reply) answering l.asks.item l.asks.tag (replied_so l.asks.item.outcome l.outcome)
+
       now_commits : Each (HasItem z.iface.facts w.history w.run) w.history → Now w
       now_commits served =
           inl (subst (λ (y : WorldView). NeverStopped z script y.history w.run.boots y.running y.seats (stage_of script y later c)) (sym l.now)
           (subst (λ k. NeverStopped z script (x.history ++ entry_by l.reply ∷ []) w.run.boots (Some (after_item z.iface.facts l.asks.service l.asks.item)) k (with_these (x.history ++ entry_by l.reply ∷ []) k)) (sym (given_seats l.reply offering))
           (goes_on (x.history ++ entry_by l.reply ∷ []) w.run.boots (Some (after_item z.iface.facts l.asks.service l.asks.item)) (slice_set (woken l.reply) (c - 1) new_seat) (a.items ++ l.asks.item ∷ []) boots_now refl
-          (there_then served) (held_entered l.reply new_seat (λ held. absurd (cc held))) turn_is_commit)))
+          (there_then served) (held_entered l.reply new_seat (λ held. absurd (cc held))) turn_is_commit asked_then)))
 
       -- or the service stops after it
-      stops_behind : (stop : ℕ) → IsPastStop z script w.history (struck w.run.boots stop) None
-      stops_behind stop =
-          stops_first z script w.history (struck w.run.boots stop) (a.items ++ l.asks.item ∷ []) stop (suc a.turns) (ap (λ b. struck b stop) boots_now) (history_now ∙ history_then)
+      stops_after : (stop : ℕ) → IsPastStop z script w.history (struck w.run.boots stop) None
+      stops_after stop =
+          stops_first z script w.history (struck w.run.boots stop) (a.items ++ l.asks.item ∷ []) stop (suc a.turns) (ap (λ b. struck b stop) boots_now) (history_now ∙ history_then) (suc a.turns) asked_then.0
 
     now_stepped : (did : Did) (w : WorldView) → Steps z x c did w → (did ≡ Served → Each (HasItem z.iface.facts w.history w.run) w.history) → Now w
     now_stepped Skipped w l served = now_skips w l
@@ -433,9 +519,9 @@ module _ (z : Setting) (script : Script) (x : WorldView) (given : List (List ℕ
     now_stepped Lost w l served = now_loses w l
     now_stepped Booted w l served = absurd (down_never l.failed)
     now_stepped Struck w (inl l) served = now_stops (asked_after x.run.points 1) w l.now
-    now_stepped Struck w (inr (inl l)) served = now_stops_within l.item w l.now
-    now_stepped Struck w (inr (inr (inl l))) served = now_stops_within l.asks.item w l.now
-    now_stepped Struck w (inr (inr (inr l))) served = subst Now (sym l.now) (inr (stops_behind l.between l.commits (asked_after l.between.run.points 1)))
+    now_stepped Struck w (inr (inl l)) served = absurd (now_stops_replay w l)
+    now_stepped Struck w (inr (inr (inl l))) served = now_stops_within w l
+    now_stepped Struck w (inr (inr (inr l))) served = subst Now (sym l.now) (inr (stops_after l.between l.commits (asked_after l.between.run.points 1)))
     now_stepped Replayed w l served = absurd (now_replays w l)
     now_stepped Loaded w l served = absurd (now_loads w l)
     now_stepped Waits w l served = now_waits w l

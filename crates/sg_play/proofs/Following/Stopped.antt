@@ -16,6 +16,8 @@ use Rattle.sg_plain.proofs.sg_hist.Growing.{items_booted, items_more, items_stru
 use Rattle.sg_plain.specs.sg_hist.Growing.{booted, noted, struck}
 use Rattle.sg_plain.specs.sg_script.declared.script.Script.{Script}
 use Rattle.sg_world.specs.sg_world_laws.Setting.{Setting}
+use Rattle.sg_play.specs.Asked.{are_asked_so}
+use Rattle.sg_play.specs.Following.Asking.{asked_by}
 use Rattle.sg_play.specs.Following.Follows.{IsPastStop}
 use Rattle.sg_play.proofs.Following.Created.{any_left, any_right}
 
@@ -99,6 +101,8 @@ module _ (z : Setting) (script : Script) (history : List Entry) (boots : List Bo
     more = s.more ++ e ∷ [];
     entries = ap (λ h. h ++ e ∷ []) s.entries ∙ append_assoc (stage_after z.iface z.ask script s.turns).history s.more (e ∷ []);
     later = list_any-append (is_in_first_boot z.iface.facts boots) s.more (e ∷ []) ∙ both (list_any (is_in_first_boot z.iface.facts boots) s.more) (is_in_first_boot z.iface.facts boots e) s.later not_first;
+    asked = s.asked;
+    asks = s.asks;
   }
     where
       both : (a b : Bool) → a ≡ false → b ≡ false → (a || (b || false)) ≡ false
@@ -120,6 +124,8 @@ module _ (z : Setting) (script : Script) (history : List Entry) (boots : List Bo
     entries = s.entries;
     later = ap (λ b. list_any (is_in_first_boot z.iface.facts b) s.more) is
         ∙ later_on z.iface.facts s.first s.newer grown more s.more (ap (λ b. list_any (is_in_first_boot z.iface.facts b) s.more) (sym s.are) ∙ s.later);
+    asked = s.asked;
+    asks = s.asks;
   }
 
   pub stopped_booted : (up : Option Object) → IsPastStop z script history (booted boots) up
@@ -161,8 +167,8 @@ stopped_committed z script history boots running s runs item e own up =
 -- ---- the first stop
 
 pub stops_first : (z : Setting) (script : Script) (history : List Entry) (boots : List Boot) (items : List Item) (stop turns : ℕ) → boots ≡ record { items = items; stop = Some stop } ∷ []
-    → history ≡ (stage_after z.iface z.ask script turns).history → IsPastStop z script history boots None
-stops_first z script history boots items stop turns are is = record {
+    → history ≡ (stage_after z.iface z.ask script turns).history → (asked : ℕ) → are_asked_so items (asked_by z.iface z.ask script asked) ≡ true → IsPastStop z script history boots None
+stops_first z script history boots items stop turns are is asked asks = record {
   first = record { items = items; stop = Some stop };
   newer = [];
   are = are;
@@ -172,4 +178,6 @@ stops_first z script history boots items stop turns are is = record {
   more = [];
   entries = is ∙ sym (append-nil (stage_after z.iface z.ask script turns).history);
   later = refl;
+  asked = asked;
+  asks = asks;
 }

@@ -32,7 +32,7 @@ use Rattle.sg_plain.proofs.sg_hist.Growing.{entries_before-not_yet, object_of-mo
 use Rattle.sg_world.proofs.sg_recovery_laws.Lists.{each_split}
 use Rattle.sg_world.proofs.sg_recovery_laws.Served.{item_of-own}
 use Rattle.sg_world.specs.sg_recovery_laws.LastItem.LastPlace.{HaveItems, last_place}
-use Rattle.sg_world.proofs.sg_recovery_laws.LastItem.Behind.{object_before_last}
+use Rattle.sg_world.proofs.sg_recovery_laws.LastItem.Later.{object_before_last}
 use Rattle.sg_facts.proofs.Replaying.Files.{told}
 use Rattle.sg_facts.proofs.Replaying.Found.{same_test}
 use Rattle.sg_play.specs.Following.Follows.{IsAllThere}

@@ -1,5 +1,5 @@
 -- What a turn of the play without stops makes of the stage of a play, by what the client's seat is at.
-use Rattle.std.proofs.Common.{◌≡◌, ℕ, ◌+◌, ◌-◌, ◌<◌, ◌≤◌, true, false, cond, List, [], ◌∷◌, ◌++◌, None, Some, length, map, refl, sym, ◌∙◌, ap, subst, arith, slice_set}
+use Rattle.std.proofs.Common.{◌≡◌, ℕ, ◌+◌, ◌-◌, ◌<◌, ◌≤◌, true, false, cond, is_some, not, List, [], ◌∷◌, ◌++◌, None, Some, length, map, refl, sym, ◌∙◌, ap, subst, arith, slice_set}
 use Rattle.std.specs.Prelude.{nat_lt, slice_get, unwrap_or}
 use Rattle.std.specs.declared.option.Option.{Option}
 use Rattle.sg_facts.specs.sg_base.declared.reply.Code.{Code}
@@ -22,6 +22,8 @@ use Rattle.sg_plain.specs.sg_script.declared.script.Script.{Script}
 use Rattle.sg_plain.specs.sg_clients.WorldView.{Seat, is_offered, no_seat, seat_in, wakes_seat, woken_seat}
 use Rattle.sg_plain.specs.sg_clients.declared.phase.Phase.{Phase as SeatPhase}
 use Rattle.sg_plain.specs.sg_clients.declared.phase.Phase.TheVariants.{Idle, Asked, Held, Receipted, Blocked, Left}
+use Rattle.sg_play.specs.Asked.{Asked as AskedCall, asked_in_turn}
+use Rattle.sg_play.specs.Following.Asking.{asked_after_guard, asked_by_call}
 use Rattle.sg_play.specs.Following.Stages.{phase_by, player_by, players_by}
 use Rattle.sg_play.proofs.Following.Players.{get_player, has_more, set_player, woken_players}
 
@@ -64,6 +66,13 @@ module _ (i : Declared) (ask : Table) (script : Script) (history : List Entry) (
 
   turn_by : (p : PlainPhase) → (player_of now c).phase ≡ p → turn ≡ turned (one_service i ask script) (workload_of script) c now p
   turn_by p is = ap (turned (one_service i ask script) (workload_of script) c now) is
+
+  -- what the client's turn asks
+  abbrev pub asks : List AskedCall
+  asks = asked_in_turn (one_service i ask script) c now (player_of now c).phase
+
+  asks_by : (p : PlainPhase) → (player_of now c).phase ≡ p → asks ≡ asked_in_turn (one_service i ask script) c now p
+  asks_by p is = ap (asked_in_turn (one_service i ask script) c now) is
 
   -- ---- changes of the client's player
 
@@ -120,6 +129,31 @@ module _ (i : Declared) (ask : Table) (script : Script) (history : List Entry) (
       by Receipted is free = absurd (cc free)
       by Blocked is free = absurd (cc free)
 
+  pub asks_blocked : s.phase ≡ Blocked → asks ≡ []
+  asks_blocked is = asks_by blocked (phase_is Blocked is)
+
+  pub asks_over : is_free_phase s.phase ≡ true → nat_lt s.seq (length (script_calls script c)) ≡ false → asks ≡ []
+  asks_over free over = by s.phase refl free
+    where
+      rest : (p : SeatPhase) → s.phase ≡ p → is_receipted p ≡ false → phase_by p s.reply (player_at (workload_of script) c (handed s)).phase ≡ (player_at (workload_of script) c (handed s)).phase → asks ≡ []
+      rest p is none going =
+          let same : handed s ≡ s.seq = ap (λ b. cond b (s.seq - 1) s.seq) (ap is_receipted is ∙ none) in
+          asks_by through (phase_is p is ∙ going ∙ ap (λ n. (player_at (workload_of script) c n).phase) same ∙ ap (λ b. cond b ready through) over)
+
+      by : (p : SeatPhase) → s.phase ≡ p → is_free_phase p ≡ true → asks ≡ []
+      by Idle is free = rest Idle is refl refl
+      by Left is free = rest Left is refl refl
+      by Asked is free = absurd (cc free)
+      by Held is free = absurd (cc free)
+      by Receipted is free = absurd (cc free)
+      by Blocked is free = absurd (cc free)
+
+  pub asks_handed : s.phase ≡ Receipted → asks ≡ []
+  asks_handed is = asks_by replied (phase_is Receipted is)
+
+  pub asks_held : s.phase ≡ Held → asks ≡ []
+  asks_held is = asks_by (holding s.reply) (phase_is Held is)
+
   -- ---- a receipt
 
   pub turn_handed : (new : Seat) → s.phase ≡ Receipted → 1 ≤ s.seq → player_by script c new ≡ player_at (workload_of script) c s.seq → turn ≡ stage_with history (slice_set seats (c - 1) new)
@@ -150,6 +184,22 @@ module _ (i : Declared) (ask : Table) (script : Script) (history : List Entry) (
       turn_asked =
           turn_by ready (phase_is Asked is ∙ ap (λ b. cond b ready through) (has_more i.facts script history c (handed s) s.call next_is))
           ∙ ap (after_call (one_service i ask script) (workload_of script) c now) called
+
+      asks_asked : asks ≡ asked_after_guard (one_service i ask script) c now s.call (guard i (object_of i.facts history) s.call)
+      asks_asked =
+          asks_by ready (phase_is Asked is ∙ ap (λ b. cond b ready through) (has_more i.facts script history c (handed s) s.call next_is))
+          ∙ ap (asked_by_call (one_service i ask script) c now) called
+
+      pub asks_refused : (code : Code) → guard i (object_of i.facts history) s.call ≡ Some code → asks ≡ []
+      asks_refused code refuses = asks_asked ∙ ap (asked_after_guard (one_service i ask script) c now s.call) refuses
+
+      -- or lets it pass, with this number and this answer
+      pub asks_passes : guard i (object_of i.facts history) s.call ≡ None → (reply : Option Reply) → ask (object_of i.facts history) s.call ≡ reply
+          → asks ≡ record { client = c; seq = handed s + 1; waited = not (is_some reply) } ∷ []
+      asks_passes passes reply answers =
+          asks_asked ∙ ap (asked_after_guard (one_service i ask script) c now s.call) passes
+          ∙ ap (λ n. record { client = c; seq = n + 1; waited = not (is_some (ask (object_of i.facts history) s.call)) } ∷ []) done_is
+          ∙ ap (λ r. record { client = c; seq = handed s + 1; waited = not (is_some r) } ∷ []) answers
 
       -- the guard refuses it
       pub turn_refused : (code : Code) (new : Seat) → guard i (object_of i.facts history) s.call ≡ Some code → player_by script c new ≡ player_at (workload_of script) c (handed (seat_in (woken (Refused code)) c) + 1)

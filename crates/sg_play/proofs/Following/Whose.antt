@@ -138,19 +138,19 @@ module _ (script : Script) (w : WorldView) (passed last : ℕ) where
       ends_schedule = drop_whole script.schedule ∙ sym (left_is ∙ skipped.1)
 
       -- then the next after the last turn's client that can
-      pub next_behind : (client : ℕ) → last < client → client ≤ length w.seats → may_turn s client ≡ true → ((other : ℕ) → last < other → other < client → may_turn s other ≡ false)
+      pub next_after : (client : ℕ) → last < client → client ≤ length w.seats → may_turn s client ≡ true → ((other : ℕ) → last < other → other < client → may_turn s other ≡ false)
           → IsNextTurn script s client (length script.schedule)
-      next_behind client above within may before = record {
+      next_after client above within may before = record {
         turn = circle_is ∙ first_front s (ascending_from (last + 1) (length s.players - last)) (ascending_from 1 last) client
             (first_above s (last + 1) (length s.players - last) client (omega (arith, above)) (omega (arith, above, within, clients_alike script w passed last)) may
             (λ other from. before other (omega (arith, from))));
         schedule = ends_schedule;
       }
 
-      module _ (none_behind : (other : ℕ) → last < other → other ≤ length w.seats → may_turn s other ≡ false) where
+      module _ (none_later : (other : ℕ) → last < other → other ≤ length w.seats → may_turn s other ≡ false) where
         back : first_of s (in_a_circle s) ≡ first_of s (ascending_from 1 last)
         back = first_back s (ascending_from (last + 1) (length s.players - last)) (ascending_from 1 last)
-            (none_above s (last + 1) (length s.players - last) (λ other from below. none_behind other (omega (arith, from)) (omega (arith, from, below, clients_alike script w passed last))))
+            (none_above s (last + 1) (length s.players - last) (λ other from below. none_later other (omega (arith, from)) (omega (arith, from, below, clients_alike script w passed last))))
 
         -- and then the first from 1 on
         pub next_around : (client : ℕ) → 1 ≤ client → client ≤ last → may_turn s client ≡ true → ((other : ℕ) → 1 ≤ other → other < client → may_turn s other ≡ false)

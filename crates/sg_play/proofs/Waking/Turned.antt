@@ -19,7 +19,7 @@ use Rattle.sg_plain.specs.sg_clients.declared.phase.Phase.{Phase}
 use Rattle.sg_plain.specs.sg_clients.declared.phase.Phase.TheVariants.{Idle, Asked, Held, Receipted, Blocked, Left}
 use Rattle.sg_world.proofs.sg_world_laws.Ending.Seats.{here_entered, length_entered}
 use Rattle.sg_play.proofs.Waking.Shapes.{call_is_own}
-use Rattle.sg_world.proofs.sg_world_laws.Ending.Shapes.{answered_seats, entry_with, given_seats, seat_behind, woken}
+use Rattle.sg_world.proofs.sg_world_laws.Ending.Shapes.{answered_seats, entry_with, given_seats, seat_after, woken}
 use Rattle.sg_play.proofs.Waking.Waiting.{legal_last, line_committed, line_noted, line_refused, line_returned, line_stopped, line_stub, woken_booted, woken_set, woken_struck}
 use Rattle.sg_play.proofs.Waking.Woken.{moves_free, moves_to, replied_goes, stopped_goes}
 use Rattle.sg_plain.specs.Answering.{no_query_waits}
@@ -53,7 +53,7 @@ module _ (z : Setting) (script : Script) (x : WorldView) (given : List (List ℕ
   committed : no_query_waits z.iface.facts ≡ true → AreWokenSoFar z.iface.facts x.history x.run.boots x.seats → (between : WorldView) → Commits z x c between → AreWokenSoFar facts between.history between.run.boots between.seats
   committed queries is_woken between l =
       let asked = l.asks.reaches.uses.let_in.phase in
-      woken_at between (x.history ++ entry_with facts x c l.reply ∷ []) (noted x.run.boots l.asks.item) (slice_set (woken facts x c l.reply) (c - 1) (seat_behind facts x c l.reply Receipted l.reply))
+      woken_at between (x.history ++ entry_with facts x c l.reply ∷ []) (noted x.run.boots l.asks.item) (slice_set (woken facts x c l.reply) (c - 1) (seat_after facts x c l.reply Receipted l.reply))
       (ap (λ w. w.history) l.now) (ap (λ w. w.run.boots) l.now) (ap (λ w. w.seats) l.now ∙ given_seats facts x c l.reply (its (offers_by Asked asked refl)))
       (line_committed z script x given c first last playing before queries is_woken l.asks.item l.asks.tag l.asks.shown asked l.reply (replied_goes l.asks.item.outcome l.outcome) l.answers)
 
@@ -65,12 +65,12 @@ module _ (z : Setting) (script : Script) (x : WorldView) (given : List (List ℕ
       (woken_set facts x.history x.run.boots x.seats c new first last
       (moves_free facts s new (omega arith) (λ offers. absurd (let none : is_offered s.phase ≡ false = ap is_offered l.phase in cc (none, offers))) refl refl) is_woken)
   woken_step queries is_woken (Answered reply) later legal (inr (inl l)) =
-      woken_at later (x.history ++ entry_with facts x c reply ∷ []) x.run.boots (slice_set (woken facts x c reply) (c - 1) (seat_behind facts x c reply Idle no_reply))
+      woken_at later (x.history ++ entry_with facts x c reply ∷ []) x.run.boots (slice_set (woken facts x c reply) (c - 1) (seat_after facts x c reply Idle no_reply))
       (ap (λ w. w.history) l.now) (ap (λ w. w.run.boots) l.now) (ap (λ w. w.seats) l.now ∙ answered_seats facts x c reply (its (offers_by Held l.phase refl)))
       (line_returned z script x given c first last playing before queries is_woken reply no_reply l.phase
       (legal_last z.iface z.ask empty_object x.history (entry_with facts x c reply) (subst (LegalFrom z.iface z.ask empty_object) (ap (λ w. w.history) l.now) legal)))
   woken_step queries is_woken (Answered reply) later legal (inr (inr l)) =
-      woken_at later (x.history ++ entry_with facts x c reply ∷ []) x.run.boots (slice_set (woken facts x c reply) (c - 1) (seat_behind facts x c reply Idle no_reply))
+      woken_at later (x.history ++ entry_with facts x c reply ∷ []) x.run.boots (slice_set (woken facts x c reply) (c - 1) (seat_after facts x c reply Idle no_reply))
       (ap (λ w. w.history) l.now) (ap (λ w. w.run.boots) l.now) (ap (λ w. w.seats) l.now ∙ answered_seats facts x c reply (its (offers_by Asked l.phase refl)))
       (line_refused z script x given c first last playing before queries is_woken reply l.code no_reply l.phase l.guarded l.its)
   woken_step queries is_woken Lost later legal l =
@@ -120,20 +120,20 @@ module _ (z : Setting) (script : Script) (x : WorldView) (given : List (List ℕ
   idle_step reply later (inl l) = ap (λ w. (seat_of w c).phase) l.now ∙ ap (λ (t : Seat). t.phase) (seat_here x.seats c (record s { phase = Idle; reply = no_reply }) first last)
   idle_step reply later (inr (inl l)) =
       ap (λ l. (seat_in l c).phase) (ap (λ w. w.seats) l.now ∙ answered_seats facts x c reply (its (offers_by Held l.phase refl)))
-      ∙ ap (λ (t : Seat). t.phase) (here_entered (wakes_seat facts (object_of facts x.history).rows s.call reply) x.seats c (seat_behind facts x c reply Idle no_reply) first last)
+      ∙ ap (λ (t : Seat). t.phase) (here_entered (wakes_seat facts (object_of facts x.history).rows s.call reply) x.seats c (seat_after facts x c reply Idle no_reply) first last)
   idle_step reply later (inr (inr l)) =
       ap (λ l. (seat_in l c).phase) (ap (λ w. w.seats) l.now ∙ answered_seats facts x c reply (its (offers_by Asked l.phase refl)))
-      ∙ ap (λ (t : Seat). t.phase) (here_entered (wakes_seat facts (object_of facts x.history).rows s.call reply) x.seats c (seat_behind facts x c reply Idle no_reply) first last)
+      ∙ ap (λ (t : Seat). t.phase) (here_entered (wakes_seat facts (object_of facts x.history).rows s.call reply) x.seats c (seat_after facts x c reply Idle no_reply) first last)
 
   -- the clients stay as many
   pub same_clients : (reply : Reply) (later : WorldView) → Steps z x c (Answered reply) later → length later.seats ≡ length x.seats
   same_clients reply later (inl l) = ap (λ w. length w.seats) l.now ∙ length_set x.seats (c - 1) (record s { phase = Idle; reply = no_reply })
   same_clients reply later (inr (inl l)) =
       ap length (ap (λ w. w.seats) l.now ∙ answered_seats facts x c reply (its (offers_by Held l.phase refl)))
-      ∙ length_entered (wakes_seat facts (object_of facts x.history).rows s.call reply) x.seats c (seat_behind facts x c reply Idle no_reply)
+      ∙ length_entered (wakes_seat facts (object_of facts x.history).rows s.call reply) x.seats c (seat_after facts x c reply Idle no_reply)
   same_clients reply later (inr (inr l)) =
       ap length (ap (λ w. w.seats) l.now ∙ answered_seats facts x c reply (its (offers_by Asked l.phase refl)))
-      ∙ length_entered (wakes_seat facts (object_of facts x.history).rows s.call reply) x.seats c (seat_behind facts x c reply Idle no_reply)
+      ∙ length_entered (wakes_seat facts (object_of facts x.history).rows s.call reply) x.seats c (seat_after facts x c reply Idle no_reply)
 
 -- ---- a client leaves
 

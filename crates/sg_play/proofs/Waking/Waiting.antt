@@ -39,7 +39,7 @@ use Rattle.sg_play.proofs.Waking.Items.{have_items}
 use Rattle.sg_play.proofs.Waking.Private.{unwoken}
 use Rattle.sg_world.proofs.sg_world_laws.Ending.Seats.{each_entered, each_set, each_woken}
 use Rattle.sg_play.proofs.Waking.Shapes.{call_is_next, call_is_own}
-use Rattle.sg_world.proofs.sg_world_laws.Ending.Shapes.{entry_with, seat_behind, woken}
+use Rattle.sg_world.proofs.sg_world_laws.Ending.Shapes.{entry_with, seat_after, woken}
 use Rattle.sg_world.proofs.sg_world_laws.Ending.Wakers.{wakes_entered, wakes_last, wakes_noted, wakes_refused}
 use Rattle.sg_play.proofs.Waking.Woken.{Moves, all_noted, goes_on_waits, moves_free, moves_same, other_made, other_waits, seat_booted, seat_moved, seat_noted, seat_struck, seat_woken_by, stub_made, stub_waits}
 use Rattle.sg_plain.specs.Answering.{no_query_waits}
@@ -198,12 +198,12 @@ module _ (z : Setting) (script : Script) (x : WorldView) (given : List (List ℕ
 
   -- it is entered without an item, and wakes nobody
   line_entered : (reply : Reply) (p : Phase) (kept : Reply) → is_offered s.phase ≡ true → is_asking p ≡ false → is_held_phase p ≡ false → ((id : ℕ) (q : Position) → wakes_at facts (now_with reply) id q ≡ wakes_at facts old id q)
-      → NobodyWoken reply → AreWokenSoFar facts (x.history ++ entry_with facts x c reply ∷ []) boots (slice_set (woken facts x c reply) (c - 1) (seat_behind facts x c reply p kept))
+      → NobodyWoken reply → AreWokenSoFar facts (x.history ++ entry_with facts x c reply ∷ []) boots (slice_set (woken facts x c reply) (c - 1) (seat_after facts x c reply p kept))
   line_entered reply p kept offers not_asking free same nobody = record {
     woken = between_same facts old (now_with reply) same (places_from [] boots) is.woken;
-    each = each_entered (IsWokenSeat facts (now_with reply) boots) (test_of reply) x.seats c (seat_behind facts x c reply p kept) first last
-        (seat_moved facts old (now_with reply) boots c s (seat_behind facts x c reply p kept) same (is.each c first last)
-        (moves_free facts s (seat_behind facts x c reply p kept) (omega (arith, next_number offers)) (λ was. omega arith) not_asking free))
+    each = each_entered (IsWokenSeat facts (now_with reply) boots) (test_of reply) x.seats c (seat_after facts x c reply p kept) first last
+        (seat_moved facts old (now_with reply) boots c s (seat_after facts x c reply p kept) same (is.each c first last)
+        (moves_free facts s (seat_after facts x c reply p kept) (omega (arith, next_number offers)) (λ was. omega arith) not_asking free))
         (λ client from to other. at client from to other (woken_tells (test_of reply) (seat_of x client)));
   }
     where
@@ -231,17 +231,17 @@ module _ (z : Setting) (script : Script) (x : WorldView) (given : List (List ℕ
 
   -- a held reply is returned
   pub line_returned : (reply : Reply) (kept : Reply) → s.phase ≡ Held → answer z.iface z.ask (object_of facts x.history) s.call ≡ Some reply
-      → AreWokenSoFar facts (x.history ++ entry_with facts x c reply ∷ []) boots (slice_set (woken facts x c reply) (c - 1) (seat_behind facts x c reply Idle kept))
+      → AreWokenSoFar facts (x.history ++ entry_with facts x c reply ∷ []) boots (slice_set (woken facts x c reply) (c - 1) (seat_after facts x c reply Idle kept))
   line_returned reply kept held answered = by facts.global refl
     where
-      by : (g : Bool) → facts.global ≡ g → AreWokenSoFar facts (x.history ++ entry_with facts x c reply ∷ []) boots (slice_set (woken facts x c reply) (c - 1) (seat_behind facts x c reply Idle kept))
+      by : (g : Bool) → facts.global ≡ g → AreWokenSoFar facts (x.history ++ entry_with facts x c reply ∷ []) boots (slice_set (woken facts x c reply) (c - 1) (seat_after facts x c reply Idle kept))
       by true all = absurd (let none = (is.each c first last).visible all in let some : is_held_phase s.phase ≡ true = ap is_held_phase held in cc (none, some))
       by false alone =
           line_entered reply Idle kept (offers_by Held held refl) refl refl (λ id q. ap (λ es. wakes_at facts es id q) (same_in_private alone reply)) (nobody_in_private alone reply (offers_by Held held refl) answered)
 
   -- the guard refuses
   pub line_refused : (reply : Reply) (code : Code) (kept : Reply) → s.phase ≡ Asked → guard z.iface (object_of facts x.history) s.call ≡ Some code → reply ≡ Refused code
-      → AreWokenSoFar facts (x.history ++ entry_with facts x c reply ∷ []) boots (slice_set (woken facts x c reply) (c - 1) (seat_behind facts x c reply Idle kept))
+      → AreWokenSoFar facts (x.history ++ entry_with facts x c reply ∷ []) boots (slice_set (woken facts x c reply) (c - 1) (seat_after facts x c reply Idle kept))
   line_refused reply code kept asked guarded its =
       line_entered reply Idle kept (offers_by Asked asked refl) refl refl (λ id q. by id q facts.global)
       (λ client from to other blocked. ap (λ r. wakes_seat facts (object_of facts x.history).rows s.call r (seat_of x client).call) its)
@@ -280,13 +280,13 @@ module _ (z : Setting) (script : Script) (x : WorldView) (given : List (List ℕ
         ∙ wakes_last facts other.desc (older_items [] boots) (last_items boots) item x.history (entry_with facts x c reply) none_entered
         (have_items facts x.history x.run before.recovering.served.items) own_item ok.0 ok.1
 
-    pub line_committed : AreWokenSoFar facts (x.history ++ entry_with facts x c reply ∷ []) (noted boots item) (slice_set (woken facts x c reply) (c - 1) (seat_behind facts x c reply Receipted reply))
+    pub line_committed : AreWokenSoFar facts (x.history ++ entry_with facts x c reply ∷ []) (noted boots item) (slice_set (woken facts x c reply) (c - 1) (seat_after facts x c reply Receipted reply))
     line_committed = record {
       woken = all_noted facts old (now_with reply) item same_entered boots before.recovering.reboots.booted is.woken (λ client seq waits. absurd (let not_so = goes_on_waits client seq item goes in cc (not_so, waits)));
-      each = each_entered (IsWokenSeat facts (now_with reply) (noted boots item)) (test_of reply) x.seats c (seat_behind facts x c reply Receipted reply) first last
-          (seat_noted facts old (now_with reply) item same_entered boots before.recovering.reboots.booted c s (seat_behind facts x c reply Receipted reply) (is.each c first last)
-          (moves_free facts s (seat_behind facts x c reply Receipted reply) (omega (arith, next_number offers)) (λ was. omega arith) refl refl)
-          (own_made item tag shown offers (seat_behind facts x c reply Receipted reply) (inl (omega arith))) (λ asks. absurd (cc asks)))
+      each = each_entered (IsWokenSeat facts (now_with reply) (noted boots item)) (test_of reply) x.seats c (seat_after facts x c reply Receipted reply) first last
+          (seat_noted facts old (now_with reply) item same_entered boots before.recovering.reboots.booted c s (seat_after facts x c reply Receipted reply) (is.each c first last)
+          (moves_free facts s (seat_after facts x c reply Receipted reply) (omega (arith, next_number offers)) (λ was. omega arith) refl refl)
+          (own_made item tag shown offers (seat_after facts x c reply Receipted reply) (inl (omega arith))) (λ asks. absurd (cc asks)))
           (λ client from to other. at client from to other (woken_tells (test_of reply) (seat_of x client)));
     }
       where

@@ -15,7 +15,7 @@ use Rattle.sg_plain.specs.Calls.{call_after, script_calls}
 use Rattle.sg_plain.specs.Promises.{AreWoken}
 use Rattle.sg_plain.specs.Inside.Kept.{IsWokenBetween}
 use Rattle.sg_play.specs.Recovering.{RecoversSoFar}
-use Rattle.sg_play.specs.Turning.{StepsInTurn, behind_step, with_call, with_offer}
+use Rattle.sg_play.specs.Turning.{StepsInTurn, after_step, with_call, with_offer}
 use Rattle.sg_plain.proofs.Playing.Calling.{next_of}
 use Rattle.sg_plain.specs.Playing.Plays.{IsPlaying}
 use Rattle.sg_plain.specs.Playing.Turns.{is_free_phase}
@@ -31,7 +31,7 @@ use Rattle.sg_plain.specs.Answering.{no_query_waits}
 use Rattle.sg_play.specs.Waking.Waking.{IsWaking, IsWokenSeat}
 use Rattle.sg_world.specs.declared.did.Did.{Did}
 use Rattle.sg_world.specs.declared.did.Did.TheVariants.{Answered, Blocked as Waits, Booted, Loaded, Lost, Replayed, Served, Skipped, Struck}
-use Rattle.sg_world.specs.Steps.{Steps, WantsMemory}
+use Rattle.sg_world.specs.Steps.{Steps, LackedMemory}
 use Rattle.sg_world.specs.sg_world_laws.Setting.{Setting}
 use Rattle.sg_play.proofs.Waking.Turned.{idle_step, same_clients, stepped, waking_left}
 
@@ -50,8 +50,8 @@ waking_turn z script x now given client handed playing before behind first last 
     plain did steps counted legal =
         stepped z script x given client first last playing before is did turn.stepped.later turn.later (subst (LegalFrom z.iface z.ask empty_object) (ap (λ (w : WorldView). w.history) counted) legal) steps counted
 
-    at : (did : Did) → Steps z x client did turn.stepped.later → turn.later ≡ happened turn.stepped.later → LegalFrom z.iface z.ask empty_object (behind_step script client did turn.later).history
-        → IsWaking z (behind_step script client did turn.later)
+    at : (did : Did) → Steps z x client did turn.stepped.later → turn.later ≡ happened turn.stepped.later → LegalFrom z.iface z.ask empty_object (after_step script client did turn.later).history
+        → IsWaking z (after_step script client did turn.later)
     at Skipped steps counted legal = plain Skipped steps counted legal
     at Struck steps counted legal = plain Struck steps counted legal
     at Booted steps counted legal = plain Booted steps counted legal
@@ -113,7 +113,7 @@ pub waking_happened : (z : Setting) (w : WorldView) → IsWaking z w → IsWakin
 waking_happened z w is = is
 
 -- a step wanted memory
-pub waking_wanted : (z : Setting) (x now : WorldView) (client : ℕ) → WantsMemory z x client now → IsWaking z x → IsWaking z now
+pub waking_wanted : (z : Setting) (x now : WorldView) (client : ℕ) → LackedMemory z x client now → IsWaking z x → IsWaking z now
 waking_wanted z x now client wants is = subst (IsWaking z) (sym wants.counted) is
 
 nobody_at : (n k : ℕ) → unwrap_or (slice_get (replicate n no_seat) k) no_seat ≡ no_seat

@@ -1,6 +1,6 @@
 -- How a play follows the play without stops: it is at a stage of that until its service stops, and what it makes of its history
 -- afterwards it makes in later boots.
-use Rattle.std.specs.Prelude.{ℕ, ◌≡◌, ◌≢◌, ◌⊎◌, ◌≤◌, true, false, List, [], ◌∷◌, ◌++◌, None, IsSome}
+use Rattle.std.specs.Prelude.{ℕ, ◌≡◌, ◌≢◌, ◌⊎◌, ◌≤◌, true, false, List, [], ◌∷◌, ◌++◌, None, IsSome, length}
 use Rattle.std.specs.declared.option.Option.{Option}
 use Rattle.std.specs.List.{list_any}
 use Rattle.sg_facts.specs.declared.entry.Entry.{Entry}
@@ -18,6 +18,8 @@ use Rattle.sg_plain.specs.sg_script.declared.script.Script.{Script}
 use Rattle.sg_plain.specs.sg_clients.WorldView.{Seat, WorldView, seat_in}
 use Rattle.sg_plain.specs.sg_clients.declared.phase.Phase.TheVariants.{Held, Receipted}
 use Rattle.sg_world.specs.sg_world_laws.Setting.{Setting}
+use Rattle.sg_play.specs.Asked.{are_asked_so}
+use Rattle.sg_play.specs.Following.Asking.{asked_by}
 use Rattle.sg_play.specs.Following.Stages.{stage_of}
 
 -- ---- clients
@@ -49,6 +51,9 @@ pub record NeverStopped (z : Setting) (script : Script) (history : List Entry) (
   pub held : (client : ℕ) → 1 ≤ client → (seat_in seats client).phase ≡ Held → (seat_in seats client).boot ≡ 1
   pub turns : ℕ
   pub at : stage ≡ stage_after z.iface z.ask script turns
+  -- what the service was asked is what these turns ask
+  pub asks : are_asked_so items (asked_by z.iface z.ask script turns) ≡ true
+  pub all_asked : length items ≡ length (asked_by z.iface z.ask script turns)
 
 -- ---- once it stopped
 
@@ -64,6 +69,9 @@ pub record IsPastStop (z : Setting) (script : Script) (history : List Entry) (bo
   pub more : List Entry
   pub entries : history ≡ (stage_after z.iface z.ask script turns).history ++ more
   pub later : list_any (is_in_first_boot z.iface.facts boots) more ≡ false
+  -- what it was asked is what so many turns ask first
+  pub asked : ℕ
+  pub asks : are_asked_so first.items (asked_by z.iface z.ask script asked) ≡ true
 
 -- ---- a play
 

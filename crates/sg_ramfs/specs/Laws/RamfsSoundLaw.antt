@@ -73,11 +73,11 @@ write_ok file from bytes good is = at (nat_lt (length file) from) (nat_lt most_f
   where
     at : (behind big : Bool) → nat_lt (length file) from ≡ behind → nat_lt most_file (from + length bytes) ≡ big
         → cond behind (Some (Refused Gap)) (cond big (Some (Refused TooBig)) (moved (length bytes) [])) ≡ Some (Ok good) → HasWritten file from bytes good
-    at true big behind_is big_is is = absurd (cc is)
-    at false true behind_is big_is is = absurd (cc is)
-    at false false behind_is big_is is =
+    at true big after_is big_is is = absurd (cc is)
+    at false true after_is big_is is = absurd (cc is)
+    at false false after_is big_is is =
         let one : record { desc = 0; words = length bytes ∷ []; bytes = [] } ≡ good = cc is in
-        record { begins = grind (arith, nat_tests, behind_is); ends = grind (arith, nat_tests, big_is); count = sym (ap first_word one) }
+        record { begins = grind (arith, nat_tests, after_is); ends = grind (arith, nat_tests, big_is); count = sym (ap first_word one) }
 
 -- a place that is sought is within the greatest length
 seek_ok : (place : ℕ) (good : Good) → seek_answer place ≡ Some (Ok good) → place ≤ most_file

@@ -26,7 +26,7 @@ use Rattle.sg_recovery_laws.proofs.Given.{is_numbered, made_same, names_same}
 use Rattle.sg_hist.proofs.Growing.{entries_before-more, in_boot, names_at-more, stands_before-own}
 use Rattle.sg_recovery_laws.proofs.Same.{any_rebuilt}
 use Rattle.sg_recovery_laws.specs.Midway.Progress.{Told, complete, TellsCalls, IsNone, is_complete}
-use Rattle.sg_recovery_laws.specs.LastItem.Told.{IsRead, whole_behind}
+use Rattle.sg_recovery_laws.specs.LastItem.Told.{IsRead, whole_after}
 use Rattle.sg_recovery_laws.specs.LastItem.LastPlace.{last_place}
 use Rattle.sg_facts.proofs.Replaying.Found.{other_test, same_test}
 use Rattle.sg_recovery_laws.proofs.LastItem.Reading.{named_push}
@@ -53,7 +53,7 @@ module _ (facts : Facts) (walks : List WalkLine) (h later : List Entry) (older f
       at true = refl
       at false = refl
 
-  whole_is : (x : ℕ) → whole_behind facts walks later older (front ++ item ∷ []) x ≡ (whole_behind facts walks h older front x || (good.desc == x))
+  whole_is : (x : ℕ) → whole_after facts walks later older (front ++ item ∷ []) x ≡ (whole_after facts walks h older front x || (good.desc == x))
   whole_is x =
       let more = in_boot older [] front item in
       ap (λ b. b || list_any (is_rebuilt_at facts walks later x) (places_in older [] (front ++ item ∷ []) []))
@@ -112,12 +112,12 @@ module _ (facts : Facts) (walks : List WalkLine) (h later : List Entry) (older f
             | inr there ↦ inr there.1
           ]
 
-      whole_at : (x : ℕ) → (x ≡ good.desc) ⊎ ((x ≢ good.desc) × (is_live rows x ≡ true)) → (whole_behind facts walks h older front x || (good.desc == x)) ≡ is_complete (if x == good.desc then complete else told x)
+      whole_at : (x : ℕ) → (x ≡ good.desc) ⊎ ((x ≢ good.desc) × (is_live rows x ≡ true)) → (whole_after facts walks h older front x || (good.desc == x)) ≡ is_complete (if x == good.desc then complete else told x)
       whole_at x (inl same) =
-          ap (λ b. whole_behind facts walks h older front x || b) (same_test good.desc x (sym same)) ∙ or_true (whole_behind facts walks h older front x)
+          ap (λ b. whole_after facts walks h older front x || b) (same_test good.desc x (sym same)) ∙ or_true (whole_after facts walks h older front x)
           ∙ sym (ap (λ b. is_complete (cond b complete (told x))) (same_test x good.desc same))
       whole_at x (inr there) =
-          ap (λ b. whole_behind facts walks h older front x || b) (other_test good.desc x (λ is. there.0 (sym is))) ∙ or_false (whole_behind facts walks h older front x) ∙ read.whole x there.1
+          ap (λ b. whole_after facts walks h older front x || b) (other_test good.desc x (λ is. there.0 (sym is))) ∙ or_false (whole_after facts walks h older front x) ∙ read.whole x there.1
           ∙ sym (ap (λ b. is_complete (cond b complete (told x))) (other_test x good.desc there.0))
 
       same_count : (x : ℕ) → filter (λ y. is_walk_of x y.tag) (front ++ item ∷ []) ≡ filter (λ y. is_walk_of x y.tag) front
@@ -155,7 +155,7 @@ module _ (facts : Facts) (walks : List WalkLine) (h later : List Entry) (older f
     (names : List (ℕ × ℕ)) (told : ℕ → Told) (present : List ℕ → Bool) (rows : List Row) (read : IsRead facts walks h older front names told present rows)
     (unmade : (id : ℕ) → is_made facts later id item ≡ false) (no_walk : (id : ℕ) → is_walk_of id item.tag ≡ false) (unbuilt : (id : ℕ) → is_rebuilt_at facts walks later id (last_place older front item) ≡ false)
     (no_name : names_in facts later item.shown.fun item.tag item.outcome ≡ []) where
-  whole_same : (x : ℕ) → whole_behind facts walks later older (front ++ item ∷ []) x ≡ whole_behind facts walks h older front x
+  whole_same : (x : ℕ) → whole_after facts walks later older (front ++ item ∷ []) x ≡ whole_after facts walks h older front x
   whole_same x =
       let more = in_boot older [] front item in
       ap (λ b. b || list_any (is_rebuilt_at facts walks later x) (places_in older [] (front ++ item ∷ []) []))

@@ -31,7 +31,7 @@ use Rattle.sg_recovery_laws.proofs.Objects.Apart.{Ascends}
 use Rattle.sg_recovery_laws.specs.LastItem.LastPlace.{HaveItems, last_place}
 use Rattle.sg_recovery_laws.proofs.Stays.{when_not, when_own}
 use Rattle.sg_recovery_laws.proofs.UnderWay.{AreBelow, AreFrom, of_below, of_from}
-use Rattle.sg_recovery_laws.proofs.LastItem.Behind.{all_mapped, each_filtered, object_before_last, whole_last}
+use Rattle.sg_recovery_laws.proofs.LastItem.Later.{all_mapped, each_filtered, object_before_last, whole_last}
 use Rattle.sg_facts.proofs.Replaying.Found.{met, other_test, same_test}
 
 -- the same under names with the same look-ups

@@ -27,7 +27,7 @@ use Rattle.sg_hist.proofs.Growing.{entries_before-more, in_boot, names_at-more}
 use Rattle.sg_recovery_laws.proofs.Same.{any_rebuilt}
 use Rattle.sg_recovery_laws.specs.Midway.Progress.{Told, fresh, begun, complete, TellsCalls, IsNone, is_complete}
 use Rattle.sg_recovery_laws.specs.Midway.Stepping.{so_far, told_after}
-use Rattle.sg_recovery_laws.specs.LastItem.Told.{IsRead, whole_behind}
+use Rattle.sg_recovery_laws.specs.LastItem.Told.{IsRead, whole_after}
 use Rattle.sg_recovery_laws.specs.LastItem.LastPlace.{last_place}
 use Rattle.sg_facts.proofs.Replaying.Found.{other_test, same_test}
 
@@ -100,7 +100,7 @@ unnamed facts history id (x ∷ front) made walked =
 
 module _ (facts : Facts) (walks : List WalkLine) (history : List Entry) (older front : List Item) (item : Item) (none : IsOfNoEntry item history) where
   -- what is whole with an item more
-  pub whole_noted : (id : ℕ) → whole_behind facts walks history older (front ++ item ∷ []) id
+  pub whole_noted : (id : ℕ) → whole_after facts walks history older (front ++ item ∷ []) id
       ≡ ((list_any (is_made facts history id) front || (is_made facts history id item || false))
       || (list_any (is_rebuilt_at facts walks history id) (places_in older [] front []) || (is_rebuilt_at facts walks history id (last_place older front item) || false)))
   whole_noted id =
@@ -215,7 +215,7 @@ module _ (facts : Facts) (walks : List WalkLine) (history : List Entry) (older f
         collapse false false true = refl
         collapse false false false = refl
 
-        whole_now : (x : ℕ) → is_live rows x ≡ true → whole_behind facts walks history older (front ++ item ∷ []) x ≡ is_complete (told_after told id done rest x)
+        whole_now : (x : ℕ) → is_live rows x ≡ true → whole_after facts walks history older (front ++ item ∷ []) x ≡ is_complete (told_after told id done rest x)
         whole_now x live =
             whole_noted x
             ∙ ap (λ b. (list_any (is_made facts history x) front || (b || false)) || (list_any (is_rebuilt_at facts walks history x) (places_in older [] front []) || (is_rebuilt_at facts walks history x (last_place older front item) || false))) (unmade_item x)

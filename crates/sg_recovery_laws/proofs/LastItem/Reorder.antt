@@ -51,9 +51,9 @@ module _ (h es : List Entry) (e : Entry) (none : NoneBy e.call.client es) where
       at true is false also rest = refl
       at false is c also rest = rest ∙ ap (λ b. cond b (Some e) (find test xs)) also
 
-  find_behind : (test : Entry → Bool) (xs ys zs : List Entry) → find test ys ≡ find test zs → find test (xs ++ ys) ≡ find test (xs ++ zs)
-  find_behind test [] ys zs same = same
-  find_behind test (x ∷ xs) ys zs same = ap (λ v. cond (test x) (Some x) v) (find_behind test xs ys zs same)
+  find_after : (test : Entry → Bool) (xs ys zs : List Entry) → find test ys ≡ find test zs → find test (xs ++ ys) ≡ find test (xs ++ zs)
+  find_after test [] ys zs same = same
+  find_after test (x ∷ xs) ys zs same = ap (λ v. cond (test x) (Some x) v) (find_after test xs ys zs same)
 
   numbered_apart : (client seq : ℕ) (xs : List Entry) → NoneBy e.call.client xs
       → Each (λ x. ((x.call.client == client) && (x.call.seq == seq)) ≡ true → ((e.call.client == client) && (e.call.seq == seq)) ≡ false) xs
@@ -69,7 +69,7 @@ module _ (h es : List Entry) (e : Entry) (none : NoneBy e.call.client es) where
       at false is also = refl
 
   pub id_moved : (client seq : ℕ) → id_given (h ++ e ∷ es) client seq ≡ id_given (h ++ (es ++ e ∷ [])) client seq
-  id_moved client seq = ap desc_in (sym (find_behind (λ x. (x.call.client == client) && (x.call.seq == seq)) h (es ++ e ∷ []) (e ∷ es)
+  id_moved client seq = ap desc_in (sym (find_after (λ x. (x.call.client == client) && (x.call.seq == seq)) h (es ++ e ∷ []) (e ∷ es)
       (find_front (λ x. (x.call.client == client) && (x.call.seq == seq)) es (numbered_apart client seq es none))))
 
   -- ---- names and what was made

@@ -43,9 +43,9 @@ use Rattle.sg_recovery_laws.proofs.Objects.Guarded.{ActsOnOne, acts, keeps, let_
 use Rattle.sg_recovery_laws.proofs.Midway.Rest.{kept_beside, so_far_more, so_far_same, stays_there}
 use Rattle.sg_recovery_laws.proofs.Objects.Left.{stays, stays_in}
 use Rattle.sg_recovery_laws.proofs.Objects.Serve.{IsWholeRow, holds_served, names_served, new_served, whole_served}
-use Rattle.sg_recovery_laws.proofs.Objects.Serves.{desc_row, needed_behind, path_behind, path_held, serves_now}
+use Rattle.sg_recovery_laws.proofs.Objects.Serves.{desc_row, needed_after, path_after, path_held, serves_now}
 use Rattle.sg_recovery_laws.proofs.Objects.Steady.{after_good, ascends, fewer_after}
-use Rattle.sg_recovery_laws.proofs.Objects.Waiting.{acting_is, behind_same, good_behind, hidden_is, less_time, past_waiting, time_after, waiting_after}
+use Rattle.sg_recovery_laws.proofs.Objects.Waiting.{acting_is, after_same, good_later, hidden_is, less_time, past_waiting, time_after, waiting_after}
 
 -- the reply of an object that says the same as the service's
 pub record HasReply (facts : Facts) (ask : Table) (names : List (ℕ × ℕ)) (o held : Object) (call : Call) (other : Reply) : Type 0 where
@@ -85,20 +85,20 @@ module _ (i : Declared) (ask : Table) (sound : Object → Type 0) (walks : List 
   time_es = less_time i.facts ask sound law (suc (suc (length es))) (length es) o (omega arith) time
 
   good_o : IsLegalObject i.facts sound (object_from i.facts o es)
-  good_o = good_behind i.facts ask sound law o es ok time_es waiting
+  good_o = good_later i.facts ask sound law o es ok time_es waiting
 
   sound_o : IsSound i.facts (object_from i.facts o es)
   sound_o = law.keeps.general (object_from i.facts o es) good_o.is_sound
 
   files_o : (object_from i.facts o es).files ≡ o.files
-  files_o = (behind_same i.facts ask sound law o es call.client ok time_es waiting none_by).1
+  files_o = (after_same i.facts ask sound law o es call.client ok time_es waiting none_by).1
 
   given_o : (object_from i.facts o es).given ≡ o.given
-  given_o = (behind_same i.facts ask sound law o es call.client ok time_es waiting none_by).2
+  given_o = (after_same i.facts ask sound law o es call.client ok time_es waiting none_by).2
 
   whole_needed : (r : Row) → row_at o.rows r.id ≡ Some r → is_needed i.facts o.rows call r ≡ true → HasAlike names held r
   whole_needed r there need =
-      subst (IsSoFar i walks names held r) (needed r there need) (under.rows r (needed_behind i.facts ask sound law o es call r ok time_es waiting none_by passes there need))
+      subst (IsSoFar i walks names held r) (needed r there need) (under.rows r (needed_after i.facts ask sound law o es call r ok time_es waiting none_by passes there need))
 
   -- the needed file is the same
   file_same : (fun_at i.facts.funs call.fun).uses_file ≡ true → file_at held.files (path_of o.rows call.desc) ≡ file_at o.files (path_of o.rows call.desc)
@@ -148,7 +148,7 @@ module _ (i : Declared) (ask : Table) (sound : Object → Type 0) (walks : List 
       let there : row_at o.rows r.id ≡ Some r = ap (row_at o.rows) id ∙ of in
       record {
         row = r;
-        of = ap (row_at (object_from i.facts o es).rows) (sym id) ∙ needed_behind i.facts ask sound law o es call r ok time_es waiting none_by passes there (its_own r id);
+        of = ap (row_at (object_from i.facts o es).rows) (sym id) ∙ needed_after i.facts ask sound law o es call r ok time_es waiting none_by passes there (its_own r id);
         whole = whole_needed r there (its_own r id);
       }
 
@@ -200,7 +200,7 @@ module _ (i : Declared) (ask : Table) (sound : Object → Type 0) (walks : List 
       by_held (p ∷ l) is all =
           let hidden = hidden_is i.facts p.call.fun all.0.hidden in
           let own = own_desc (whole i.facts) o call hidden.alone (let_pass (whole i.facts) o call row passes.guarded) (acts_it.on makes row).0 in
-          let same = (behind_same i.facts ask sound law o es call.client ok time_es waiting none_by).0 in
+          let same = (after_same i.facts ask sound law o es call.client ok time_es waiting none_by).0 in
           ap (λ x. has_child (object_from i.facts o x).rows call.desc) is
           ∙ child_same call.client o.rows (object_from i.facts o es).rows o.given (object_from i.facts o es).given call.desc (ascends i.facts o (law.keeps.general o ok.is_sound)) (ascends i.facts (object_from i.facts o es) sound_o)
           (ok.own hidden.alone) (good_o.own hidden.alone) same own
@@ -227,7 +227,7 @@ module _ (i : Declared) (ask : Table) (sound : Object → Type 0) (walks : List 
       let answered : IsAnsweredAt i.facts ask o call reply = record { passes = passes; answered = is } in
       let later = time_after i.facts ask sound law (suc (length es)) o call reply ok answered time in
       subst (IsSound i.facts) (past_held reply is) (law.keeps.general (object_from i.facts (after i.facts o call reply) es)
-      (good_behind i.facts ask sound law (after i.facts o call reply) es (after_good i.facts ask sound law o call reply ok answered)
+      (good_later i.facts ask sound law (after i.facts o call reply) es (after_good i.facts ask sound law o call reply ok answered)
       (less_time i.facts ask sound law (suc (length es)) (length es) (after i.facts o call reply) (omega arith) later)
       (waiting_after i.facts ask sound law o call reply es ok answered (less_time i.facts ask sound law (suc (length es)) 0 (after i.facts o call reply) (omega arith) later) none_by waiting)).is_sound)
 
@@ -423,7 +423,7 @@ module _ (i : Declared) (ask : Table) (sound : Object → Type 0) (walks : List 
         let f = whole_row r.0 r.1 in
         let id : f.row.id ≡ call.desc = id_of_row (object_from i.facts o es).rows call.desc f.row f.of in
         let path_o : path_of (object_from i.facts o es).rows call.desc ≡ path_of o.rows call.desc
-        = path_behind i.facts ask sound law o es call ok time_es waiting none_by passes k.takes k.no_query in
+        = path_after i.facts ask sound law o es call ok time_es waiting none_by passes k.takes k.no_query in
         let there : row_at (object_from i.facts o es).rows f.row.id ≡ Some f.row = ap (row_at (object_from i.facts o es).rows) id ∙ f.of in
         let path_h : path_of held.rows (named names call.desc) ≡ path_of (object_from i.facts o es).rows call.desc
         = ap (λ n. path_of held.rows (named names n)) (sym id) ∙ path_held i names (object_from i.facts o es) held f.row under.holds sound_o there f.whole ∙ ap (path_of (object_from i.facts o es).rows) id in

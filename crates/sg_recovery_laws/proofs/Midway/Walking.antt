@@ -17,14 +17,14 @@ use Rattle.sg_facts.specs.Held.{FieldHolds, FieldsHold, IsAt, IsPartOf, set_of}
 use Rattle.sg_facts.specs.Interface.{Declared, declares, has_pair, steps_on}
 use Rattle.sg_facts.specs.Object.{Object}
 use Rattle.sg_facts.specs.Inside.Rows.{writes}
-use Rattle.sg_facts.specs.Walks.{IsWalkOf, Mark, good, unknown, unset, Spot, restores_fields, spot_from, spot_of}
+use Rattle.sg_facts.specs.Walks.{IsWalkOf, FieldMark, good, unknown, unset, Spot, restores_fields, spot_from, spot_of}
 use Rattle.sg_facts.specs.Inside.Walking.{may_begin, may_go_on, next_spot, first_spot, restores_at, restores_field}
 use Rattle.sg_recovery_laws.proofs.Objects.Guarded.{writes_none, both_true}
 use Rattle.sg_recovery_laws.proofs.Objects.Reachable.{none_not_more}
 
 -- ---- a walk that is done
 
-field_whole : (m : Mark) (v w : Value) → FieldHolds m v w → restores_field m (is_set v) ≡ true → w ≡ v
+field_whole : (m : FieldMark) (v w : Value) → FieldHolds m v w → restores_field m (is_set v) ≡ true → w ≡ v
 field_whole good v w holds is = holds
 field_whole unknown v w holds is = absurd (cc is)
 field_whole unset (Word zero) w holds is = holds
@@ -32,7 +32,7 @@ field_whole unset (Word (suc n)) w holds is = absurd (cc (sym (ap (λ b. not (no
 field_whole unset (Text []) w holds is = holds
 field_whole unset (Text (b ∷ bs)) w holds is = absurd (cc (sym (ap (λ b. not (not b)) (none_not_more (length bs))) ∙ is))
 
-fields_whole : (marks : List Mark) (vs ws : List Value) → FieldsHold marks vs ws → restores_fields marks (map is_set vs) ≡ true → ws ≡ vs
+fields_whole : (marks : List FieldMark) (vs ws : List Value) → FieldsHold marks vs ws → restores_fields marks (map is_set vs) ≡ true → ws ≡ vs
 fields_whole [] [] [] hold is = refl
 fields_whole [] [] (w ∷ ws) hold is = absurd hold
 fields_whole [] (v ∷ vs) [] hold is = absurd hold

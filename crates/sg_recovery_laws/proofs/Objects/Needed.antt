@@ -21,9 +21,9 @@ use Rattle.sg_recovery_laws.proofs.Objects.Answered.{needed_none, needed_own}
 use Rattle.sg_recovery_laws.proofs.Objects.Apart.{IsOwnRow, nearest_same, rows_same}
 use Rattle.sg_facts.proofs.Replaying.Found.{from_left}
 use Rattle.sg_recovery_laws.proofs.Objects.Guarded.{keeps, looks_at_own}
-use Rattle.sg_recovery_laws.proofs.Objects.Serves.{needed_behind, on_none_or_own, path_behind}
+use Rattle.sg_recovery_laws.proofs.Objects.Serves.{needed_after, on_none_or_own, path_after}
 use Rattle.sg_recovery_laws.proofs.Objects.Steady.{ascends}
-use Rattle.sg_recovery_laws.proofs.Objects.Waiting.{behind_same, good_behind, hidden_is}
+use Rattle.sg_recovery_laws.proofs.Objects.Waiting.{after_same, good_later, hidden_is}
 
 module _ (facts : Facts) (ask : Table) (sound : Object → Type 0) (law : IsService facts ask sound) (o : Object) (es : List Entry) (call : Call) (ok : IsLegalObject facts sound o) (time : HasTime facts (length es) o)
     (waiting : AreWaiting facts ask o es) (none_by : NoneBy call.client es) (passes : Passes facts o call) where
@@ -38,7 +38,7 @@ module _ (facts : Facts) (ask : Table) (sound : Object → Type 0) (law : IsServ
       by [] is all = refl
       by (p ∷ l) is all =
           let hidden = hidden_is facts p.call.fun all.0.hidden in
-          let same = (behind_same facts ask sound law o es call.client ok time waiting none_by).0 in
+          let same = (after_same facts ask sound law o es call.client ok time waiting none_by).0 in
           ap (λ x. ancestors (object_from facts o x).rows call.desc) is
           ∙ elim (on_none_or_own facts ask sound law o call hidden.alone passes) [
             | inl root ↦ ap (λ d. nearest (object_from facts o es).rows d d) root ∙ sym (ap (λ d. nearest o.rows d d) root)
@@ -56,9 +56,9 @@ module _ (facts : Facts) (ask : Table) (sound : Object → Type 0) (law : IsServ
       by [] is all = ap (λ x. row_at (object_from facts o x).rows r.id) is ∙ there
       by (p ∷ l) is all =
           let hidden = hidden_is facts p.call.fun all.0.hidden in
-          let same = (behind_same facts ask sound law o es call.client ok time waiting none_by).0 in
+          let same = (after_same facts ask sound law o es call.client ok time waiting none_by).0 in
           let looks = looks_at_own facts call.fun law.shape.shape hidden.alone passes.is_call.first passes.is_call.last in
-          let good = good_behind facts ask sound law o es ok time waiting in
+          let good = good_later facts ask sound law o es ok time waiting in
           elim (on_none_or_own facts ask sound law o call hidden.alone passes) [
             | inl root ↦ absurd (
                 let isn't = needed_none facts (object_from facts o es).rows (object_from facts o es).given call r looks (ascends facts (object_from facts o es) (law.keeps.general (object_from facts o es) good.is_sound)) root there in
@@ -81,11 +81,11 @@ module _ (facts : Facts) (ask : Table) (sound : Object → Type 0) (law : IsServ
           let its : r.id ≡ id = id_of_row o.rows id r was.there in
           let there_r : row_at o.rows r.id ≡ Some r = ap (row_at o.rows) its ∙ was.there in
           let need : is_needed facts o.rows call r ≡ true = ap (λ x. (fun_at facts.funs call.fun).all || (x == call.desc) || is_ancestor o.rows x call.desc) its ∙ was.stays in
-          let behind_r : row_at (object_from facts o es).rows r.id ≡ Some r = needed_behind facts ask sound law o es call r ok time waiting none_by passes there_r need in
+          let after_r : row_at (object_from facts o es).rows r.id ≡ Some r = needed_after facts ask sound law o es call r ok time waiting none_by passes there_r need in
           let stays_it : ((fun_at facts.funs call.fun).all || (id == call.desc) || is_ancestor (object_from facts o es).rows id call.desc) ≡ true
           = ap (λ ids. (fun_at facts.funs call.fun).all || (id == call.desc) || list_any (λ a. a == id) ids) above_same ∙ was.stays in
           row_at-left (λ x. (fun_at facts.funs call.fun).all || (x == call.desc) || is_ancestor (object_from facts o es).rows x call.desc) (object_from facts o es).rows id stays_it
-          ∙ ap (row_at (object_from facts o es).rows) (sym its) ∙ behind_r
+          ∙ ap (row_at (object_from facts o es).rows) (sym its) ∙ after_r
 
       back : (r : Row) → row_at (filter (is_needed facts (object_from facts o es).rows call) (object_from facts o es).rows) id ≡ Some r → row_at (filter (is_needed facts o.rows call) o.rows) id ≡ Some r
       back r there =
@@ -106,7 +106,7 @@ module _ (facts : Facts) (ask : Table) (sound : Object → Type 0) (law : IsServ
 
   pub needed_rows : filter (is_needed facts (object_from facts o es).rows call) (object_from facts o es).rows ≡ filter (is_needed facts o.rows call) o.rows
   needed_rows =
-      let good = good_behind facts ask sound law o es ok time waiting in
+      let good = good_later facts ask sound law o es ok time waiting in
       rows_same 0 o.given 0 (object_from facts o es).given (filter (is_needed facts o.rows call) o.rows) (filter (is_needed facts (object_from facts o es).rows call) (object_from facts o es).rows)
       (left (λ r. Unit {0}) (is_needed facts o.rows call) 0 o.given o.rows (ascends facts o (law.keeps.general o ok.is_sound)))
       (left (λ r. Unit {0}) (is_needed facts (object_from facts o es).rows call) 0 (object_from facts o es).given (object_from facts o es).rows (ascends facts (object_from facts o es) (law.keeps.general (object_from facts o es) good.is_sound)))
@@ -125,7 +125,7 @@ module _ (facts : Facts) (ask : Table) (sound : Object → Type 0) (law : IsServ
       at true is =
           let k = keeps facts call.fun law.shape.shape passes.is_call.first passes.is_call.last in
           let takes = k.file is in
-          ap (λ p. Some p) (path_behind facts ask sound law o es call ok time waiting none_by passes takes (not_so (fun_at facts.funs call.fun).query (λ q. let none = (k.query q).0 in cc (takes, none))))
+          ap (λ p. Some p) (path_after facts ask sound law o es call ok time waiting none_by passes takes (not_so (fun_at facts.funs call.fun).query (λ q. let none = (k.query q).0 in cc (takes, none))))
 
   pub needs_same : needs facts (object_from facts o es) call ≡ needs facts o call
   needs_same =

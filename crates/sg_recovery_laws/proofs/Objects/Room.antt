@@ -26,7 +26,7 @@ use Rattle.sg_recovery_laws.specs.Objects.Waiting.{AreWaiting, NoneBy}
 use Rattle.sg_recovery_laws.proofs.Objects.Apart.{IsOwnRow}
 use Rattle.sg_recovery_laws.proofs.Objects.Guarded.{ActsOnOne, IsLetPass, acts, let_pass, own_parent, private_parents}
 use Rattle.sg_recovery_laws.proofs.Objects.Narrow.{guard_stays}
-use Rattle.sg_recovery_laws.proofs.Objects.Waiting.{behind_same, good_behind, hidden_is}
+use Rattle.sg_recovery_laws.proofs.Objects.Waiting.{after_same, good_later, hidden_is}
 
 few_filter : (test : Row → Bool) (rows : List Row) → length (filter test rows) ≤ length rows
 few_filter test [] = omega arith
@@ -58,11 +58,11 @@ few_after facts o call (Ok good) makes = by (fun_at facts.funs call.fun).query (
         let n : length (rows_after facts o.rows call good) ≡ length (map (λ r. if r.id == call.desc then row_after facts call good r else r) o.rows) = ap length is in
         let m = same_map (λ r. if r.id == call.desc then row_after facts call good r else r) o.rows in omega (arith, n, m)
 
-pub few_behind : (facts : Facts) (ask : Table) (o : Object) (held : Object) (es : List Entry) → AreWaiting facts ask o es → length (object_from facts held es).rows ≤ length held.rows
-few_behind facts ask o held [] all = omega arith
-few_behind facts ask o held (p ∷ es) all =
+pub few_later : (facts : Facts) (ask : Table) (o : Object) (held : Object) (es : List Entry) → AreWaiting facts ask o es → length (object_from facts held es).rows ≤ length held.rows
+few_later facts ask o held [] all = omega arith
+few_later facts ask o held (p ∷ es) all =
     let one = few_after facts held p.call p.reply (hidden_is facts p.call.fun all.0.hidden).makes in
-    let rest = few_behind facts ask o (after facts held p.call p.reply) es all.2 in
+    let rest = few_later facts ask o (after facts held p.call p.reply) es all.2 in
     omega (arith, one, rest)
 
 less_room : (m n : ℕ) → n ≤ m → nat_le most_live m ≡ false → nat_le most_live n ≡ false
@@ -115,17 +115,17 @@ module _ (j : Declared) (ask : Table) (sound : Object → Type 0) (law : IsServi
           same_may (inl root) Cross is may = absurd (let none = private_parents j.facts law.shape.shape alone in let c : is_cross j.facts.parents ≡ true = ap is_cross is in cc (none, c))
 
   -- so after replies held by others
-  pub guard_behind : (o : Object) (es : List Entry) (call : Call) → IsLegalObject j.facts sound o → HasTime j.facts (length es) o → AreWaiting j.facts ask o es → NoneBy call.client es
+  pub guard_after : (o : Object) (es : List Entry) (call : Call) → IsLegalObject j.facts sound o → HasTime j.facts (length es) o → AreWaiting j.facts ask o es → NoneBy call.client es
       → 1 ≤ call.fun → call.fun ≤ length j.facts.funs → guard j o call ≡ None → guard j (object_from j.facts o es) call ≡ None
-  guard_behind o [] call ok time all none first last passes = passes
-  guard_behind o (p ∷ es) call ok time all none first last passes =
+  guard_after o [] call ok time all none first last passes = passes
+  guard_after o (p ∷ es) call ok time all none first last passes =
       let hidden = hidden_is j.facts p.call.fun all.0.hidden in
-      let same = behind_same j.facts ask sound law o (p ∷ es) call.client ok time all none in
+      let same = after_same j.facts ask sound law o (p ∷ es) call.client ok time all none in
       let acting = acts j.facts call.fun law.shape.shape first last in
       by (fun_at j.facts.funs call.fun).creation refl hidden.alone same.0 acting
     where
       by : (b : Bool) → (fun_at j.facts.funs call.fun).creation ≡ b → j.facts.global ≡ false → SameFor call.client o.rows (object_from j.facts o (p ∷ es)).rows → ActsOnOne j.facts (fun_at j.facts.funs call.fun)
           → guard j (object_from j.facts o (p ∷ es)) call ≡ None
-      by true makes alone same acting = guard_makes o (object_from j.facts o (p ∷ es)) call alone acting same makes (few_behind j.facts ask o o (p ∷ es) all) passes
+      by true makes alone same acting = guard_makes o (object_from j.facts o (p ∷ es)) call alone acting same makes (few_later j.facts ask o o (p ∷ es) all) passes
       by false makes alone same acting =
-          guard_stays j ask sound law o (object_from j.facts o (p ∷ es)) call alone ok (good_behind j.facts ask sound law o (p ∷ es) ok time all) acting same makes passes
+          guard_stays j ask sound law o (object_from j.facts o (p ∷ es)) call alone ok (good_later j.facts ask sound law o (p ∷ es) ok time all) acting same makes passes

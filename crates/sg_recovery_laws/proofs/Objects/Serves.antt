@@ -34,7 +34,7 @@ use Rattle.sg_recovery_laws.proofs.Objects.Answered.{needed_none, needed_own, pa
 use Rattle.sg_recovery_laws.proofs.Objects.Apart.{IsOwnRow}
 use Rattle.sg_recovery_laws.proofs.Objects.Guarded.{acts, keeps, let_pass, looks_at_own, own_desc, own_parent}
 use Rattle.sg_recovery_laws.proofs.Objects.Steady.{after_good, ascends, fewer_after}
-use Rattle.sg_recovery_laws.proofs.Objects.Waiting.{behind_same, good_behind, hidden_is, less_time, time_after, waiting_after}
+use Rattle.sg_recovery_laws.proofs.Objects.Waiting.{after_same, good_later, hidden_is, less_time, time_after, waiting_after}
 
 -- ---- the path of a row that a service holds
 
@@ -78,13 +78,13 @@ path_held i names o held r holds sound there has =
 
 module _ (facts : Facts) (ask : Table) (sound : Object → Type 0) (law : IsService facts ask sound) where
   -- held replies leave no row under a new id
-  pub fewer_behind : (o : Object) (es : List Entry) → IsLegalObject facts sound o → HasTime facts (length es) o → AreWaiting facts ask o es → (id : ℕ) (w : Row) → row_at (object_from facts o es).rows id ≡ Some w
+  pub fewer_later : (o : Object) (es : List Entry) → IsLegalObject facts sound o → HasTime facts (length es) o → AreWaiting facts ask o es → (id : ℕ) (w : Row) → row_at (object_from facts o es).rows id ≡ Some w
       → is_live o.rows id ≡ true
-  fewer_behind o [] good time all id w there = live_of_row o.rows id w there
-  fewer_behind o (p ∷ es) good time all id w there =
+  fewer_later o [] good time all id w there = live_of_row o.rows id w there
+  fewer_later o (p ∷ es) good time all id w there =
       let hidden = hidden_is facts p.call.fun all.0.hidden in
       let later = time_after facts ask sound law (length es) o p.call p.reply good all.0.answered time in
-      let live = fewer_behind (after facts o p.call p.reply) es (after_good facts ask sound law o p.call p.reply good all.0.answered) later
+      let live = fewer_later (after facts o p.call p.reply) es (after_good facts ask sound law o p.call p.reply good all.0.answered) later
       (waiting_after facts ask sound law o p.call p.reply es good all.0.answered (less_time facts ask sound law (length es) 0 (after facts o p.call p.reply) (omega arith) later) all.1 all.2) id w there in
       at p.reply live hidden.makes
     where
@@ -108,12 +108,12 @@ module _ (facts : Facts) (ask : Table) (sound : Object → Type 0) (law : IsServ
       by_query false row = by_takes (takes_parent (fun_at facts.funs call.fun)) (takes_desc (fun_at facts.funs call.fun)) row refl refl
 
   -- what a call needs is the same after the held replies of others
-  pub needed_behind : (o : Object) (es : List Entry) (call : Call) (r : Row) → IsLegalObject facts sound o → HasTime facts (length es) o → AreWaiting facts ask o es → NoneBy call.client es → Passes facts o call
+  pub needed_after : (o : Object) (es : List Entry) (call : Call) (r : Row) → IsLegalObject facts sound o → HasTime facts (length es) o → AreWaiting facts ask o es → NoneBy call.client es → Passes facts o call
       → row_at o.rows r.id ≡ Some r → is_needed facts o.rows call r ≡ true → row_at (object_from facts o es).rows r.id ≡ Some r
-  needed_behind o [] call r good time all none passes there need = there
-  needed_behind o (p ∷ es) call r good time all none passes there need =
+  needed_after o [] call r good time all none passes there need = there
+  needed_after o (p ∷ es) call r good time all none passes there need =
       let hidden = hidden_is facts p.call.fun all.0.hidden in
-      let same = (behind_same facts ask sound law o (p ∷ es) call.client good time all none).0 in
+      let same = (after_same facts ask sound law o (p ∷ es) call.client good time all none).0 in
       let looks = looks_at_own facts call.fun law.shape.shape hidden.alone passes.is_call.first passes.is_call.last in
       elim (on_none_or_own o call hidden.alone passes) [
         | inl root ↦ absurd (let isn't = needed_none facts o.rows o.given call r looks (ascends facts o (law.keeps.general o good.is_sound)) root there in cc (need, isn't))
@@ -130,12 +130,12 @@ module _ (facts : Facts) (ask : Table) (sound : Object → Type 0) (law : IsServ
       at false None is may = absurd (cc may)
 
   -- the path of the descriptor is the same after the held replies of others
-  pub path_behind : (o : Object) (es : List Entry) (call : Call) → IsLegalObject facts sound o → HasTime facts (length es) o → AreWaiting facts ask o es → NoneBy call.client es → Passes facts o call
+  pub path_after : (o : Object) (es : List Entry) (call : Call) → IsLegalObject facts sound o → HasTime facts (length es) o → AreWaiting facts ask o es → NoneBy call.client es → Passes facts o call
       → takes_desc (fun_at facts.funs call.fun) ≡ true → (fun_at facts.funs call.fun).query ≡ false → path_of (object_from facts o es).rows call.desc ≡ path_of o.rows call.desc
-  path_behind o [] call good time all none passes takes row = refl
-  path_behind o (p ∷ es) call good time all none passes takes row =
+  path_after o [] call good time all none passes takes row = refl
+  path_after o (p ∷ es) call good time all none passes takes row =
       let hidden = hidden_is facts p.call.fun all.0.hidden in
-      let same = (behind_same facts ask sound law o (p ∷ es) call.client good time all none).0 in
+      let same = (after_same facts ask sound law o (p ∷ es) call.client good time all none).0 in
       path_own call.client o.rows (object_from facts o (p ∷ es)).rows call.desc (good.own hidden.alone) same
       (own_desc (whole facts) o call hidden.alone (let_pass (whole facts) o call row passes.guarded) takes)
 
@@ -166,7 +166,7 @@ module _ (facts : Facts) (ask : Table) (sound : Object → Type 0) (law : IsServ
       stands : (ws : List Row) → EachHeld i names (object_from facts o es) held ws → EachStands names o.rows ws
       stands [] each = tt
       stands (w ∷ ws) each =
-          (record { of = each.0.row.id; live = fewer_behind o es good time all each.0.row.id each.0.row each.0.live; id = name_of_held i names each.0.row w each.0.held_for }, stands ws each.1)
+          (record { of = each.0.row.id; live = fewer_later o es good time all each.0.row.id each.0.row each.0.live; id = name_of_held i names each.0.row w each.0.held_for }, stands ws each.1)
 
       file : (b : Bool) → (fun_at facts.funs call.fun).uses_file ≡ b → SameFile o held call.desc (named names call.desc) (cond b (Some (path_of o.rows call.desc)) None)
       file false is = tt
@@ -178,11 +178,11 @@ module _ (facts : Facts) (ask : Table) (sound : Object → Type 0) (law : IsServ
           let id : d.0.id ≡ call.desc = id_of_row o.rows call.desc d.0 d.1 in
           let there : row_at o.rows d.0.id ≡ Some d.0 = ap (row_at o.rows) id ∙ d.1 in
           let need : is_needed facts o.rows call d.0 ≡ true = its_own facts o.rows call d.0 id in
-          let behind : row_at (object_from facts o es).rows d.0.id ≡ Some d.0 = needed_behind o es call d.0 good time all none passes there need in
+          let behind : row_at (object_from facts o es).rows d.0.id ≡ Some d.0 = needed_after o es call d.0 good time all none passes there need in
           let path : path_of held.rows (named names d.0.id) ≡ path_of (object_from facts o es).rows d.0.id
-          = path_held i names (object_from facts o es) held d.0 holds (subst (λ f. IsSound f (object_from facts o es)) (sym its) (law.keeps.general (object_from facts o es) (good_behind facts ask sound law o es good time all).is_sound))
+          = path_held i names (object_from facts o es) held d.0 holds (subst (λ f. IsSound f (object_from facts o es)) (sym its) (law.keeps.general (object_from facts o es) (good_later facts ask sound law o es good time all).is_sound))
           behind (needed d.0 there need) in
-          (ap (λ n. path_of held.rows (named names n)) (sym id) ∙ path ∙ ap (path_of (object_from facts o es).rows) id ∙ path_behind o es call good time all none passes takes row, same_file is)
+          (ap (λ n. path_of held.rows (named names n)) (sym id) ∙ path ∙ ap (path_of (object_from facts o es).rows) id ∙ path_after o es call good time all none passes takes row, same_file is)
         where
           not_so : (b : Bool) → (b ≡ true → ⊥) → b ≡ false
           not_so true isn't = absurd (isn't refl)

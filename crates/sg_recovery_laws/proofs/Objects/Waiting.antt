@@ -142,11 +142,11 @@ module _ (facts : Facts) (ask : Table) (sound : Object → Type 0) (law : IsServ
       )
 
   -- the object after held replies is one of legal histories
-  pub good_behind : (o : Object) (es : List Entry) → IsLegalObject facts sound o → HasTime facts (length es) o → AreWaiting facts ask o es → IsLegalObject facts sound (object_from facts o es)
-  good_behind o [] good time all = good
-  good_behind o (p ∷ es) good time all =
+  pub good_later : (o : Object) (es : List Entry) → IsLegalObject facts sound o → HasTime facts (length es) o → AreWaiting facts ask o es → IsLegalObject facts sound (object_from facts o es)
+  good_later o [] good time all = good
+  good_later o (p ∷ es) good time all =
       let later = time_after (length es) o p.call p.reply good all.0.answered time in
-      good_behind (after facts o p.call p.reply) es (after_good facts ask sound law o p.call p.reply good all.0.answered) later
+      good_later (after facts o p.call p.reply) es (after_good facts ask sound law o p.call p.reply good all.0.answered) later
       (waiting_after o p.call p.reply es good all.0.answered (less_time (length es) 0 (after facts o p.call p.reply) (omega arith) later) all.1 all.2)
 
   -- an answered call before held replies of others is as one after them
@@ -182,14 +182,14 @@ module _ (facts : Facts) (ask : Table) (sound : Object → Type 0) (law : IsServ
           (on_own_after facts p.call e gp g o.rows o.given o.given (good.own alone) acts_p (is.on g reply_is) (λ same. none.0 same) (is.on g reply_is).next))
 
   -- other clients' rows, the files and the ids given are as before
-  pub behind_same : (o : Object) (es : List Entry) (d : ℕ) → IsLegalObject facts sound o → HasTime facts (length es) o → AreWaiting facts ask o es → NoneBy d es
+  pub after_same : (o : Object) (es : List Entry) (d : ℕ) → IsLegalObject facts sound o → HasTime facts (length es) o → AreWaiting facts ask o es → NoneBy d es
       → SameFor d o.rows (object_from facts o es).rows × ((object_from facts o es).files ≡ o.files) × ((object_from facts o es).given ≡ o.given)
-  behind_same o [] d good time all none = (same_self d o.rows, refl, refl)
-  behind_same o (p ∷ es) d good time all none =
+  after_same o [] d good time all none = (same_self d o.rows, refl, refl)
+  after_same o (p ∷ es) d good time all none =
       let hidden = hidden_is facts p.call.fun all.0.hidden in
       let later = time_after (length es) o p.call p.reply good all.0.answered time in
       let o' : Object = after facts o p.call p.reply in
-      let rest = behind_same o' es d (after_good facts ask sound law o p.call p.reply good all.0.answered) later
+      let rest = after_same o' es d (after_good facts ask sound law o p.call p.reply good all.0.answered) later
       (waiting_after o p.call p.reply es good all.0.answered (less_time (length es) 0 o' (omega arith) later) all.1 all.2) none.1 in (
         same_on d o.rows o'.rows (object_from facts o' es).rows (others_stay facts ask sound law o p.call p.reply d hidden.alone good all.0.answered none.0) rest.0,
         rest.1 ∙ ap (patched o.files) (no_patch o p.call p.reply hidden.no_file),

@@ -18,14 +18,14 @@ use Rattle.sg_hist.specs.Inside.Parts.{is_patch_at, is_walk_of}
 use Rattle.sg_recovery_laws.specs.Midway.Progress.{TellsCalls, IsNone, Told, is_complete}
 
 -- whether an id is whole after the items of a boot
-abbrev pub whole_behind : Facts → List WalkLine → List Entry → List Item → List Item → ℕ → Bool
-whole_behind facts walks history older front id =
+abbrev pub whole_after : Facts → List WalkLine → List Entry → List Item → List Item → ℕ → Bool
+whole_after facts walks history older front id =
     list_any (is_made facts history id) front || list_any (is_rebuilt_at facts walks history id) (places_in older [] front [])
 
 -- what is told is what the trace tells. The trace's names go on to name what has ended; those of the stubs need not
 pub record IsRead (facts : Facts) (walks : List WalkLine) (history : List Entry) (older front : List Item) (names : List (ℕ × ℕ)) (told : ℕ → Told) (present : List ℕ → Bool) (rows : List Row) : Type 0 where
   pub names_are : (id : ℕ) → IsNone rows id → named (names_at facts history front) id ≡ named names id
-  pub whole : (id : ℕ) → is_live rows id ≡ true → whole_behind facts walks history older front id ≡ is_complete (told id)
+  pub whole : (id : ℕ) → is_live rows id ≡ true → whole_after facts walks history older front id ≡ is_complete (told id)
   pub calls : (id : ℕ) → is_live rows id ≡ true → TellsCalls (told id) (length (filter (λ item. is_walk_of id item.tag) front))
   pub files : (path : List ℕ) → list_any (λ item. is_patch_at path item.outcome) front ≡ present path
 

@@ -3,12 +3,11 @@ use Rattle.std.specs.Prelude.{ℕ, ◌==◌, Bool, true, if◌then◌else◌, Li
 use Rattle.std.specs.declared.option.Option.{Option}
 use Rattle.std.specs.Fmt.{decimal}
 use Rattle.std.specs.List.{flat_map}
-use Rattle.std.specs.Str.{bytes_eq}
 use Rattle.sg_facts.specs.sg_base.Counts.{last_count}
 use Rattle.sg_facts.specs.sg_base.declared.reply.Good.{Good}
 use Rattle.sg_facts.specs.Words.{line_end}
 use Rattle.sg_facts.specs.declared.trace.Item.{Item}
-use Rattle.sg_facts.specs.Facts.{Facts, Fun}
+use Rattle.sg_facts.specs.Facts.{Facts, Fun, shows_bytes}
 use Rattle.sg_facts.specs.Trace.{Boot, Run}
 use Rattle.sg_facts.specs.declared.trace.Tag.{Tag}
 use Rattle.sg_facts.specs.declared.trace.Tag.TheVariants.{Walk}
@@ -26,10 +25,6 @@ quoted bytes = 34 ∷ bytes ++ 34 ∷ []
 -- whether an item is a replayed call that was answered, of a descriptor whose id meets a test
 abbrev pub is_replay_for : (ℕ → Bool) → Tag → Outcome → Bool
 is_replay_for test tag outcome = elim tag [ Walk id k client ↦ test id && is_replied outcome | _ ↦ false ]
-
--- whether a function's Ok shows its bytes: the one that reads a file
-abbrev pub shows_bytes : Fun → Bool
-shows_bytes f = bytes_eq f.name (codes "tread")
 
 -- an Ok of a function: its descriptor, where it has one, its words, and its bytes where they are shown
 abbrev pub good_text : Fun → Good → List ℕ

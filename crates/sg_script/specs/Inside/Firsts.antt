@@ -15,5 +15,5 @@ first_of_two None g = g
 first_of_two (Some f) g = if is_not_after f g then f else g
 
 -- the first of a flaw before, where there is one, and some more
-abbrev pub first_behind : Option ScriptFault → List ScriptFault → Option ScriptFault
-first_behind before flaws = fold (λ first g. Some (first_of_two first g)) before flaws
+abbrev pub first_after : Option ScriptFault → List ScriptFault → Option ScriptFault
+first_after before flaws = fold (λ first g. Some (first_of_two first g)) before flaws

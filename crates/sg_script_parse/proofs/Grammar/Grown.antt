@@ -13,7 +13,7 @@ use Rattle.sg_script_parse.specs.declared.tree.Part.TheVariants.{Setup, Client, 
 use Rattle.sg_script_parse.specs.Grammar.Pieces.{ScriptPiece, mark, IsScriptPiece}
 use Rattle.sg_script_parse.specs.Grammar.Inside.Pieces.{fixed, word, number, quoted}
 use Rattle.sg_script_parse.specs.Grammar.Sentence.{arg_pieces, is_named_for}
-use Rattle.sg_script_parse.specs.Grammar.Inside.States.{ScriptState, dead, due, want, want_word, argument, bracketed, listed, body, counts, script, spelt_by, argument_behind, part_behind, with_part, call_rest, setup_rest, client_rest, schedule_rest, stop_rest, step}
+use Rattle.sg_script_parse.specs.Grammar.Inside.States.{ScriptState, dead, due, want, want_word, argument, bracketed, listed, body, counts, script, spelt_by, argument_after, part_after, with_part, call_rest, setup_rest, client_rest, schedule_rest, stop_rest, step}
 use Rattle.sg_lex.specs.Inside.Tests.{has_kind, is_this_mark, is_fixed}
 use Rattle.sg_script_parse.proofs.Grammar.Basics.{none_some, chosen, of-is, mark-is, fixed-is, both_left, both_right}
 use Rattle.sg_script_parse.proofs.Grammar.Thens.{listed_then, args_then, calls_then, numbers_then, part_then, parts_then, parts_snoc}
@@ -44,7 +44,7 @@ one_more : (several : Bool) (f : List ScriptPiece → List ScriptPiece) (token :
 one_more several f token s next p is e h = record { piece = p; is = is; has = subst (λ v. HasRead several v (λ r. f (p ∷ r))) e h }
 
 argument_grown : (several : Bool) (k : WrittenArg → ScriptState) (f : List ScriptPiece → List ScriptPiece) (token : Lexeme) (next : ScriptState)
-    → ((a : WrittenArg) → HasRead several (k a) (λ r. f (arg_pieces a ++ r))) → argument_behind k token ≡ Some next → Grown several f token next
+    → ((a : WrittenArg) → HasRead several (k a) (λ r. f (arg_pieces a ++ r))) → argument_after k token ≡ Some next → Grown several f token next
 argument_grown several k f token next h e =
     chosen (Grown several f token next) (is_this_mark dollar_byte token) (want (λ n. k (back_arg n))) _ next e
     (λ t g. one_more several f token (want (λ n. k (back_arg n))) next (mark (dollar_byte ∷ [])) (mark-is dollar_byte token t) g (λ n. h (back_arg n)))
@@ -62,7 +62,7 @@ all_and test (q ∷ parts) p all is =
 
 part_grown : (several : Bool) (parts : List Part) (f : List ScriptPiece → List ScriptPiece) (token : Lexeme) (next : ScriptState)
     → ((r : List ScriptPiece) → f r ≡ parts_then parts r) → list_all (is_named_for several) parts ≡ true
-    → part_behind several (with_part several parts) token ≡ Some next → Grown several f token next
+    → part_after several (with_part several parts) token ≡ Some next → Grown several f token next
 part_grown several parts f token next h all e =
     chosen (Grown several f token next) (is_fixed (codes "setup") token) (setup_rest (with_part several parts) token.at) _ next e
     (λ t g. one_more several f token (setup_rest (with_part several parts) token.at) next (fixed (codes "setup") token.at) (fixed-is (codes "setup") token t) g
@@ -133,4 +133,4 @@ grown several (counts numbers k) f token next h e =
     (subst (λ v. HasRead several (k v) (λ r. f (mark (semicolon_byte ∷ []) ∷ r))) (append-nil numbers) (h [])))
     (λ _ e2. none_some (Grown several f token next) next e2))
 grown several (script one parts) f token next h e =
-    part_grown several parts f token next h.0 h.1 (subst (λ b. part_behind b (with_part b parts) token ≡ Some next) h.2 e)
+    part_grown several parts f token next h.0 h.1 (subst (λ b. part_after b (with_part b parts) token ≡ Some next) h.2 e)

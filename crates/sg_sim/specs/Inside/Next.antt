@@ -16,15 +16,15 @@ abbrev pub may_go_next : Playing → ℕ → Bool
 may_go_next p client = may_turn (stage_now p) client
 
 -- the first client after one, and up to another, that may take a turn
-pub record IsFirstBehind (p : Playing) (behind last client : ℕ) : Type 0 where
+pub record IsFirstAfter (p : Playing) (behind last client : ℕ) : Type 0 where
   pub above : behind < client
   pub within : client ≤ last
   pub may : may_go_next p client ≡ true
   pub before : (other : ℕ) → behind < other → other < client → may_go_next p other ≡ false
 
 -- none of them may
-abbrev pub NoneBehind : Playing → ℕ → ℕ → Type 0
-NoneBehind p behind last = (client : ℕ) → behind < client → client ≤ last → may_go_next p client ≡ false
+abbrev pub NoneAfter : Playing → ℕ → ℕ → Type 0
+NoneAfter p behind last = (client : ℕ) → behind < client → client ≤ last → may_go_next p client ≡ false
 
 -- no client of the turns of the schedule up to one may take it
 abbrev pub NoneScheduled : Playing → ℕ → Type 0

@@ -22,7 +22,7 @@ use Rattle.sg_facts.specs.Object.{Object}
 use Rattle.sg_facts.specs.Sound.{AreFields, AreRows, IsRow}
 use Rattle.sg_facts.specs.Track.{field_at, fields_after, row_at, word_of}
 use Rattle.sg_facts.specs.Inside.Rows.{cleared, empty_field}
-use Rattle.sg_facts.specs.Walks.{Mark, Spot, good, unknown, unset, mark_after, marks_after, restores_fields, spot_of}
+use Rattle.sg_facts.specs.Walks.{FieldMark, Spot, good, unknown, unset, mark_after, marks_after, restores_fields, spot_of}
 use Rattle.sg_facts.specs.Inside.Walking.{first_spot, may_begin, may_go_on, next_spot, restores_field}
 use Rattle.sg_facts.specs.Replaying.Replays.{AnswersCreations, AnswersReplays, AnswersSteps, IsAnsweredOk, IsHalfway}
 use Rattle.sg_facts.proofs.Replaying.Above.{name_of_held}
@@ -55,7 +55,7 @@ two_steps state f is = at (1 == state) (2 == f) (4 == f) refl refl is
 -- ---- what a mark says of a field
 
 -- a field whose mark is good is the row's
-good_field : (x : ℕ) (marks : List Mark) (vs ws : List Value) → slice_get marks x ≡ Some good → FieldsHold marks vs ws → field_at ws x ≡ field_at vs x
+good_field : (x : ℕ) (marks : List FieldMark) (vs ws : List Value) → slice_get marks x ≡ Some good → FieldsHold marks vs ws → field_at ws x ≡ field_at vs x
 good_field x [] vs ws is hold = absurd (cc is)
 good_field x (m ∷ marks) [] ws is hold = absurd hold
 good_field x (m ∷ marks) (v ∷ vs) [] is hold = absurd hold
@@ -65,7 +65,7 @@ good_field zero (unknown ∷ marks) (v ∷ vs) (w ∷ ws) is hold = absurd (cc i
 good_field (suc x) (m ∷ marks) (v ∷ vs) (w ∷ ws) is hold = good_field x marks vs ws is hold.1
 
 -- a field whose mark is unset is 0 or empty
-unset_field : (x : ℕ) (marks : List Mark) (vs ws : List Value) → slice_get marks x ≡ Some unset → FieldsHold marks vs ws → field_at ws x ≡ cleared (field_at vs x)
+unset_field : (x : ℕ) (marks : List FieldMark) (vs ws : List Value) → slice_get marks x ≡ Some unset → FieldsHold marks vs ws → field_at ws x ≡ cleared (field_at vs x)
 unset_field x [] vs ws is hold = absurd (cc is)
 unset_field x (m ∷ marks) [] ws is hold = absurd hold
 unset_field x (m ∷ marks) (v ∷ vs) [] is hold = absurd hold
@@ -75,7 +75,7 @@ unset_field zero (unknown ∷ marks) (v ∷ vs) (w ∷ ws) is hold = absurd (cc 
 unset_field (suc x) (m ∷ marks) (v ∷ vs) (w ∷ ws) is hold = unset_field x marks vs ws is hold.1
 
 -- where there is no mark there is no field
-no_field : (x : ℕ) (marks : List Mark) (vs ws : List Value) → slice_get marks x ≡ None → FieldsHold marks vs ws → field_at ws x ≡ Word 0
+no_field : (x : ℕ) (marks : List FieldMark) (vs ws : List Value) → slice_get marks x ≡ None → FieldsHold marks vs ws → field_at ws x ≡ Word 0
 no_field x [] [] [] is hold = refl
 no_field x [] [] (w ∷ ws) is hold = absurd hold
 no_field x [] (v ∷ vs) ws is hold = absurd hold
@@ -85,7 +85,7 @@ no_field zero (m ∷ marks) (v ∷ vs) (w ∷ ws) is hold = absurd (cc is)
 no_field (suc x) (m ∷ marks) (v ∷ vs) (w ∷ ws) is hold = no_field x marks vs ws is hold.1
 
 -- marks with an unknown one restore nothing
-lost_never : (x : ℕ) (marks : List Mark) (set : List Bool) → slice_get marks x ≡ Some unknown → restores_fields marks set ≡ true → ⊥
+lost_never : (x : ℕ) (marks : List FieldMark) (set : List Bool) → slice_get marks x ≡ Some unknown → restores_fields marks set ≡ true → ⊥
 lost_never x [] set is restores = cc is
 lost_never x (m ∷ marks) [] is restores = cc restores
 lost_never zero (unset ∷ marks) (b ∷ set) is restores = cc is
@@ -94,26 +94,26 @@ lost_never zero (unknown ∷ marks) (b ∷ set) is restores = cc restores
 lost_never (suc x) (m ∷ marks) (b ∷ set) is restores = lost_never x marks set is (both_true (restores_field m b) (restores_fields marks set) restores).1
 
 -- a tick changes the mark of the time alone, and a placing that of the due time
-tick_mark : (marks : List Mark) (m : Mark) → slice_get marks 3 ≡ Some m → slice_get (marks_after ((3, AddArg 0) ∷ []) marks) 3 ≡ Some (mark_after (AddArg 0) m)
+tick_mark : (marks : List FieldMark) (m : FieldMark) → slice_get marks 3 ≡ Some m → slice_get (marks_after ((3, AddArg 0) ∷ []) marks) 3 ≡ Some (mark_after (AddArg 0) m)
 tick_mark [] m is = absurd (cc is)
 tick_mark (a ∷ []) m is = absurd (cc is)
 tick_mark (a ∷ b ∷ []) m is = absurd (cc is)
 tick_mark (a ∷ b ∷ c ∷ []) m is = absurd (cc is)
 tick_mark (a ∷ b ∷ c ∷ d ∷ marks) m is = let one : d ≡ m = cc is in ap (λ n. Some (mark_after (AddArg 0) n)) one
 
-tick_tag : (marks : List Mark) → slice_get (marks_after ((3, AddArg 0) ∷ []) marks) 2 ≡ slice_get marks 2
+tick_tag : (marks : List FieldMark) → slice_get (marks_after ((3, AddArg 0) ∷ []) marks) 2 ≡ slice_get marks 2
 tick_tag [] = refl
 tick_tag (a ∷ []) = refl
 tick_tag (a ∷ b ∷ []) = refl
 tick_tag (a ∷ b ∷ c ∷ marks) = refl
 
-place_tag : (marks : List Mark) → slice_get (marks_after ((4, SetArg 0) ∷ []) marks) 2 ≡ slice_get marks 2
+place_tag : (marks : List FieldMark) → slice_get (marks_after ((4, SetArg 0) ∷ []) marks) 2 ≡ slice_get marks 2
 place_tag [] = refl
 place_tag (a ∷ []) = refl
 place_tag (a ∷ b ∷ []) = refl
 place_tag (a ∷ b ∷ c ∷ marks) = refl
 
-place_mark : (marks : List Mark) → slice_get (marks_after ((4, SetArg 0) ∷ []) marks) 3 ≡ slice_get marks 3
+place_mark : (marks : List FieldMark) → slice_get (marks_after ((4, SetArg 0) ∷ []) marks) 3 ≡ slice_get marks 3
 place_mark [] = refl
 place_mark (a ∷ []) = refl
 place_mark (a ∷ b ∷ []) = refl
@@ -125,10 +125,10 @@ no_word (Word n) = refl
 no_word (Text bytes) = refl
 
 -- what a tick finds, unless it leaves nothing known of the time
-time_none : (marks : List Mark) (vs ws : List Value) → FieldsHold marks vs ws → (slice_get (marks_after ((3, AddArg 0) ∷ []) marks) 3 ≡ Some unknown → ⊥) → word_of (field_at ws 3) ≡ 0
+time_none : (marks : List FieldMark) (vs ws : List Value) → FieldsHold marks vs ws → (slice_get (marks_after ((3, AddArg 0) ∷ []) marks) 3 ≡ Some unknown → ⊥) → word_of (field_at ws 3) ≡ 0
 time_none marks vs ws hold lost = at (slice_get marks 3) refl
   where
-    at : (found : Option Mark) → slice_get marks 3 ≡ found → word_of (field_at ws 3) ≡ 0
+    at : (found : Option FieldMark) → slice_get marks 3 ≡ found → word_of (field_at ws 3) ≡ 0
     at None is = ap word_of (no_field 3 marks vs ws is hold)
     at (Some unset) is = ap word_of (unset_field 3 marks vs ws is hold) ∙ no_word (field_at vs 3)
     at (Some good) is = absurd (lost (tick_mark marks good is))

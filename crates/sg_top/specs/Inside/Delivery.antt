@@ -2,8 +2,8 @@
 use Rattle.std.specs.Prelude.{ℕ, ◌≡◌, ◌<◌, ◌⊎◌, List, length, take}
 use Rattle.std.specs.Io.KnownBytes.{Appends}
 use Rattle.sg_edge.specs.Edge.{Rose}
-use Rattle.sg_input.specs.declared.outcome.Verdict.{Verdict}
-use Rattle.sg_input.specs.declared.outcome.Verdict.TheVariants.{Accepted as accepted, Refused as refused}
+use Rattle.sg_input.specs.declared.read.Read.{Read}
+use Rattle.sg_input.specs.declared.read.Read.TheVariants.{Ready as ready, Refused as refused}
 use Rattle.sg_top.specs.declared.output.Ran.{Ran}
 use Rattle.sg_top.specs.declared.output.Ran.TheVariants.{Nothing}
 use Rattle.sg_top.specs.declared.status.Status.{Status}
@@ -11,8 +11,8 @@ use Rattle.sg_top.specs.declared.status.Status.TheVariants.{Done, Refused, Write
 use Rattle.sg_top.specs.Answer.{Ends}
 
 -- an output says this of a text, with the status that belongs to it
-abbrev pub IsSaid : Verdict → Status → List ℕ → Type 0
-IsSaid (accepted text) status output = (status ≡ Done) × (output ≡ text)
+abbrev pub IsSaid : Read (List ℕ) → Status → List ℕ → Type 0
+IsSaid (ready text) status output = (status ≡ Done) × (output ≡ text)
 IsSaid (refused line) status output = (status ≡ Refused) × (output ≡ line)
 
 -- an output was written whole, with the status that belongs to it, and no write failed; or a write failed, and what is written

@@ -1,41 +1,39 @@
 -- The parts of what a command makes, by themselves.
 use Rattle.std.specs.Prelude.{ℕ, ◌≡◌, ◌≤◌, ◌⊎◌, List, length}
-use Rattle.sg_input.specs.declared.input.Input.TheVariants.{Refused as refused_input}
-use Rattle.sg_input.specs.declared.multi_input.MultiInput.TheVariants.{Refused as refused_multi}
-use Rattle.sg_input.specs.declared.outcome.Verdict.TheVariants.{Refused as refused}
-use Rattle.sg_input.specs.declared.run_input.RunInput.TheVariants.{Refused as refused_run}
+use Rattle.sg_input.specs.declared.read.Read.TheVariants.{Refused as refused}
 use Rattle.sg_input.specs.Inputs.{IsInputOf, IsRunInputOf}
 use Rattle.sg_input.specs.MultiInputs.{IsMultiInputOf}
 use Rattle.sg_explain.specs.Explained.{IsExplained}
 use Rattle.sg_input.specs.Verdicts.{IsVerdict}
-use Rattle.sg_verify.specs.declared.verdict.Verdict.{Verdict as Judgement}
+use Rattle.sg_verify.specs.declared.verdict.Verdict.{Verdict}
 use Rattle.sg_verify.specs.declared.verdict.Verdict.TheVariants.{Legal}
 use Rattle.sg_top.specs.Answer.{IsExploredAs, IsJudgedAs, IsRefusal, services, most_bytes}
 use Rattle.sg_top.specs.declared.command.Command.{Command}
-use Rattle.sg_top.specs.declared.command.Command.TheVariants.{Play, Explain, Explore, Verify, Multi, Load}
+use Rattle.sg_top.specs.declared.command.Command.TheVariants.{Play, Run, Explain, Explore, Verify, Multi, Load}
 use Rattle.sg_top.specs.declared.status.Status.{Status}
 use Rattle.sg_top.specs.declared.status.Status.TheVariants.{Done, Refused, ReadFault, WriteFault, NoMemory, Illegal}
 
 -- the status of what is said of a history
-abbrev pub verdict_status : Judgement → Status
+abbrev pub verdict_status : Verdict → Status
 verdict_status said = elim said as (λ v. Status) [ Legal ↦ Done | _ ↦ Illegal ]
 
 -- the output of a verification, and its status: what is said of a history, or the line of an input that is refused
 abbrev pub IsVerified : List ℕ → Status → List ℕ → Type 0
-IsVerified bytes status output = IsJudgedAs bytes status output ⊎ ((status ≡ Refused) × IsRunInputOf services bytes (refused_run output))
+IsVerified bytes status output = IsJudgedAs bytes status output ⊎ ((status ≡ Refused) × IsRunInputOf services bytes (refused output))
 
 -- the output of an exploration, and its status: what was found, or the line of an input that is refused
 abbrev pub IsExploration : List ℕ → ℕ → Status → List ℕ → Type 0
-IsExploration bytes most status output = IsExploredAs bytes most status output ⊎ ((status ≡ Refused) × IsInputOf services bytes (refused_input output))
+IsExploration bytes most status output = IsExploredAs bytes most status output ⊎ ((status ≡ Refused) × IsInputOf services bytes (refused output))
 
 -- the line with which a command refuses bytes that aren't too many
 abbrev pub IsRefusedAs : Command → List ℕ → List ℕ → Type 0
 IsRefusedAs command bytes output = elim command as (λ c. Type 0) [
-  | Play threads shows ↦ IsInputOf services bytes (refused_input output)
+  | Play shows ↦ IsInputOf services bytes (refused output)
+  | Run trace ↦ IsInputOf services bytes (refused output)
   | Explain ↦ IsExplained services bytes (refused output)
-  | Explore most ↦ IsInputOf services bytes (refused_input output)
-  | Verify ↦ IsRunInputOf services bytes (refused_run output)
-  | Multi trace ↦ IsMultiInputOf services bytes (refused_multi output)
+  | Explore most ↦ IsInputOf services bytes (refused output)
+  | Verify ↦ IsRunInputOf services bytes (refused output)
+  | Multi trace ↦ IsMultiInputOf services bytes (refused output)
   | Load service number ↦ ⊥
   | _ ↦ IsVerdict services bytes (refused output)
 ]

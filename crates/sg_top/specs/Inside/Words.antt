@@ -6,8 +6,8 @@ use Rattle.sg_input.specs.sg_lex.Table.{IsNumber}
 use Rattle.sg_facts.specs.sg_base.Counts.{last_count}
 use Rattle.sg_input.specs.sg_script.Numbers.{value_of_digits}
 use Rattle.sg_top.specs.declared.command.Command.{Command}
-use Rattle.sg_top.specs.declared.command.Command.TheVariants.{Play, Check, Compile, Upgrade, Explain, Explore, Verify, Multi, Load}
-use Rattle.sg_top.specs.declared.command.Shows.TheVariants.{Run, Trace, Costs, Picture, Columns}
+use Rattle.sg_top.specs.declared.command.Command.TheVariants.{Play, Run, Check, Compile, Upgrade, Explain, Explore, Verify, Multi, Load}
+use Rattle.sg_top.specs.declared.command.Shows.TheVariants.{Report, Trace, Costs, Picture, Columns}
 
 -- digits, at least one, stand for a number of 64 bits
 abbrev pub AreDigitsOf : ℕ → List ℕ → Type 0
@@ -19,10 +19,10 @@ AreBoundOf most digits = IsNumber digits × (value_of_digits digits ≡ most) ×
 
 -- a word alone says a command
 abbrev pub IsWordOf : List ℕ → Command → Type 0
-IsWordOf word (Play false Run) = word ≡ codes "sim"
-IsWordOf word (Play true Run) = word ≡ codes "run"
-IsWordOf word (Play false Costs) = word ≡ codes "cost"
-IsWordOf word (Play false Picture) = word ≡ codes "draw"
+IsWordOf word (Play Report) = word ≡ codes "sim"
+IsWordOf word (Play Costs) = word ≡ codes "cost"
+IsWordOf word (Play Picture) = word ≡ codes "draw"
+IsWordOf word (Run false) = word ≡ codes "run"
 IsWordOf word Check = word ≡ codes "check"
 IsWordOf word Compile = word ≡ codes "compile"
 IsWordOf word Upgrade = word ≡ codes "upgrade"
@@ -34,9 +34,9 @@ IsWordOf word _ = ⊥
 
 -- a word and a second one say a command
 abbrev pub IsPairOf : List ℕ → List ℕ → Command → Type 0
-IsPairOf word more (Play false Trace) = (word ≡ codes "sim") × (more ≡ codes "trace")
-IsPairOf word more (Play true Trace) = (word ≡ codes "run") × (more ≡ codes "trace")
-IsPairOf word more (Play false Columns) = (word ≡ codes "draw") × (more ≡ codes "text")
+IsPairOf word more (Play Trace) = (word ≡ codes "sim") × (more ≡ codes "trace")
+IsPairOf word more (Play Columns) = (word ≡ codes "draw") × (more ≡ codes "text")
+IsPairOf word more (Run true) = (word ≡ codes "run") × (more ≡ codes "trace")
 IsPairOf word more (Multi true) = (word ≡ codes "multi") × (more ≡ codes "trace")
 IsPairOf word more (Explore most) = (word ≡ codes "explore") × AreBoundOf most more
 IsPairOf word more _ = ⊥

@@ -1,7 +1,7 @@
 -- What contracts see of places at the table, and what is true of them between calls.
 use Rattle.std.specs.Prelude.{◌≡◌, ℕ, Bool, true, false, Option, None, List, [], ◌∷◌, ◌++◌}
 use Rattle.atomic_table.specs.Seated.{TableId}
-use Rattle.atomic_table.specs.declared.shared.Seat.{Seat as Place}
+use Rattle.atomic_table.specs.declared.shared.Seat.{Seat as BoardSeat}
 use Rattle.sg_turn.specs.Inside.Steps.{dealer_view}
 use Rattle.sg_turn.specs.Seats.{SeatView, ClosingView}
 use Rattle.sg_turn.specs.declared.log.Face.{Face}
@@ -19,7 +19,7 @@ is_holding (Counted t) = false
 is_holding Spent = false
 
 -- the seat with a place
-abbrev pub seat_view : {V : Type 0} → Place (Option V) View → SeatView
+abbrev pub seat_view : {V : Type 0} → BoardSeat (Option V) View → SeatView
 seat_view p = record {
   turn = p.table_id;
   number = p.me.0.own.number;
@@ -38,12 +38,12 @@ IsBetween (Holding t) slots = slots ≡ (0, None) ∷ []
 IsBetween (Counted t) slots = ⊥
 IsBetween Spent slots = ⊥
 
-pub record IsSeat {V : Type 0} (p : Place (Option V) View) : Type 0 where
+pub record IsSeat {V : Type 0} (p : BoardSeat (Option V) View) : Type 0 where
   pub joined : p.me.0.joined ≡ []
   pub between : IsBetween p.me.0.state p.me.1
 
 -- while seats are dealt, one has every number that isn't dealt
-pub record IsDealing {V : Type 0} (id : TableId) (start : Face) (p : Place (Option V) View) : Type 0 where
+pub record IsDealing {V : Type 0} (id : TableId) (start : Face) (p : BoardSeat (Option V) View) : Type 0 where
   pub words : id.words ≡ 3
   pub slots : id.slots ≡ 1
   pub table : p.table_id ≡ id
@@ -54,7 +54,7 @@ abbrev pub closing_of : TableId → Face → View → ClosingView
 closing_of id start v = record { id = id; start = start; gathered = v.joined ++ v.own ∷ [] }
 
 -- while seats are taken back, the last one takes in what the others know
-pub record IsClosing {V : Type 0} (id : TableId) (p : Place (Option V) View) : Type 0 where
+pub record IsClosing {V : Type 0} (id : TableId) (p : BoardSeat (Option V) View) : Type 0 where
   pub words : id.words ≡ 3
   pub slots : id.slots ≡ 1
   pub table : p.table_id ≡ id

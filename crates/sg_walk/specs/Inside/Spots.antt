@@ -2,7 +2,7 @@
 use Rattle.std.specs.Prelude.{ℕ, ◌/◌, ◌%◌, ◌==◌, Bool, false, ◌&&◌, List, [], ◌∷◌, None, Some, length, map, take}
 use Rattle.std.specs.declared.option.Option.{Option}
 use Rattle.sg_facts.specs.Interface.{Declared}
-use Rattle.sg_facts.specs.Walks.{Mark as Known, unset, good, unknown, Spot as Place, spot_from, spot_of}
+use Rattle.sg_facts.specs.Walks.{FieldMark as Known, unset, good, unknown, Spot as Place, spot_from, spot_of}
 use Rattle.sg_facts.specs.Inside.Walking.{restores_field}
 use Rattle.sg_walk.specs.declared.spot.FieldState.{FieldState}
 use Rattle.sg_walk.specs.declared.spot.FieldState.TheVariants.{Unset, Good, Unknown}

@@ -10,7 +10,7 @@ use Rattle.sg_facts.specs.sg_base.declared.reply.Reply.{Reply}
 use Rattle.sg_facts.specs.sg_base.declared.reply.Reply.TheVariants.{Ok, Refused}
 use Rattle.sg_world_laws.specs.Committing.Telling.{IsDescToldBy, IsToldBy, TellsAfter, has_ended, makes_id}
 use Rattle.sg_world_laws.specs.Keeping.{TellSame, Stub}
-use Rattle.sg_world_laws.proofs.Committing.Behind.{apart_ok, apart_refused}
+use Rattle.sg_world_laws.proofs.Committing.Later.{apart_ok, apart_refused}
 use Rattle.sg_facts.specs.declared.outcome.Patch.{Patch}
 use Rattle.sg_facts.specs.Alike.{SameReply, named}
 use Rattle.sg_facts.specs.Facts.{Facts, fun_at}

@@ -14,7 +14,7 @@ use Rattle.sg_recovery_laws.specs.sg_hist.Growing.{IsOfNoEntry}
 use Rattle.sg_recovery_laws.specs.sg_hist.Reading.{last_items, older_items}
 use Rattle.sg_recovery_laws.proofs.Lists.{each_map}
 use Rattle.sg_recovery_laws.proofs.Objects.Apart.{Ascends}
-use Rattle.sg_recovery_laws.proofs.Objects.Room.{guard_behind}
+use Rattle.sg_recovery_laws.proofs.Objects.Room.{guard_after}
 use Rattle.sg_recovery_laws.proofs.Objects.Steady.{ascends}
 use Rattle.sg_recovery_laws.specs.LastItem.LastPlace.{last_place}
 use Rattle.sg_recovery_laws.specs.LastItem.Told.{IsKnown}
@@ -42,7 +42,7 @@ module _ (z : Setting) (set : IsSetting z) (w : WorldView) (b : Boot) (boots : L
   -- the guard lets it pass there
   pub lets_es : guard z.iface (object_from z.iface.facts (object_of z.iface.facts w.history) es) call ≡ None
   lets_es =
-      guard_behind z.iface z.ask z.sound set.law (object_of z.iface.facts w.history) es call (good_now z set w b boots (Some v) stub k) (time_es z set w b boots (Some v) stub k es drawn)
+      guard_after z.iface z.ask z.sound set.law (object_of z.iface.facts w.history) es call (good_now z set w b boots (Some v) stub k) (time_es z set w b boots (Some v) stub k es drawn)
       (wait_es z set w b boots (Some v) stub k es drawn) (none_es z set w b boots (Some v) stub k es drawn call let_in) let_in.passes.is_call.first let_in.passes.is_call.last let_in.guarded
 
   pub admitted_es : IsAdmitted z.iface (w.history ++ es) (unanswered (standing w b boots (Some v))) (last_place (older_items [] (b ∷ boots)) (last_items (b ∷ boots)) item) call.client call

@@ -21,7 +21,7 @@ use Rattle.sg_recovery_laws.specs.sg_hist.Recovered.{IsLoadedFor, is_clients, is
 use Rattle.sg_recovery_laws.specs.sg_hist.Inside.Parts.{AskedAs, IsDemanded, IsItsCall, IsTrackedAt, IsWalked, is_patch_at, load_outcome}
 use Rattle.sg_recovery_laws.specs.sg_hist.Growing.{IsNextItem, IsOfNoEntry}
 use Rattle.sg_recovery_laws.proofs.InBoots.{place_is}
-use Rattle.sg_recovery_laws.proofs.Objects.Waiting.{behind_same}
+use Rattle.sg_recovery_laws.proofs.Objects.Waiting.{after_same}
 use Rattle.sg_recovery_laws.specs.Midway.Progress.{IsInRecovery, Told, complete, is_complete}
 use Rattle.sg_recovery_laws.specs.LastItem.LastPlace.{last_place}
 use Rattle.sg_recovery_laws.proofs.LastItem.Noting.{load_settled}
@@ -31,7 +31,7 @@ use Rattle.sg_world_laws.specs.Setting.{IsSetting, Setting, stubs_of}
 use Rattle.sg_world_laws.specs.Turns.{IsLetIn}
 use Rattle.sg_world_laws.proofs.Waits.{keeps_parts}
 use Rattle.sg_world_laws.proofs.Orders.{all_drawn, call_es, good_now, needs_es, none_es, time_es, told_es, wait_es}
-use Rattle.sg_world_laws.specs.Advancing.Advancing.{IsDue, IsLeftToLoad, IsLoadItem, StandsBehind, loaded_stub}
+use Rattle.sg_world_laws.specs.Advancing.Advancing.{IsDue, IsLeftToLoad, IsLoadItem, StandsAfter, loaded_stub}
 use Rattle.sg_world_laws.proofs.Advancing.Admitted.{ascends_es, known_item, lets_es, seqs_es}
 use Rattle.sg_world_laws.proofs.Advancing.Files.{with_file_more}
 use Rattle.sg_world_laws.proofs.Advancing.Plain.{loads_give_nothing, stands_plain}
@@ -92,7 +92,7 @@ module _ (z : Setting) (set : IsSetting z) (w : WorldView) (b : Boot) (boots : L
 
   files_es : (es : List Entry) → AreDrawn (held_in (length (b ∷ boots)) w.seats) es → (object_from z.iface.facts (object_of z.iface.facts w.history) es).files ≡ (object_of z.iface.facts w.history).files
   files_es es drawn =
-      (behind_same z.iface.facts z.ask z.sound set.law (object_of z.iface.facts w.history) es call.client (good_now z set w b boots (Some v) stub k) (time_es z set w b boots (Some v) stub k es drawn)
+      (after_same z.iface.facts z.ask z.sound set.law (object_of z.iface.facts w.history) es call.client (good_now z set w b boots (Some v) stub k) (time_es z set w b boots (Some v) stub k es drawn)
       (wait_es z set w b boots (Some v) stub k es drawn) (none_es z set w b boots (Some v) stub k es drawn call let_in)).1
 
   module _ (item : Item) (is : IsLoadItem call.client key (file_at (object_of z.iface.facts w.history).files key) item) where
@@ -149,9 +149,9 @@ module _ (z : Setting) (set : IsSetting z) (w : WorldView) (b : Boot) (boots : L
         (record v { files = set_file v.files key (file_at fs key) })) (files_es ws all)
         (with_file_more z.iface z.walks stub.names stub.told stub.present (object_from z.iface.facts o ws) v key up.in_recovery left.absent)
 
-    pub load_stands : StandsBehind z (standing w b boots (Some v)) item (loaded_stub stub key) (loaded z.iface.facts v key (file_at (object_of z.iface.facts w.history).files key))
+    pub load_stands : StandsAfter z (standing w b boots (Some v)) item (loaded_stub stub key) (loaded z.iface.facts v key (file_at (object_of z.iface.facts w.history).files key))
     load_stands =
-        subst (StandsBehind z (standing w b boots (Some v)) item (loaded_stub stub key)) (sym later_is)
+        subst (StandsAfter z (standing w b boots (Some v)) item (loaded_stub stub key)) (sym later_is)
         (stands_plain z w b boots v stub k item load_due (loads_give_nothing z.iface.facts z.walks (older_items [] (b ∷ boots)) (last_items (b ∷ boots)) item call.client key (ap (λ (x : Item). x.tag) is))
         (record v { files = set_file v.files key (file_at o.files key) }) (λ path. stub.present path || bytes_eq key path) (λ path. ap (λ x. stub.present path || is_patch_at path x) (ap (λ (x : Item). x.outcome) is))
         (record { given = up.numbers.given; counted = up.numbers.counted }) recovers_now)

@@ -10,11 +10,11 @@ use Rattle.sg_facts.specs.declared.entry.Entry.{Entry}
 use Rattle.sg_facts.specs.declared.trace.Item.{Item}
 use Rattle.sg_recovery_laws.specs.sg_hist.Reading.{is_by_guard, is_item_of, last_items, names_at, older_items}
 use Rattle.sg_recovery_laws.specs.sg_hist.Inside.Reads.{after_item, names_in}
-use Rattle.sg_recovery_laws.specs.sg_hist.Recovered.{AreInBoots, is_visible_reply}
+use Rattle.sg_recovery_laws.specs.sg_hist.Recovered.{is_visible_reply}
 use Rattle.sg_recovery_laws.specs.sg_hist.Inside.Parts.{is_stopped}
 use Rattle.sg_recovery_laws.specs.sg_hist.Growing.{IsInLast, IsNextItem, IsOfNoEntry, IsRecovering, noted, place_after}
 use Rattle.sg_recovery_laws.proofs.sg_hist.Growing.{names_at-more}
-use Rattle.sg_recovery_laws.proofs.InBoots.{boots_noted, older_noted, still_last}
+use Rattle.sg_recovery_laws.proofs.InBoots.{older_noted, still_last}
 use Rattle.sg_recovery_laws.proofs.Lists.{each_map}
 use Rattle.sg_boot.proofs.Keeping.{kept_noted}
 use Rattle.sg_boot.proofs.LastBoot.{begun_noted, items_noted}
@@ -30,7 +30,7 @@ use Rattle.sg_world_laws.specs.Setting.{IsSetting, Setting, stubs_of}
 use Rattle.sg_world_laws.proofs.Ahead.{noted_ahead}
 use Rattle.sg_world_laws.proofs.Orders.{all_drawn}
 use Rattle.sg_world_laws.proofs.Struck.{no_drawn, stopped}
-use Rattle.sg_world_laws.specs.Advancing.Advancing.{IsEverDue, StandsBehind, stopped_within, with_noted}
+use Rattle.sg_world_laws.specs.Advancing.Advancing.{IsEverDue, StandsAfter, stopped_within, with_noted}
 
 pub length_noted : (boots : List Boot) (item : Item) → length (noted boots item) ≡ length boots
 length_noted [] item = refl
@@ -45,9 +45,6 @@ module _ (z : Setting) (set : IsSetting z) (w : WorldView) (b : Boot) (boots : L
   -- the item is the next at the history itself
   pub next_now : IsNextItem (stubs_of z) w.history (unanswered (standing w b boots (Some v))) (place_after [] (b ∷ boots) item)
   next_now = subst (λ h. IsNextItem (stubs_of z) h (unanswered (standing w b boots (Some v))) (place_after [] (b ∷ boots) item)) (append-nil w.history) (due [] (no_drawn ws)).next
-
-  none_now : IsOfNoEntry item w.history
-  none_now = subst (IsOfNoEntry item) (append-nil w.history) (due [] (no_drawn ws)).none
 
   recover_noted : (es : List Entry) → AreDrawn (held_in (length (b ∷ boots)) w.seats) es
       → IsRecovering (stubs_of z) (w.history ++ es) (record { boots = noted (b ∷ boots) item; points = points }) (unanswered (standing w b boots (Some v)))
@@ -73,9 +70,6 @@ module _ (z : Setting) (set : IsSetting z) (w : WorldView) (b : Boot) (boots : L
       longer false true x is = refl
       longer false false x is = absurd (cc is)
 
-  in_boots_noted : AreInBoots (record { boots = noted (b ∷ boots) item; points = points }) 0 w.history
-  in_boots_noted = boots_noted b boots w.run.points points item w.history none_now k.in_boots
-
   -- who stood in the last boot still does
   held_noted : Each (IsInLast (record { boots = noted (b ∷ boots) item; points = points })) (held_in (length (b ∷ boots)) w.seats)
   held_noted = each (held_in (length (b ∷ boots)) w.seats) (behind w.history (due ws (all_drawn z set w b boots (Some v) stub k)).none) k.held_items
@@ -91,7 +85,7 @@ module _ (z : Setting) (set : IsSetting z) (w : WorldView) (b : Boot) (boots : L
   module _ (v' : Object) (seats : List Seat) (stub' : Stub) (held : held_in (length (b ∷ boots)) seats ≡ held_in (length (b ∷ boots)) w.seats)
       (calls : unanswered (with_noted (standing w b boots (Some v)) item points v' seats) ≡ unanswered (standing w b boots (Some v)))
       (have : HaveSeats z w.history w.withdrawn (length (noted (b ∷ boots) item)) seats) (goes : is_stopped item.outcome ≡ false) (makes : v' ≡ after_item z.iface.facts v item)
-      (stands : StandsBehind z (standing w b boots (Some v)) item stub' v') where
+      (stands : StandsAfter z (standing w b boots (Some v)) item stub' v') where
     same_held : held_in (length (noted (b ∷ boots) item)) seats ≡ held_in (length (b ∷ boots)) w.seats
     same_held = ap (λ n. held_in n seats) (length_noted (b ∷ boots) item) ∙ held
 
@@ -123,7 +117,6 @@ module _ (z : Setting) (set : IsSetting z) (w : WorldView) (b : Boot) (boots : L
       enter = subst (Each (MayEnter z w.history)) (sym same_held) k.enter;
       items = have_noted;
       held_items = subst (Each (IsInLast (record { boots = noted (b ∷ boots) item; points = points }))) (sym same_held) held_noted;
-      in_boots = in_boots_noted;
       recovering = λ es drawn. subst (IsRecovering (stubs_of z) (w.history ++ es) (record { boots = noted (b ∷ boots) item; points = points })) (sym calls) (recover_noted es (subst (λ l. AreDrawn l es) same_held drawn));
       cell = kept_noted z.iface.facts (b ∷ boots) v v' item k.cell goes makes;
       stands = record {
@@ -143,6 +136,5 @@ module _ (z : Setting) (set : IsSetting z) (w : WorldView) (b : Boot) (boots : L
       begun = begun_noted (b ∷ boots) item (λ e. cc e);
       long = length_noted (b ∷ boots) item;
       items = have_noted;
-      in_boots = in_boots_noted;
       recovers = recover_noted [] (no_drawn ws);
     }) stop points'

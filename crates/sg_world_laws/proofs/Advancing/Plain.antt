@@ -21,7 +21,7 @@ use Rattle.sg_recovery_laws.proofs.LastItem.Reading.{read_plain}
 use Rattle.sg_clients.specs.WorldView.{WorldView, held_in}
 use Rattle.sg_world_laws.specs.Keeping.{AreDrawn, KeepsPromise, Stands, Stub, standing}
 use Rattle.sg_world_laws.specs.Setting.{Setting}
-use Rattle.sg_world_laws.specs.Advancing.Advancing.{GivesNothing, IsEverDue, StandsBehind}
+use Rattle.sg_world_laws.specs.Advancing.Advancing.{GivesNothing, IsEverDue, StandsAfter}
 
 -- a call that waits gives nothing
 pub waits_give_nothing : (facts : Facts) (walks : List WalkLine) (older front : List Item) (item : Item) (client seq : ℕ) → item.tag ≡ Client client seq → item.outcome ≡ Blocks → GivesNothing facts walks older front item
@@ -64,7 +64,7 @@ module _ (z : Setting) (w : WorldView) (b : Boot) (boots : List Boot) (v : Objec
       (up.read es drawn) (gives.unmade (w.history ++ es)) gives.no_walk (gives.unbuilt (w.history ++ es)) (gives.no_name (w.history ++ es)) in
       record { names_are = r.names_are; whole = r.whole; calls = r.calls; files = λ path. r.files path ∙ same path }
 
-  pub stands_plain : StandsBehind z (standing w b boots (Some v)) item (record { names = stub.names; told = stub.told; present = present' }) v'
+  pub stands_plain : StandsAfter z (standing w b boots (Some v)) item (record { names = stub.names; told = stub.told; present = present' }) v'
   stands_plain = record {
     numbers = numbers;
     named_live = up.named_live;

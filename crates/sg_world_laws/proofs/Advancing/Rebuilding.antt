@@ -18,7 +18,7 @@ use Rattle.sg_facts.specs.declared.entry.Entry.{Entry}
 use Rattle.sg_facts.specs.declared.row.Row.{Row}
 use Rattle.sg_facts.proofs.RowLists.{id_of_row, live_of_row, row_of_live}
 use Rattle.sg_recovery_laws.specs.sg_hist.Reading.{walk_in}
-use Rattle.sg_recovery_laws.proofs.Objects.Waiting.{behind_same}
+use Rattle.sg_recovery_laws.proofs.Objects.Waiting.{after_same}
 use Rattle.sg_recovery_laws.specs.Midway.Progress.{IsSoFar, TellsCalls, Told, begun, complete, fresh, is_complete}
 use Rattle.sg_recovery_laws.specs.Midway.Stepping.{IsStepped}
 use Rattle.sg_recovery_laws.proofs.Midway.Least.{IsLeast, least_row}
@@ -252,7 +252,7 @@ module _ (z : Setting) (set : IsSetting z) (w : WorldView) (b : Boot) (boots : L
         where
           come : (object_from z.iface.facts (object_of z.iface.facts w.history) (held_in (length (b ∷ boots)) w.seats)).given ≤ length w.history
           come =
-              let same = behind_same z.iface.facts z.ask z.sound set.law o ws call.client (good_now z set w b boots (Some v) stub k) (time_es z set w b boots (Some v) stub k ws (all_drawn z set w b boots (Some v) stub k))
+              let same = after_same z.iface.facts z.ask z.sound set.law o ws call.client (good_now z set w b boots (Some v) stub k) (time_es z set w b boots (Some v) stub k ws (all_drawn z set w b boots (Some v) stub k))
               k.waiting let_in.none_by in
               let given = k.object.given in
               let is : (object_from z.iface.facts (object_of z.iface.facts w.history) (held_in (length (b ∷ boots)) w.seats)).given ≡ (object_of z.iface.facts w.history).given = same.2 in

@@ -34,7 +34,7 @@ use Rattle.sg_recovery_laws.specs.Midway.Progress.{IsInRecovery, IsNone, TellsCa
 use Rattle.sg_recovery_laws.specs.Midway.Stepping.{IsStepped, told_after}
 use Rattle.sg_recovery_laws.specs.LastItem.LastPlace.{last_place}
 use Rattle.sg_recovery_laws.specs.LastItem.Told.{IsKnown, IsRead}
-use Rattle.sg_recovery_laws.proofs.LastItem.Behind.{object_before_last}
+use Rattle.sg_recovery_laws.proofs.LastItem.Later.{object_before_last}
 use Rattle.sg_recovery_laws.proofs.LastItem.Noting.{least_told, walk_settled}
 use Rattle.sg_recovery_laws.proofs.LastItem.Reading.{read_walk}
 use Rattle.sg_clients.specs.WorldView.{WorldView, held_in, unanswered}
@@ -42,9 +42,9 @@ use Rattle.sg_world_laws.specs.Keeping.{AreDrawn, KeepsPromise, Stands, Stub, st
 use Rattle.sg_world_laws.specs.Setting.{IsSetting, Setting, stubs_of}
 use Rattle.sg_world_laws.specs.Turns.{IsLetIn}
 use Rattle.sg_world_laws.proofs.Orders.{all_drawn, known_es, sound_es}
-use Rattle.sg_world_laws.specs.Advancing.Advancing.{IsDue, IsFirstLeft, IsNextOf, IsReplayItem, StandsBehind, replayed_stub}
+use Rattle.sg_world_laws.specs.Advancing.Advancing.{IsDue, IsFirstLeft, IsNextOf, IsReplayItem, StandsAfter, replayed_stub}
 use Rattle.sg_world_laws.proofs.Advancing.Admitted.{admitted_es, ascends_es, known_item}
-use Rattle.sg_world_laws.proofs.Advancing.Behind.{counted_behind}
+use Rattle.sg_world_laws.proofs.Advancing.Later.{counted_after}
 use Rattle.sg_world_laws.proofs.Advancing.Counting.{numbers_now}
 use Rattle.sg_world_laws.proofs.Advancing.Rebuilding.{first_es, id_es, id_is, is_new, its_walk, least, none_done, parent_es, row_es, sound_now, step_now}
 
@@ -176,7 +176,7 @@ module _ (z : Setting) (set : IsSetting z) (w : WorldView) (b : Boot) (boots : L
     numbers_after =
         subst (λ n. AreNumbers z.iface.facts (told_after stub.told n done rest) (length w.history) (object_from z.iface.facts (object_of z.iface.facts w.history) ws) (after z.iface.facts v (next_call z.iface.facts stub.names r done fun) (Ok good))) r_id
         (numbers_now z.iface z.ask z.sound set.law set.fits stub.names stub.told (length w.history) (object_from z.iface.facts (object_of z.iface.facts w.history) ws) v up.numbers
-        (ascends z.iface.facts (object_from z.iface.facts (object_of z.iface.facts w.history) ws) (sound_es z set w b boots (Some v) stub k ws all)) (counted_behind z set w b boots (Some v) stub k) r done rest fun
+        (ascends z.iface.facts (object_from z.iface.facts (object_of z.iface.facts w.history) ws) (sound_es z set w b boots (Some v) stub k ws all)) (counted_after z set w b boots (Some v) stub k) r done rest fun
         (row_es z set w b boots v stub k call let_in id first r its.there ws all) (its_walk z set w b boots v stub k call let_in id first r its.there done rest fun its.walk its.told)
         (subst (λ n. TellsCalls (stub.told n) (length done)) (sym r_id) its.told) (ap (λ n. is_complete (stub.told n)) r_id ∙ part)
         (λ none. ap stub.told r_id ∙ is_new z set w b boots v stub k call let_in id first r its.there done rest fun its.walk its.told none) good step.may_ask answered)
@@ -218,7 +218,7 @@ module _ (z : Setting) (set : IsSetting z) (w : WorldView) (b : Boot) (boots : L
             (sound_now z set w b boots v stub k call let_in id first).rows its.there in
             other_test id x (λ same. omega (arith, above, low, r_id, same))
 
-    pub replay_stands : StandsBehind z (standing w b boots (Some v)) item (replayed_stub stub id r done rest good) (after z.iface.facts v (next_call z.iface.facts stub.names r done fun) (Ok good))
+    pub replay_stands : StandsAfter z (standing w b boots (Some v)) item (replayed_stub stub id r done rest good) (after z.iface.facts v (next_call z.iface.facts stub.names r done fun) (Ok good))
     replay_stands = record {
       numbers = numbers_after;
       named_live = live_now done;

@@ -19,7 +19,7 @@ use Rattle.sg_world_laws.specs.Setting.{IsSetting, Setting}
 use Rattle.sg_world_laws.specs.Turns.{HasAll, IsAskedItem, IsLetIn}
 use Rattle.sg_world_laws.proofs.Asked.{its_es, next_es, none_of}
 use Rattle.sg_world_laws.proofs.Orders.{few_now, good_now, needs_told, time_now}
-use Rattle.sg_world_laws.specs.Advancing.Advancing.{IsEverDue, StandsBehind}
+use Rattle.sg_world_laws.specs.Advancing.Advancing.{IsEverDue, StandsAfter}
 use Rattle.sg_world_laws.proofs.Advancing.Plain.{stands_plain, waits_give_nothing}
 
 module _ (z : Setting) (set : IsSetting z) (w : WorldView) (b : Boot) (boots : List Boot) (v : Object) (stub : Stub) (k : KeepsPromise z (standing w b boots (Some v)) stub)
@@ -60,7 +60,7 @@ module _ (z : Setting) (set : IsSetting z) (w : WorldView) (b : Boot) (boots : L
     pub waits_makes : v ≡ after_item z.iface.facts v item
     waits_makes = sym (ap (given_by z.iface.facts v item.tag (service_call item)) waits ∙ ap (λ t. given_by z.iface.facts v t (service_call item) Blocks) asked.tag)
 
-    pub waits_stands : StandsBehind z (standing w b boots (Some v)) item stub v
+    pub waits_stands : StandsAfter z (standing w b boots (Some v)) item stub v
     waits_stands =
         stands_plain z w b boots v stub k item asked_due (waits_give_nothing z.iface.facts z.walks (older_items [] (b ∷ boots)) (last_items (b ∷ boots)) item call.client call.seq asked.tag waits)
         v stub.present (λ path. ap (λ x. stub.present path || is_patch_at path x) waits ∙ nothing (stub.present path)) up.numbers up.in_recovery

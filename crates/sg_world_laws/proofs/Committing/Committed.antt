@@ -10,10 +10,10 @@ use Rattle.sg_world_laws.specs.Committing.Serving.{IsCommittedIn, IsServedCall}
 use Rattle.sg_world_laws.specs.Committing.Telling.{TellsAfter}
 use Rattle.sg_world_laws.proofs.Alike.{read_alike}
 use Rattle.sg_world_laws.proofs.Lasts.{held_lasts}
-use Rattle.sg_world_laws.proofs.Committing.Behind.{answered_it, live_all, moved, names_by, sound_all, told_by, wait_after}
-use Rattle.sg_world_laws.proofs.Committing.Noted.{cell_noted, held_noted, in_boots_noted, items_noted, last_noted, length_noted, own_noted, spelt_is}
+use Rattle.sg_world_laws.proofs.Committing.Later.{answered_it, live_all, moved, names_by, sound_all, told_by, wait_after}
+use Rattle.sg_world_laws.proofs.Committing.Noted.{cell_noted, held_noted, items_noted, last_noted, length_noted, own_noted, spelt_is}
 use Rattle.sg_world_laws.proofs.Committing.Numbers.{numbers_served}
-use Rattle.sg_world_laws.proofs.Committing.Recovering.{next_now, served_it, served_recovers}
+use Rattle.sg_world_laws.proofs.Committing.Recovering.{next_now, served_recovers}
 use Rattle.sg_world_laws.proofs.Committing.Telling.{named_is_live, named_live_on, named_or_gone, told_live_on, told_whole}
 use Rattle.sg_world_laws.proofs.Committing.Traced.{read_with, unnamed_with}
 use Rattle.sg_facts.specs.declared.entry.Entry.{Entry}
@@ -36,7 +36,7 @@ use Rattle.sg_recovery_laws.specs.Objects.Waiting.{AreWaiting, NoneBy}
 use Rattle.sg_recovery_laws.proofs.Objects.Guarded.{acts}
 use Rattle.sg_recovery_laws.proofs.Objects.Waiting.{hidden_is}
 use Rattle.sg_recovery_laws.specs.sg_hist.Growing.{IsInLast, IsLastCall, IsNextItem, noted, place_after}
-use Rattle.sg_recovery_laws.proofs.InBoots.{boots_appended, older_noted}
+use Rattle.sg_recovery_laws.proofs.InBoots.{older_noted}
 use Rattle.sg_recovery_laws.proofs.Lists.{each_append, each_map}
 use Rattle.sg_clients.specs.WorldView.{WorldView, held_in, unanswered}
 use Rattle.sg_recovery_laws.specs.LastItem.Told.{IsRead}
@@ -44,7 +44,7 @@ use Rattle.sg_world_laws.specs.Keeping.{AreDrawn, KeepsPromise, MayEnter, Stands
 use Rattle.sg_world_laws.specs.Seats.{HaveSeats}
 use Rattle.sg_recovery_laws.specs.sg_hist.Clients.{MayBeMade}
 use Rattle.sg_world_laws.specs.Setting.{IsSetting, Setting, stubs_of}
-use Rattle.sg_world_laws.proofs.Drawn.{object_behind}
+use Rattle.sg_world_laws.proofs.Drawn.{object_after}
 use Rattle.sg_world_laws.proofs.Entering.{legal_push, settled_after}
 use Rattle.sg_world_laws.proofs.Items.{has_item}
 use Rattle.sg_world_laws.proofs.Orders.{good_now, lets_after}
@@ -80,7 +80,7 @@ module _ (z : Setting) (set : IsSetting z) (w : WorldView) (b : Boot) (boots : L
   same_world = spelt_is w' (w.history ++ e ∷ []) (noted (b ∷ boots) item) (Some v1) c.history c.boots c.running
 
   object_now : object_of z.iface.facts (w.history ++ e ∷ []) ≡ o1
-  object_now = object_behind facts empty_object w.history (e ∷ [])
+  object_now = object_after facts empty_object w.history (e ∷ [])
 
   same_held : held_in (length (noted (b ∷ boots) item)) w'.seats ≡ ws
   same_held = ap (λ n. held_in n w'.seats) (length_noted b boots item) ∙ c.held
@@ -147,17 +147,17 @@ module _ (z : Setting) (set : IsSetting z) (w : WorldView) (b : Boot) (boots : L
         (λ id live. told_live_on facts o call reply other stub stub' tells s.replied.same id (live_all z set w b boots v stub k call item reply other patch s id live))
 
     -- the object after the held replies, at the later world
-    behind_now : object_from facts (object_of z.iface.facts (w.history ++ e ∷ [])) (held_in (length (noted (b ∷ boots) item)) w'.seats) ≡ object_from facts o1 ws
-    behind_now = ap (object_from facts (object_of z.iface.facts (w.history ++ e ∷ []))) same_held ∙ ap (λ x. object_from facts x ws) object_now
+    after_now : object_from facts (object_of z.iface.facts (w.history ++ e ∷ [])) (held_in (length (noted (b ∷ boots) item)) w'.seats) ≡ object_from facts o1 ws
+    after_now = ap (object_from facts (object_of z.iface.facts (w.history ++ e ∷ []))) same_held ∙ ap (λ x. object_from facts x ws) object_now
 
     stands_now : Stands z later stub' v1
     stands_now = record {
-      numbers = subst (λ x. AreNumbers facts stub'.told (length (w.history ++ e ∷ [])) x v1) (sym behind_now) numbers_now;
+      numbers = subst (λ x. AreNumbers facts stub'.told (length (w.history ++ e ∷ [])) x v1) (sym after_now) numbers_now;
       named_live = λ id. elim (named_is_live facts o call reply other stub stub' tells s.replied.same (acts facts call.fun set.law.shape.shape s.let_in.passes.is_call.first s.let_in.passes.is_call.last) k.stands.named_live id) [
         | inl none ↦ inl none
         | inr live ↦ inr (ap (λ y. is_live y.rows id) object_now ∙ live)
       ];
-      in_recovery = subst (λ x. IsInRecovery z.iface z.walks stub'.names stub'.told stub'.present x v1) (sym behind_now) under_now;
+      in_recovery = subst (λ x. IsInRecovery z.iface z.walks stub'.names stub'.told stub'.present x v1) (sym after_now) under_now;
       read = λ es drawn. read_now es (subst (λ l. AreDrawn l es) same_held drawn);
       unnamed = λ es drawn. unnamed_now es (subst (λ l. AreDrawn l es) same_held drawn);
       rebuilt = λ eager some id live. told_whole facts o call reply other stub stub' tells s.replied.same (acts facts call.fun set.law.shape.shape s.let_in.passes.is_call.first s.let_in.passes.is_call.last)
@@ -183,8 +183,6 @@ module _ (z : Setting) (set : IsSetting z) (w : WorldView) (b : Boot) (boots : L
           (items_noted z set w b boots v stub k call item reply other patch s)
           (has_item (record { boots = noted (b ∷ boots) item; points = w'.run.points }) e (own_noted z set w b boots v stub k call item reply other patch s w'.run.points), tt);
       held_items = subst (Each (IsInLast (record { boots = noted (b ∷ boots) item; points = w'.run.points }))) (sym same_held) (held_noted z set w b boots v stub k call item reply other patch s w'.run.points);
-      in_boots = boots_appended (record { boots = noted (b ∷ boots) item; points = w'.run.points }) w.history e (served_it z set w b boots v stub k call item reply other patch s)
-          (own_noted z set w b boots v stub k call item reply other patch s w'.run.points) (in_boots_noted z set w b boots v stub k call item reply other patch s w'.run.points);
       recovering = λ es drawn. served_recovers z set w b boots v stub k call item reply other patch s w'.run.points (unanswered w') c.left lasts_now es (subst (λ l. AreDrawn l es) same_held drawn);
       cell = cell_noted z set w b boots v stub k call item reply other patch s;
       stands = stands_now;

@@ -9,8 +9,8 @@ use Rattle.sg_facts.specs.sg_base.declared.reply.Reply.{Reply}
 use Rattle.sg_facts.specs.sg_base.declared.reply.Reply.TheVariants.{Ok, Refused}
 use Rattle.sg_world_laws.specs.Committing.Serving.{IsHeldBy, IsServedCall}
 use Rattle.sg_world_laws.proofs.Alike.{read_alike}
-use Rattle.sg_world_laws.proofs.Committing.Behind.{answered_it, moved, names_by, patch_it, told_by}
-use Rattle.sg_world_laws.proofs.Committing.Noted.{cell_noted, held_noted, in_boots_noted, items_noted, last_noted, length_noted, own_noted, spelt_is}
+use Rattle.sg_world_laws.proofs.Committing.Later.{answered_it, moved, names_by, patch_it, told_by}
+use Rattle.sg_world_laws.proofs.Committing.Noted.{cell_noted, held_noted, items_noted, last_noted, length_noted, own_noted, spelt_is}
 use Rattle.sg_world_laws.proofs.Committing.Numbers.{numbers_served}
 use Rattle.sg_world_laws.proofs.Committing.Recovering.{hidden_held, item_es, last_es, next_old, own, served_it}
 use Rattle.sg_world_laws.proofs.Committing.Storing.{hidden_writes_none}
@@ -246,8 +246,8 @@ module _ (z : Setting) (set : IsSetting z) (w : WorldView) (b : Boot) (boots : L
   -- ---- the service
 
   -- the object after all held replies is that after the new one and the others
-  behind_all : object_from facts (after z.iface.facts o call reply) ws ≡ object_from facts o (front ++ e ∷ back)
-  behind_all = ap (object_from facts (after z.iface.facts o call reply)) c.held_before
+  after_all : object_from facts (after z.iface.facts o call reply) ws ≡ object_from facts o (front ++ e ∷ back)
+  after_all = ap (object_from facts (after z.iface.facts o call reply)) c.held_before
       ∙ committed_same facts z.ask z.sound set.law o front back e (good_now z set w b boots (Some v) stub k) (time_now z set w b boots (Some v) stub k (suc (suc (length (front ++ e ∷ back)))) (omega (arith, few_held))) waits
 
   same_names : (r p : Reply) (id : ℕ) → named stub.names id ≡ named (names_by facts stub.names call r p) id
@@ -261,14 +261,14 @@ module _ (z : Setting) (set : IsSetting z) (w : WorldView) (b : Boot) (boots : L
 
   under_now : IsInRecovery z.iface z.walks stub.names stub.told stub.present (object_from facts o (front ++ e ∷ back)) v1
   under_now =
-      subst (λ x. IsInRecovery z.iface z.walks stub.names stub.told stub.present x v1) behind_all
+      subst (λ x. IsInRecovery z.iface z.walks stub.names stub.told stub.present x v1) after_all
       (under_named z.iface z.walks (names_by facts stub.names call reply other) stub.names (same_names reply other) (object_from facts (after z.iface.facts o call reply) ws) v1 (told_by facts call reply stub.told) stub.told
       (present_with (patch_of facts o call reply) stub.present) stub.present (same_told reply)
       (λ path. ap (λ q. present_with q stub.present path) (sym no_patch ∙ patch_it z set w b boots v stub k call item reply other patch s))
       (moved z set w b boots v stub k call item reply other patch s).in_recovery)
 
   numbers_now : AreNumbers facts stub.told (length w.history) (object_from facts o (front ++ e ∷ back)) v1
-  numbers_now = subst (λ x. AreNumbers facts stub.told (length w.history) x v1) behind_all
+  numbers_now = subst (λ x. AreNumbers facts stub.told (length w.history) x v1) after_all
       (numbers_served z set w b boots v stub k call item reply other patch s stub.told (length w.history) (omega arith) (λ id live. same_told reply id))
 
   stands_now : Stands z later stub v1
@@ -295,7 +295,6 @@ module _ (z : Setting) (set : IsSetting z) (w : WorldView) (b : Boot) (boots : L
     items = items_noted z set w b boots v stub k call item reply other patch s;
     held_items = subst (Each (IsInLast run_now)) (sym same_held)
         (each_put (IsInLast run_now) front back e (subst (Each (IsInLast run_now)) c.held_before (held_noted z set w b boots v stub k call item reply other patch s w'.run.points)) (own_noted z set w b boots v stub k call item reply other patch s w'.run.points));
-    in_boots = in_boots_noted z set w b boots v stub k call item reply other patch s w'.run.points;
     recovering = λ es drawn. recover_later es (subst (λ l. AreDrawn l es) same_held drawn);
     cell = cell_noted z set w b boots v stub k call item reply other patch s;
     stands = stands_now;

@@ -10,7 +10,7 @@ use Rattle.sg_facts.specs.sg_base.declared.reply.Reply.{Reply}
 use Rattle.sg_boot.specs.Cells.{IsCell}
 use Rattle.sg_boot.proofs.Keeping.{kept_noted}
 use Rattle.sg_world_laws.specs.Committing.Serving.{IsServedCall}
-use Rattle.sg_world_laws.proofs.Committing.Behind.{call_is}
+use Rattle.sg_world_laws.proofs.Committing.Later.{call_is}
 use Rattle.sg_world_laws.proofs.Committing.Recovering.{own}
 use Rattle.sg_facts.specs.declared.entry.Entry.{Entry}
 use Rattle.sg_facts.specs.declared.outcome.Outcome.TheVariants.{Replied}
@@ -22,10 +22,9 @@ use Rattle.sg_facts.specs.Alike.{under_names}
 use Rattle.sg_facts.specs.Object.{Object, after}
 use Rattle.sg_facts.specs.Trace.{Boot}
 use Rattle.sg_recovery_laws.specs.sg_hist.Reading.{given_by, is_by_guard, is_item_of, last_items, older_items}
-use Rattle.sg_recovery_laws.specs.sg_hist.Recovered.{AreInBoots}
 use Rattle.sg_recovery_laws.specs.sg_hist.Inside.Parts.{is_stopped}
 use Rattle.sg_recovery_laws.specs.sg_hist.Growing.{IsInLast, IsOfNoEntry, noted}
-use Rattle.sg_recovery_laws.proofs.InBoots.{boots_noted, older_noted, own_last, still_last}
+use Rattle.sg_recovery_laws.proofs.InBoots.{older_noted, own_last, still_last}
 use Rattle.sg_clients.specs.WorldView.{WorldView, held_in}
 use Rattle.sg_recovery_laws.specs.LastItem.LastPlace.{HaveItems}
 use Rattle.sg_recovery_laws.proofs.Lists.{each_map}
@@ -50,10 +49,6 @@ spelt w history boots running = record w { history = history; run = record { boo
 pub spelt_is : (w : WorldView) (history : List Entry) (boots : List Boot) (running : Option Object) → w.history ≡ history → w.run.boots ≡ boots → w.running ≡ running → w ≡ spelt w history boots running
 spelt_is w history boots running same_history same_boots same_running =
     ap (λ l. spelt w l w.run.boots w.running) same_history ∙ ap (λ l. spelt w history l w.running) same_boots ∙ ap (spelt w history boots) same_running
-
-none_front : (item : Item) (xs ys : List Entry) → IsOfNoEntry item (xs ++ ys) → IsOfNoEntry item xs
-none_front item [] ys none = tt
-none_front item (x ∷ xs) ys none = (none.0, none_front item xs ys none.1)
 
 none_back : (item : Item) (xs ys : List Entry) → IsOfNoEntry item (xs ++ ys) → IsOfNoEntry item ys
 none_back item [] ys none = none
@@ -96,9 +91,6 @@ module _ (z : Setting) (set : IsSetting z) (w : WorldView) (b : Boot) (boots : L
 
   pub own_noted : (points : ℕ) → IsInLast (record { boots = noted (b ∷ boots) item; points = points }) (record { call = call; reply = reply })
   own_noted points = own_last b boots w.run.points points item (record { call = call; reply = reply }) (own z set w b boots v stub k call item reply other patch s)
-
-  pub in_boots_noted : (points : ℕ) → AreInBoots (record { boots = noted (b ∷ boots) item; points = points }) 0 w.history
-  in_boots_noted points = boots_noted b boots w.run.points points item w.history (none_front item w.history ws none) k.in_boots
 
   -- the service holds what the item made of what it held
   pub cell_noted : IsCell z.iface.facts (Some (after z.iface.facts v (under_names stub.names call) other)) (noted (b ∷ boots) item)

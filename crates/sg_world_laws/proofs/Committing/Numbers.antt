@@ -6,7 +6,7 @@ use Rattle.sg_facts.specs.sg_base.declared.call.Call.{Call}
 use Rattle.sg_facts.specs.sg_base.declared.reply.Reply.{Reply}
 use Rattle.sg_facts.specs.sg_base.declared.reply.Reply.TheVariants.{Ok, Refused}
 use Rattle.sg_world_laws.specs.Committing.Serving.{IsServedCall}
-use Rattle.sg_world_laws.proofs.Committing.Behind.{apart_ok, apart_refused, moved, past, sound_all, told_by}
+use Rattle.sg_world_laws.proofs.Committing.Later.{apart_ok, apart_refused, moved, past, sound_all, told_by}
 use Rattle.sg_world_laws.proofs.Committing.Counting.{served_counted, sum_after, sum_live, sum_most}
 use Rattle.sg_facts.specs.declared.entry.Entry.{Entry}
 use Rattle.sg_facts.specs.declared.outcome.Patch.{Patch}
@@ -31,7 +31,7 @@ use Rattle.sg_recovery_laws.proofs.Midway.Served.{same_words}
 use Rattle.sg_recovery_laws.proofs.Objects.Guarded.{ActsOnOne, acts}
 use Rattle.sg_recovery_laws.proofs.Objects.Serves.{desc_row}
 use Rattle.sg_recovery_laws.proofs.Objects.Steady.{ascends}
-use Rattle.sg_recovery_laws.proofs.Objects.Waiting.{behind_same}
+use Rattle.sg_recovery_laws.proofs.Objects.Waiting.{after_same}
 use Rattle.sg_clients.specs.WorldView.{WorldView, held_in}
 use Rattle.sg_facts.proofs.Replaying.Found.{same_test}
 use Rattle.sg_world_laws.specs.Keeping.{KeepsPromise, Stands, Stub, standing}
@@ -56,8 +56,8 @@ module _ (z : Setting) (set : IsSetting z) (w : WorldView) (b : Boot) (boots : L
   abbrev behind : Object
   behind = object_from z.iface.facts (object_of z.iface.facts w.history) (held_in (length (b ∷ boots)) w.seats)
 
-  given_behind : behind.given ≡ o.given
-  given_behind = (behind_same facts z.ask z.sound set.law o ws call.client (good_now z set w b boots (Some v) stub k)
+  given_later : behind.given ≡ o.given
+  given_later = (after_same facts z.ask z.sound set.law o ws call.client (good_now z set w b boots (Some v) stub k)
       (time_es z set w b boots (Some v) stub k ws (all_drawn z set w b boots (Some v) stub k)) k.waiting s.let_in.none_by).2
 
   acts_it : ActsOnOne facts (fun_at facts.funs call.fun)
@@ -112,7 +112,7 @@ module _ (z : Setting) (set : IsSetting z) (w : WorldView) (b : Boot) (boots : L
         less f none =
             let same_sum = sum_live f (told_with facts call g stub.told) told' (rows_after facts behind.rows call g) told_is in
             let le = sum_after f none facts stub.told behind call g (sound_es z set w b boots (Some v) stub k ws (all_drawn z set w b boots (Some v) stub k))
-            (λ makes. ((acts_it.makes makes).0, set.law.keeps.next o call g is makes ∙ ap (λ n. n + 1) (sym given_behind))) in
+            (λ makes. ((acts_it.makes makes).0, set.law.keeps.next o call g is makes ∙ ap (λ n. n + 1) (sym given_later))) in
             omega (arith, same_sum, le)
 
         more_given : (c : Bool) → behind.given ≤ cond c (behind.given + 1) behind.given

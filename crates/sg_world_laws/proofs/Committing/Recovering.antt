@@ -11,7 +11,7 @@ use Rattle.sg_facts.specs.sg_base.declared.reply.Good.{Good}
 use Rattle.sg_facts.specs.sg_base.declared.reply.Reply.{Reply}
 use Rattle.sg_facts.specs.sg_base.declared.reply.Reply.TheVariants.{Ok, Refused}
 use Rattle.sg_world_laws.specs.Committing.Serving.{IsServedCall}
-use Rattle.sg_world_laws.proofs.Committing.Behind.{apart_ok}
+use Rattle.sg_world_laws.proofs.Committing.Later.{apart_ok}
 use Rattle.sg_facts.specs.declared.entry.Entry.{Entry}
 use Rattle.sg_facts.specs.declared.outcome.Patch.{Patch}
 use Rattle.sg_facts.specs.declared.trace.Item.{Item}

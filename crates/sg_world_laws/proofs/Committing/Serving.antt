@@ -40,7 +40,7 @@ use Rattle.sg_recovery_laws.proofs.Objects.Answered.{child_same}
 use Rattle.sg_recovery_laws.proofs.Objects.Guarded.{ActsOnOne, acts, keeps, let_pass, own_desc}
 use Rattle.sg_recovery_laws.proofs.Objects.Serves.{desc_row}
 use Rattle.sg_recovery_laws.proofs.Objects.Steady.{ascends}
-use Rattle.sg_recovery_laws.proofs.Objects.Waiting.{behind_same, hidden_is}
+use Rattle.sg_recovery_laws.proofs.Objects.Waiting.{after_same, hidden_is}
 use Rattle.sg_clients.specs.WorldView.{WorldView, held_in}
 use Rattle.sg_facts.proofs.Replaying.Found.{above, same_test}
 use Rattle.sg_world_laws.specs.Keeping.{KeepsPromise, Stands, Stub, standing}
@@ -176,7 +176,7 @@ module _ (z : Setting) (set : IsSetting z) (w : WorldView) (b : Boot) (boots : L
           let good = good_now z set w b boots (Some v) stub k in
           let later = good_es z set w b boots (Some v) stub k ws (all_drawn z set w b boots (Some v) stub k) in
           let own = own_desc (whole_interface z.iface.facts) o call hidden.alone (let_pass (whole_interface z.iface.facts) o call row let_in.passes.guarded) (acts_it.on makes row).0 in
-          let same = (behind_same z.iface.facts z.ask z.sound set.law o ws call.client good (time_es z set w b boots (Some v) stub k ws (all_drawn z set w b boots (Some v) stub k)) k.waiting let_in.none_by).0 in
+          let same = (after_same z.iface.facts z.ask z.sound set.law o ws call.client good (time_es z set w b boots (Some v) stub k ws (all_drawn z set w b boots (Some v) stub k)) k.waiting let_in.none_by).0 in
           ap (λ x. has_child (object_from z.iface.facts o x).rows call.desc) is
           ∙ child_same call.client o.rows behind.rows o.given behind.given call.desc (ascends z.iface.facts o (set.law.keeps.general o good.is_sound))
           (ascends z.iface.facts behind (set.law.keeps.general behind later.is_sound)) (good.own hidden.alone) (later.own hidden.alone) same own
@@ -214,8 +214,8 @@ module _ (z : Setting) (set : IsSetting z) (w : WorldView) (b : Boot) (boots : L
           let r = desc_row z.iface.facts z.ask z.sound set.law o call let_in.passes (acts_it.on makes row).0 row in
           no_children_there r.0 r.1 (no_children row makes ends alone) v.rows up.in_recovery.holds.each
 
-  given_behind : behind.given ≡ o.given
-  given_behind = (behind_same z.iface.facts z.ask z.sound set.law o ws call.client (good_now z set w b boots (Some v) stub k)
+  given_later : behind.given ≡ o.given
+  given_later = (after_same z.iface.facts z.ask z.sound set.law o ws call.client (good_now z set w b boots (Some v) stub k)
       (time_es z set w b boots (Some v) stub k ws (all_drawn z set w b boots (Some v) stub k)) k.waiting let_in.none_by).2
 
   -- the running service may be asked it under its ids
@@ -236,8 +236,8 @@ module _ (z : Setting) (set : IsSetting z) (w : WorldView) (b : Boot) (boots : L
         within = record {
           client_first = let_in.passes.within.client_first;
           client_last = let_in.passes.within.client_last;
-          counted = counted_below z.iface.facts stub.told (length w.history) behind v up.numbers (omega (arith, given_behind, most)) (omega (arith, far));
-          given = omega (arith, numbers.given, given_behind, most, far);
+          counted = counted_below z.iface.facts stub.told (length w.history) behind v up.numbers (omega (arith, given_later, most)) (omega (arith, far));
+          given = omega (arith, numbers.given, given_later, most, far);
         };
         desc = desc_there;
         parent = parent_there;

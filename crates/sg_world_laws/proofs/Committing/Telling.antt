@@ -7,7 +7,7 @@ use Rattle.sg_facts.specs.sg_base.declared.call.Call.{Call}
 use Rattle.sg_facts.specs.sg_base.declared.reply.Reply.{Reply}
 use Rattle.sg_facts.specs.sg_base.declared.reply.Reply.TheVariants.{Ok, Refused}
 use Rattle.sg_world_laws.specs.Committing.Telling.{TellsAfter, has_ended, makes_id}
-use Rattle.sg_world_laws.proofs.Committing.Behind.{apart_ok, names_by, told_by}
+use Rattle.sg_world_laws.proofs.Committing.Later.{apart_ok, names_by, told_by}
 use Rattle.sg_facts.proofs.RowLists.{row_of_live}
 use Rattle.sg_facts.specs.Alike.{SameReply, named}
 use Rattle.sg_facts.specs.Facts.{Facts, fun_at}

@@ -11,7 +11,7 @@ use Rattle.sg_facts.specs.sg_base.declared.reply.Reply.{Reply}
 use Rattle.sg_facts.specs.sg_base.declared.reply.Reply.TheVariants.{Ok, Refused}
 use Rattle.sg_world_laws.specs.Committing.Serving.{IsServedCall}
 use Rattle.sg_world_laws.proofs.Alike.{read_alike}
-use Rattle.sg_world_laws.proofs.Committing.Behind.{apart_ok, apart_refused, names_by, patch_it, told_by}
+use Rattle.sg_world_laws.proofs.Committing.Later.{apart_ok, apart_refused, names_by, patch_it, told_by}
 use Rattle.sg_world_laws.proofs.Committing.Recovering.{given_pushed, own}
 use Rattle.sg_facts.specs.declared.entry.Entry.{Entry}
 use Rattle.sg_facts.specs.declared.outcome.Outcome.TheVariants.{Replied}

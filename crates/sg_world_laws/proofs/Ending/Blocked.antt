@@ -16,7 +16,7 @@ use Rattle.sg_recovery_laws.proofs.sg_hist.Growing.{entries_before-not_yet}
 use Rattle.sg_recovery_laws.specs.sg_hist.Growing.{IsGrown, IsOfNoEntry, noted}
 use Rattle.sg_clients.specs.WorldView.{Seat, is_blocked_phase, wakes_seat, woken_seat}
 use Rattle.sg_clients.specs.declared.phase.Phase.TheVariants.{Asked, Blocked}
-use Rattle.sg_recovery_laws.proofs.LastItem.Behind.{object_before_last}
+use Rattle.sg_recovery_laws.proofs.LastItem.Later.{object_before_last}
 use Rattle.sg_recovery_laws.specs.LastItem.LastPlace.{HaveItems, last_place}
 use Rattle.sg_world_laws.proofs.Ending.Boots.{places_noted}
 use Rattle.sg_world_laws.proofs.Ending.Wakers.{not_before}
@@ -28,7 +28,7 @@ use Rattle.sg_recovery_laws.specs.sg_hist.Inside.Parts.{waits_in}
 module _ (facts : Facts) (entries now : List Entry) (x : Item) (same : (id : ℕ) (p q : Position) → IsGrown x p q → wakes_at facts now id q ≡ wakes_at facts entries id p) (call : Call) where
   -- the place of an item of the last boot, and the place when one more is noted
   grown : (older front rest : List Item) (item : Item) → IsGrown x (record { older = older; front = front; item = item; rest = rest; newer = [] }) (record { older = older; front = front; item = item; rest = rest ++ x ∷ []; newer = [] })
-  grown older front rest item = record { older = refl; front = refl; own = refl; behind_it = append-nil (rest ++ x ∷ []) ∙ ap (λ l. l ++ x ∷ []) (sym (append-nil rest)) }
+  grown older front rest item = record { older = refl; front = refl; own = refl; after_it = append-nil (rest ++ x ∷ []) ∙ ap (λ l. l ++ x ∷ []) (sym (append-nil rest)) }
 
   abbrev last_in : List Item → List Item → Position
   last_in older front = last_place older front x

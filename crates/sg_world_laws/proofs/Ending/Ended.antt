@@ -60,12 +60,12 @@ ends_noted facts (x ∷ []) item = refl
 ends_noted facts (x ∷ y ∷ items) item = ends_noted facts (y ∷ items) item
 
 -- so is one that stopped behind the commit of its last item
-pub quiet_behind : (facts : Facts) (boots : List Boot) (item : Item) → is_visible_reply facts item ≡ true → EndsQuiet facts (struck (noted boots item) (asked_after item.points 1))
-quiet_behind facts [] item visible = tt
-quiet_behind facts (b ∷ []) item visible = (ends_noted facts b.items item ∙ visible, ap (λ n. asked_after n 1) (sym (last_point_noted 0 b.items item)))
-quiet_behind facts (b ∷ c ∷ []) item visible = quiet_behind facts (c ∷ []) item visible
-quiet_behind facts (b ∷ c ∷ d ∷ []) item visible = quiet_behind facts (c ∷ d ∷ []) item visible
-quiet_behind facts (b ∷ c ∷ d ∷ e ∷ boots) item visible = quiet_behind facts (c ∷ d ∷ e ∷ boots) item visible
+pub quiet_after : (facts : Facts) (boots : List Boot) (item : Item) → is_visible_reply facts item ≡ true → EndsQuiet facts (struck (noted boots item) (asked_after item.points 1))
+quiet_after facts [] item visible = tt
+quiet_after facts (b ∷ []) item visible = (ends_noted facts b.items item ∙ visible, ap (λ n. asked_after n 1) (sym (last_point_noted 0 b.items item)))
+quiet_after facts (b ∷ c ∷ []) item visible = quiet_after facts (c ∷ []) item visible
+quiet_after facts (b ∷ c ∷ d ∷ []) item visible = quiet_after facts (c ∷ d ∷ []) item visible
+quiet_after facts (b ∷ c ∷ d ∷ e ∷ boots) item visible = quiet_after facts (c ∷ d ∷ e ∷ boots) item visible
 
 -- a service that is up has a boot that goes on
 pub goes_on : (facts : Facts) (running : Option Object) (boots : List Boot) → IsCell facts running boots → IsSome running → last_stop boots ≡ None

@@ -43,7 +43,7 @@ each_newer : (P Q : Position → Type 0) (older front items newer : List Item) (
 each_newer P Q older front [] newer item step all = tt
 each_newer P Q older front (x ∷ items) newer item step all = (
   step (record { older = older; front = front; item = x; rest = items; newer = newer }) (record { older = older; front = front; item = x; rest = items; newer = newer ++ item ∷ [] })
-      (record { older = refl; front = refl; own = refl; behind_it = sym (append_assoc items newer (item ∷ [])) }) refl refl all.0,
+      (record { older = refl; front = refl; own = refl; after_it = sym (append_assoc items newer (item ∷ [])) }) refl refl all.0,
   each_newer P Q older (front ++ x ∷ []) items newer item step all.1,
 )
 
@@ -58,7 +58,7 @@ grown_last older front rest x item = record {
   older = refl;
   front = refl;
   own = refl;
-  behind_it = append-nil (rest ++ item ∷ []) ∙ ap (λ l. l ++ item ∷ []) (sym (append-nil rest));
+  after_it = append-nil (rest ++ item ∷ []) ∙ ap (λ l. l ++ item ∷ []) (sym (append-nil rest));
 }
 
 -- ---- which replies are no entry's

@@ -20,11 +20,11 @@ module _ (facts : Facts) (w : WorldView) (c : ℕ) where
   woken reply = map (woken_seat (wakes_seat facts (object_of facts w.history).rows s.call reply)) w.seats
 
   -- the client's seat behind the entry
-  abbrev pub seat_behind : Reply → Phase → Reply → Seat
-  seat_behind reply p kept = record (seat_in (woken reply) c) { phase = p; seq = s.call.seq; reply = kept }
+  abbrev pub seat_after : Reply → Phase → Reply → Seat
+  seat_after reply p kept = record (seat_in (woken reply) c) { phase = p; seq = s.call.seq; reply = kept }
 
-  pub given_seats : (reply : Reply) → s.call.client ≡ c → (given_to (committed facts w (entry_with reply)) (entry_with reply)).seats ≡ slice_set (woken reply) (c - 1) (seat_behind reply Receipted reply)
+  pub given_seats : (reply : Reply) → s.call.client ≡ c → (given_to (committed facts w (entry_with reply)) (entry_with reply)).seats ≡ slice_set (woken reply) (c - 1) (seat_after reply Receipted reply)
   given_seats reply its = ap (λ n. slice_set (woken reply) (n - 1) (record (seat_in (woken reply) n) { phase = Receipted; seq = s.call.seq; reply = reply })) its
 
-  pub answered_seats : (reply : Reply) → s.call.client ≡ c → (answered_to (committed facts w (entry_with reply)) (entry_with reply)).seats ≡ slice_set (woken reply) (c - 1) (seat_behind reply Idle no_reply)
+  pub answered_seats : (reply : Reply) → s.call.client ≡ c → (answered_to (committed facts w (entry_with reply)) (entry_with reply)).seats ≡ slice_set (woken reply) (c - 1) (seat_after reply Idle no_reply)
   answered_seats reply its = ap (λ n. slice_set (woken reply) (n - 1) (record (seat_in (woken reply) n) { phase = Idle; seq = s.call.seq; reply = no_reply })) its

@@ -10,7 +10,7 @@ use Rattle.sg_recovery_laws.specs.sg_hist.Reading.{Position, items_after, is_by_
 use Rattle.sg_recovery_laws.specs.sg_hist.Wakes.{wakes, wakes_at}
 use Rattle.sg_recovery_laws.proofs.sg_hist.Growing.{entries_before-committed, entries_before-more, entries_before-not_yet, entries_before-refused}
 use Rattle.sg_recovery_laws.specs.sg_hist.Growing.{IsGrown, IsOfNoEntry}
-use Rattle.sg_recovery_laws.proofs.LastItem.Behind.{object_before_last}
+use Rattle.sg_recovery_laws.proofs.LastItem.Later.{object_before_last}
 use Rattle.sg_recovery_laws.specs.LastItem.LastPlace.{HaveItems, last_place}
 
 -- ---- tests of lists
@@ -42,7 +42,7 @@ module _ (facts : Facts) (id : ℕ) where
 
   by_grown : (rows : List Row) (item : Item) (p q : Position) (e : Entry) → IsGrown item p q → is_item_of e item ≡ false → wakes_by rows q e ≡ wakes_by rows p e
   by_grown rows item p q e g none =
-      let later : list_any (is_item_of e) (items_after q) ≡ list_any (is_item_of e) (items_after p) = ap (list_any (is_item_of e)) g.behind_it ∙ any_but (is_item_of e) (items_after p) item none in
+      let later : list_any (is_item_of e) (items_after q) ≡ list_any (is_item_of e) (items_after p) = ap (list_any (is_item_of e)) g.after_it ∙ any_but (is_item_of e) (items_after p) item none in
       ap (λ x. not (is_by_guard e.reply) && is_item_of e x && not (list_any (is_item_of e) (items_after q)) && wakes facts rows e.call e.reply id) g.own
       ∙ ap (λ b. not (is_by_guard e.reply) && is_item_of e p.item && not b && wakes facts rows e.call e.reply id) later
 
@@ -67,7 +67,7 @@ module _ (facts : Facts) (id : ℕ) where
       → wakes_at facts (history ++ e ∷ []) id q ≡ wakes_at facts history id p
   wakes_entered item p q history e none own g =
       let rows : List Row = (object_before facts history p).rows in
-      let later : list_any (is_item_of e) (items_after q) ≡ true = ap (list_any (is_item_of e)) g.behind_it ∙ any_end (is_item_of e) (items_after p) item own in
+      let later : list_any (is_item_of e) (items_after q) ≡ true = ap (list_any (is_item_of e)) g.after_it ∙ any_end (is_item_of e) (items_after p) item own in
       ap (λ es. list_any (wakes_by (object_of facts es).rows q) (history ++ e ∷ [])) (entries_before-committed item p q history e g none own)
       ∙ any_but (wakes_by rows q) history e
       (ap (λ b. not (is_by_guard e.reply) && is_item_of e q.item && not b && wakes facts rows e.call e.reply id) later

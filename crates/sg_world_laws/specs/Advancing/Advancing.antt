@@ -43,7 +43,7 @@ abbrev pub IsEverDue : Setting → WorldView → Item → Type 0
 IsEverDue z w item = (es : List Entry) → AreDrawn (held_replies w) es → IsDue z w item es
 
 -- what stands of a service after an item more, and what the stubs tell then
-pub record StandsBehind (z : Setting) (w : WorldView) (item : Item) (stub : Stub) (v : Object) : Type 0 where
+pub record StandsAfter (z : Setting) (w : WorldView) (item : Item) (stub : Stub) (v : Object) : Type 0 where
   pub numbers : AreNumbers z.iface.facts stub.told (length w.history) (object_from z.iface.facts (object_of z.iface.facts w.history) (held_replies w)) v
   pub named_live : (id : ℕ) → (named stub.names id ≡ 0) ⊎ (is_live (object_of z.iface.facts w.history).rows id ≡ true)
   pub in_recovery : IsInRecovery z.iface z.walks stub.names stub.told stub.present (object_from z.iface.facts (object_of z.iface.facts w.history) (held_replies w)) v

@@ -1,17 +1,13 @@
--- The fixed parts show no text.
-use Rattle.std.proofs.Common.{sym, subst}
-use Rattle.sg_draw.proofs.Documents.{begins_more, begins_opening}
-use Rattle.sg_draw.specs.Inside.Drawing.{Begins}
+-- The fixed part is written.
+use Rattle.sg_draw.proofs.Documents.{five_written}
+use Rattle.sg_draw.specs.Inside.Drawing.{opening}
 use Rattle.sg_draw.proofs.drawing.begun.Goals as goal
 
 pub returns : goal.returns
-returns c =
-    begins_more
-    (begins_more
-    (begins_more
-    (begins_more
-    (begins_more (subst Begins (sym c.in_ok-out.ensures) (begins_opening c.width.result c.height.result)) c.in_ok-push_mute.ensures)
-    c.in_ok-push_mute-2.ensures)
-    c.in_ok-push_mute-3.ensures)
-    c.in_ok-push_mute-4.ensures)
-    c.in_ok-push_mute-5.ensures
+returns c = record {
+  width = c.width.result;
+  height = c.height.result;
+  is =
+      five_written (opening c.width.result c.height.result) _ _ _ _ _ _ _ _ _ _ _ c.in_ok-out.ensures c.in_ok-extend_from_slice.ensures.ok
+      c.in_ok-extend_from_slice-2.ensures.ok c.in_ok-extend_from_slice-3.ensures.ok c.in_ok-extend_from_slice-4.ensures.ok c.in_ok-extend_from_slice-5.ensures.ok;
+}

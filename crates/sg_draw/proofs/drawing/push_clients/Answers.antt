@@ -1,8 +1,7 @@
 -- A head more is drawn.
-use Rattle.std.proofs.Common.{◌∙◌, refl, ap, sym, List, ℕ, ◌∷◌, [], ◌++◌, map, take}
+use Rattle.std.proofs.Common.{◌∙◌, ap, sym, List, ℕ, ◌∷◌, [], ◌++◌, map, take}
 use Rattle.sg_draw.proofs.Documents.{drawn, still, then}
 use Rattle.sg_draw.proofs.More.{map_more}
-use Rattle.sg_draw.specs.Shown.{escaped}
 use Rattle.sg_draw.specs.Pictures.{client_name}
 use Rattle.sg_draw.proofs.drawing.push_clients.Goals as goal
 
@@ -11,7 +10,7 @@ ends-init c = still c.args.out.now
 
 pub ends-preserved : goal.ends-preserved
 ends-preserved c =
-    drawn refl
-    (map_more (λ e. escaped (client_name e.0)) c.args.ends.now c.ends.at c.index-ends-at.result c.ends-test.true c.index-ends-at.is
-    ∙ ap (λ (text : List ℕ). map (λ e. escaped (client_name e.0)) (take c.ends.at c.args.ends.now) ++ escaped text ∷ []) (sym (c.as_slice.ensures ∙ c.in_ok-name.ensures)))
+    drawn
+    (map_more (λ e. client_name e.0) c.args.ends.now c.ends.at c.index-ends-at.result c.ends-test.true c.index-ends-at.is
+    ∙ ap (λ (text : List ℕ). map (λ e. client_name e.0) (take c.ends.at c.args.ends.now) ++ text ∷ []) (sym (c.as_slice.ensures ∙ c.in_ok-name.ensures)))
     (then c.ends.invariant c.in_ok-push_head.ensures)

@@ -1,8 +1,7 @@
 -- A row more has its line.
 use Rattle.std.proofs.Common.{List, ℕ, [], ◌∷◌, ◌++◌, refl, sym, ◌∙◌, ap, length, take}
-use Rattle.sg_draw.specs.Shown.{visible}
 use Rattle.sg_draw.specs.Pictures.{marks_width}
-use Rattle.sg_draw.specs.Inside.Rows.{visible_labels}
+use Rattle.sg_draw.specs.Inside.Rows.{labels_in}
 use Rattle.sg_draw.proofs.Lines.{marks_of_width, printed, prints_line, prints_none, then}
 use Rattle.sg_draw.proofs.More.{map_more}
 use Rattle.sg_draw.proofs.terminal.push_lines.Goals as goal
@@ -16,12 +15,11 @@ rows-preserved c =
     let lanes = c.rows.invariant.same_lanes in
     record {
       shown =
-          printed refl
-          (map_more (λ r. visible r.label) c.args.rows.now c.rows.at c.index-rows-at.result c.rows-test.true c.index-rows-at.is
-          ∙ ap (λ (text : List ℕ). visible_labels (take c.rows.at c.args.rows.now) ++ visible text ∷ []) (sym c.as_slice-in-rows.ensures))
+          printed
+          (map_more (λ r. r.label) c.args.rows.now c.rows.at c.index-rows-at.result c.rows-test.true c.index-rows-at.is
+          ∙ ap (λ (text : List ℕ). labels_in (take c.rows.at c.args.rows.now) ++ text ∷ []) (sym c.as_slice-in-rows.ensures))
           (then c.rows.invariant.shown
-          (printed c.in_ok-push_line.ensures refl
-          (prints_line width c.rows.out c.as_slice.result.now c.as_slice-in-rows.result.now
-          (marks_of_width (ap marks_width (sym lanes)) c.as_slice.ensures c.in_ok-marks.ensures.marks))));
+          (prints_line width c.rows.out _ c.as_slice.result.now c.as_slice-in-rows.result.now
+          (marks_of_width (ap marks_width (sym lanes)) c.as_slice.ensures c.in_ok-marks.ensures.marks) c.in_ok-push_line.ensures));
       same_lanes = c.marks_of.ensures.lanes ∙ lanes;
     }

@@ -3,4 +3,4 @@ use Rattle.sg_entries.proofs.Unique.{one_reading}
 use Rattle.sg_entries.proofs.laws.one_reading.Goals as goal
 
 pub returns : goal.returns
-returns c = λ i text one other a b n m. one_reading i text one other a b n m
+returns c = λ shows i text one other a b n m. one_reading shows i text one other a b n m

@@ -1,11 +1,13 @@
 -- What stands before the arguments, these, and then the answer.
-use Rattle.std.proofs.Common.{◌∙◌, ap, sym}
+use Rattle.std.proofs.Common.{ℕ, Bool, List, map, ◌∙◌, ap, sym}
+use Rattle.std.specs.Prelude.{codes}
 use Rattle.std.proofs.lemmas.Result.{err_from_is_err_and}
 use Rattle.sg_entries.specs.declared.tree.EntryOutline.{EntryOutline}
 use Rattle.sg_entries.specs.declared.tree.WrittenAnswer.{WrittenAnswer}
 use Rattle.sg_entries.specs.declared.tree.WrittenEntry.{WrittenEntry}
-use Rattle.std.specs.Prelude.{ℕ}
-use Rattle.sg_entries.specs.Inside.States.{entry_start, call_answer}
+use Rattle.sg_entries.specs.Entry.{shows_named}
+use Rattle.sg_entries.specs.Inside.States.{answered, bytes, call_answer, entry_start}
+use Rattle.sg_facts.specs.Facts.{facts_of}
 use Rattle.sg_entries.specs.Inside.Reads.{read}
 use Rattle.sg_entries.proofs.parser.outline_in.Goals as goal
 
@@ -13,26 +15,30 @@ pub returns-in_err-answer_after : goal.returns-in_err-answer_after
 returns-in_err-answer_after c =
     let p = err_from_is_err_and c.from_residual-in_err-answer_after.result c.from_residual-in_err-answer_after.ensures.1 in
     let front = c.in_ok-front.front in
-    let counted = c.in_ok-args.ensures.leads (call_answer front.client front.seq front.name) in
+    let shows : List ℕ → Bool = shows_named (map facts_of c.args.shapes.now) c.args.iface.now in
+    let counted = c.in_ok-args.ensures.leads (call_answer shows front.client front.seq front.name) in
     let end : WrittenAnswer → WrittenEntry =
     λ answer. record { client = front.client; seq = front.seq; name = front.name; args = counted.0; answer = answer } in
     record {
       ends = rw (p.1, p.2) (λ ne.
-          ap (read entry_start) (sym c.new-line.ensures) ∙ c.in_ok-front.ensures.leads ∙ counted.2
+          ap (read (entry_start shows)) (sym c.new-line.ensures) ∙ c.in_ok-front.ensures.leads ∙ counted.2
+          ∙ ap (λ shown. read (bytes (codes " = ") (answered shown end)) c.count_bracketed.new.line) (sym c.in_ok-front.ensures.shown)
           ∙ c.in_err-answer_after.ensures.ends end ne);
     }
 
 pub returns : goal.returns
 returns c =
     let front = c.in_ok-front.front in
-    let counted = c.in_ok-args.ensures.leads (call_answer front.client front.seq front.name) in
+    let shows : List ℕ → Bool = shows_named (map facts_of c.args.shapes.now) c.args.iface.now in
+    let counted = c.in_ok-args.ensures.leads (call_answer shows front.client front.seq front.name) in
     let end : WrittenAnswer → WrittenEntry =
     λ answer. record { client = front.client; seq = front.seq; name = front.name; args = counted.0; answer = answer } in
     let outline : ℕ → EntryOutline = λ args. record { client = front.client; seq = front.seq; name = front.name; args = args } in
     record {
       ends = (
         end c.in_ok-answer_after.field-0,
-        ap (read entry_start) (sym c.new-line.ensures) ∙ c.in_ok-front.ensures.leads ∙ counted.2 ∙ c.in_ok-answer_after.ensures.ends end,
+        ap (read (entry_start shows)) (sym c.new-line.ensures) ∙ c.in_ok-front.ensures.leads ∙ counted.2 ∙ ap (λ shown. read (bytes (codes " = ") (answered shown end)) c.count_bracketed.new.line) (sym c.in_ok-front.ensures.shown)
+            ∙ c.in_ok-answer_after.ensures.ends end,
         ap outline counted.1,
       );
     }

@@ -12,6 +12,6 @@ fault_in-requires c =
     let line = c.args.line.now in
     let e = c.args.written.now in
     let made = subst (λ x. IsMade (entry_flaws i c.args.nth e) (entry_of i e) (Err x)) c.in-Err-Fault.field-0-is c.in-Err-Fault.ensures in
-    let within = first_within i c.args.nth line.bytes e (record { kind = c.in-Err-Fault.kind; at = c.in-Err-Fault.at }) c.requires.parsed made in
+    let within = first_within c.requires.parsed.0 i c.args.nth line.bytes e (record { kind = c.in-Err-Fault.kind; at = c.in-Err-Fault.at }) c.requires.parsed.1 made in
     let end = c.requires.within in
     omega (arith, within, end)

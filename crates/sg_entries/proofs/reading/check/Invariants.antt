@@ -1,10 +1,12 @@
 -- The lines before those that are left are entries'.
-use Rattle.std.proofs.Common.{length}
+use Rattle.std.proofs.Common.{length, map}
 use Rattle.sg_entries.proofs.Halves.{IsUpTo}
+use Rattle.sg_entries.specs.Entry.{shows_named}
+use Rattle.sg_facts.specs.Facts.{facts_of}
 use Rattle.sg_entries.proofs.reading.check.Given as goal
 
 abbrev pub invariant-lines : goal.invariant-lines
-invariant-lines l = IsUpTo l.text l.lines
+invariant-lines l = IsUpTo (shows_named (map facts_of l.shapes) l.iface) l.text l.lines
 
 abbrev pub decreases-lines : goal.decreases-lines
 decreases-lines l = length l.lines

@@ -1,16 +1,19 @@
--- A script without a fault is counted, and a fault is the interface's script's.
-use Rattle.std.proofs.Common.{Ok, Err, map, subst}
-use Rattle.sg_facts.specs.Facts.{facts_of}
+-- A script without a fault is counted, and the line of a fault stands before why.
+use Rattle.std.proofs.Common.{Ok, Err, subst}
 use Rattle.sg_script.specs.Reads.{IsReadingOf}
-use Rattle.sg_explain.proofs.Explained.{good_input}
+use Rattle.sg_script.specs.declared.fault.ScriptError.TheVariants.{Fault}
+use Rattle.sg_explain.proofs.Explained.{bad_script, good_input}
 use Rattle.sg_explain.proofs.explaining.explain_script.Goals as goal
 
-pub explain_error-requires-clause-error : goal.explain_error-requires-clause-error
-explain_error-requires-clause-error c = subst (λ i. IsReadingOf i c.args.script.now (Err c.in-Err.error)) c.interface.ensures.same c.in-Err.ensures.answer
-
 pub returns-in_ok-told-in-Ok : goal.returns-in_ok-told-in-Ok
-returns-in_ok-told-in-Ok c =
-    let ready = c.requires.ready in
+returns-in_ok-told-in-Ok c = λ services input interface texts is.
     let made = c.in_ok-told-in-Ok.ensures in
-    good_input (map facts_of c.args.shapes.now) c.args.input.now ready.0 c.args.script.now c.args.accepted.now ready.1 ready.2 c.in_ok-told-in-Ok.told made.0 c.in-Ok.parsed
+    good_input services input interface c.args.script.now c.args.accepted.now texts is c.in_ok-told-in-Ok.told made.0 c.in-Ok.parsed
     (subst (λ i. IsReadingOf i c.args.script.now (Ok c.in-Ok.parsed)) c.interface.ensures.same c.in-Ok.ensures.answer) made.1 made.2
+
+pub returns-in_ok-told-in-Err-Fault : goal.returns-in_ok-told-in-Err-Fault
+returns-in_ok-told-in-Err-Fault c = λ services input interface texts is.
+    bad_script services input interface c.args.script.now c.args.accepted.now texts is c.in_ok-told-in-Err-Fault.told c.in-Err-Fault.fault
+    (subst (λ i. IsReadingOf i c.args.script.now (Err (Fault c.in-Err-Fault.fault))) c.interface.ensures.same
+    (subst (λ e. IsReadingOf c.interface.result.now c.args.script.now (Err e)) c.in-Err-Fault.field-0-is c.in-Err-Fault.ensures.answer))
+    c.in_ok-told-in-Err-Fault.ensures

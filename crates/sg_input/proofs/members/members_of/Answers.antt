@@ -1,10 +1,10 @@
 -- One text more: it is refused, or its interface is one member more.
-use Rattle.std.proofs.Common.{◌<◌, ℕ, suc, List, [], drop, length, map, sym, subst, take, arith}
+use Rattle.std.proofs.Common.{◌<◌, suc, [], drop, length, map, sym, subst, take, arith}
 use Rattle.std.specs.Prelude.{slice_index_or}
 use Rattle.std.proofs.Math.Seq.{split_at}
 use Rattle.std.proofs.lemmas.List.{get_or-map, length-map}
 use Rattle.sg_facts.specs.Facts.{facts_of}
-use Rattle.sg_input.specs.declared.members.Member.TheVariants.{Refused, Ready}
+use Rattle.sg_input.specs.declared.read.Read.TheVariants.{Refused, Ready}
 use Rattle.sg_input.specs.Inside.Members.{AreFitMembers, IsMemberOf}
 use Rattle.sg_input.proofs.Gathering.{fit_more, members_more}
 use Rattle.sg_input.proofs.members.members_of.Goals as goal

@@ -46,8 +46,8 @@ named_by token = record { bytes = token.bytes; at = token.at }
 -- ---- states
 
 -- what follows a type whose names are so many and a last one, and that has so many stars
-abbrev pub Behind : Type 0 → Type 0
-Behind State = List Spelling → Spelling → ℕ → State
+abbrev pub Later : Type 0 → Type 0
+Later State = List Spelling → Spelling → ℕ → State
 
 -- how far a text has been read: what may come next, with the tree so far
 pub data State : Type 0 where
@@ -88,15 +88,15 @@ abbrev pub with_param : (List Param → State) → List Param → TypeName → O
 with_param go params ty form n = listed (params ++ record { ty = ty; form = form; name = n } ∷ []) go
 
 -- after the names and stars of the type of a parameter: its name, or a form with its name in brackets
-abbrev pub param_behind : (List Param → State) → List Param → List Spelling → Spelling → ℕ → State
-param_behind go params front last n =
+abbrev pub param_after : (List Param → State) → List Param → List Spelling → Spelling → ℕ → State
+param_after go params front last n =
     either
     (λ form. due open_bracket (want Name (λ n'. due close_bracket (with_param go params (type_of front last n) (Some form) n'))))
     (declared (λ ty n'. with_param go params ty None n') front last n)
 
 -- before a parameter, after those that were read
 abbrev pub param : (List Param → State) → List Param → State
-param go params = want Name (λ first. names [] first (param_behind go params))
+param go params = want Name (λ first. names [] first (param_after go params))
 
 -- after the word of a statement over one function
 abbrev pub one_rest : (Statement → State) → Spelling → State
@@ -113,22 +113,22 @@ abbrev pub proto_rest : (Statement → State) → Ret → Spelling → State
 proto_rest go ret n = due open_bracket (param (λ params. due semicolon (go (Proto ret n params))) [])
 
 -- after the type of a returned word that goes into a field: the field, and then the prototype's name and parameters
-abbrev pub returned_behind : (Statement → State) → (TypeName → Spelling → Ret) → List Spelling → Spelling → ℕ → State
-returned_behind go make front last n =
+abbrev pub returned_after : (Statement → State) → (TypeName → Spelling → Ret) → List Spelling → Spelling → ℕ → State
+returned_after go make front last n =
     due comma (want Name (λ field. due close_bracket (want Name (λ n'.
     proto_rest go (make (type_of front last n) field) n'))))
 
 -- after the word that says what becomes of a returned word: its type and its field in brackets, and then the prototype
 abbrev pub returned_rest : (Statement → State) → (TypeName → Spelling → Ret) → State
-returned_rest go make = due open_bracket (want Name (λ first. names [] first (returned_behind go make)))
+returned_rest go make = due open_bracket (want Name (λ first. names [] first (returned_after go make)))
 
 -- after the first name of a plain return
 abbrev pub plain_rest : (Statement → State) → Spelling → State
 plain_rest go first = names [] first (declared (λ ty n. proto_rest go (Plain ty) n))
 
 -- after the first token of a statement
-abbrev pub statement_behind : (Statement → State) → Lexeme → Option State
-statement_behind go token =
+abbrev pub statement_after : (Statement → State) → Lexeme → Option State
+statement_after go token =
     if has_sort one_word token then Some (one_rest go (named_by token))
     else (if has_sort two_word token then Some (two_rest go (named_by token))
     else (if fits (word (codes "desc_data_retval")) token then Some (returned_rest go Set)
@@ -209,7 +209,7 @@ step (listed params k) token =
     if fits comma token then Some (param k params)
     else (if fits close_bracket token then Some (k params)
     else None)
-step (statements facts before) token = statement_behind (with_statement facts before) token
+step (statements facts before) token = statement_after (with_statement facts before) token
 step (in_newer s) token = option_map in_newer (step s (seen token))
 
 -- the tree, where the text may end here

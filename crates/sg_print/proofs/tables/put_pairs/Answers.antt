@@ -7,8 +7,8 @@ use Rattle.sg_print.proofs.tables.put_pairs.Goals as goal
 
 pub firsts-preserved : goal.firsts-preserved
 firsts-preserved c =
-    one_more (pairs_from c.args.word.now (facts_of c.args.shape.now).funs c.args.pairs.now) c.args.out.now c.firsts.out c.put_pairs_behind.new.out c.firsts.first
-    c.firsts.auto.first c.firsts.invariant c.in_ok-put_pairs_behind.ensures
+    one_more (pairs_from c.args.word.now (facts_of c.args.shape.now).funs c.args.pairs.now) c.args.out.now c.firsts.out c.put_pairs_after.new.out c.firsts.first
+    c.firsts.auto.first c.firsts.invariant c.in_ok-put_pairs_after.ensures
 
 pub returns : goal.returns
 returns c =

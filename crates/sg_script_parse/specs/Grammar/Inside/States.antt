@@ -45,8 +45,8 @@ pub data ScriptState : Type 0 where
   script : Bool → List Part → ScriptState
 
 -- after the first token of an argument
-abbrev pub argument_behind : (WrittenArg → ScriptState) → Lexeme → Option ScriptState
-argument_behind k token =
+abbrev pub argument_after : (WrittenArg → ScriptState) → Lexeme → Option ScriptState
+argument_after k token =
     if is_this_mark dollar_byte token then Some (want (λ n. k (back_arg n)))
     else (if has_kind Text token then Some (k (text_arg (spelt_by token)))
     else (if has_kind Number token then Some (k (number_arg (spelt_by token)))
@@ -83,8 +83,8 @@ abbrev pub stop_rest : Bool → (Part → ScriptState) → ℕ → ScriptState
 stop_rest several go at = named several (λ service. counts [] (λ numbers. go (Stop at service numbers)))
 
 -- after the first token of a part
-abbrev pub part_behind : Bool → (Part → ScriptState) → Lexeme → Option ScriptState
-part_behind several go token =
+abbrev pub part_after : Bool → (Part → ScriptState) → Lexeme → Option ScriptState
+part_after several go token =
     if is_fixed (codes "setup") token then Some (setup_rest go token.at)
     else (if is_fixed (codes "client") token then Some (client_rest go token.at)
     else (if is_fixed (codes "schedule") token then Some (schedule_rest go token.at)
@@ -107,9 +107,9 @@ step dead token = None
 step (due byte s) token = if is_this_mark byte token then Some s else None
 step (want k) token = if has_kind Number token then Some (k (spelt_by token)) else None
 step (want_word k) token = if has_kind Word token then Some (k (spelt_by token)) else None
-step (argument k) token = argument_behind k token
+step (argument k) token = argument_after k token
 step (bracketed k) token =
-    if is_this_mark close_bracket_byte token then Some (k []) else argument_behind (λ a. listed (a ∷ []) k) token
+    if is_this_mark close_bracket_byte token then Some (k []) else argument_after (λ a. listed (a ∷ []) k) token
 step (listed args k) token =
     if is_this_mark comma_byte token then Some (argument (λ a. listed (args ++ a ∷ []) k))
     else (if is_this_mark close_bracket_byte token then Some (k args)
@@ -122,7 +122,7 @@ step (counts numbers k) token =
     if has_kind Number token then Some (counts (numbers ++ spelt_by token ∷ []) k)
     else (if is_this_mark semicolon_byte token then Some (k numbers)
     else None)
-step (script several parts) token = part_behind several (with_part several parts) token
+step (script several parts) token = part_after several (with_part several parts) token
 
 -- the parts, where the text may end here
 unfoldable pub parts_at : ScriptState → Option (List Part)

@@ -9,7 +9,7 @@ use Rattle.sg_play.specs.sg_plain.Playing.Plays.{IsPlaying}
 use Rattle.sg_sim.proofs.Taking.{missed_offer, missed_step, on_err, taken}
 use Rattle.sg_sim.specs.Inside.Givens.{lists_of}
 use Rattle.sg_sim.specs.Inside.Taken.{TakesTurn}
-use Rattle.sg_play.specs.sg_world.Steps.{WantsMemory}
+use Rattle.sg_play.specs.sg_world.Steps.{LackedMemory}
 use Rattle.sg_play.specs.sg_world.Worlded.{setting_of}
 use Rattle.sg_play.specs.sg_world_laws.Setting.{Setting}
 use Rattle.sg_sim.proofs.turn.take_turn.Goals as goal
@@ -45,7 +45,7 @@ returns-in_err-handed-clause-missed g c =
     (missed_step z c.args.script.now c.args.world.now.view lists c.args.client c.offer_next.new.world.view later (lists_of c.reserve.new.self) c.in_ok-offer_next.ensures.ok offered c.reserve.ensures.lists
     (subst (λ (t : Compiled). IsPlaying t.iface c.args.script.now later.history later.seats lists) c.offer_next.ensures.tables
     (c.in_err-handed.ensures.err lists (subst (λ (t : Compiled). IsPlaying t.iface c.args.script.now c.offer_next.new.world.view.history c.offer_next.new.world.view.seats lists) (sym c.offer_next.ensures.tables) offered)))
-    (subst (λ (t : Compiled). WantsMemory (setting_of g.S.Service.ask g.S.Service.sound g.S.Service.parts t) c.offer_next.new.world.view c.args.client later) c.offer_next.ensures.tables c.in_err-handed.ensures.wants))
+    (subst (λ (t : Compiled). LackedMemory (setting_of g.S.Service.ask g.S.Service.sound g.S.Service.parts t) c.offer_next.new.world.view c.args.client later) c.offer_next.ensures.tables c.in_err-handed.ensures.wants))
 
 pub returns-clause-taken : goal.returns-clause-taken
 returns-clause-taken g c =

@@ -3,7 +3,7 @@ use Rattle.std.proofs.Common.{◌∙◌, ap, map, refl, subst, sym, inl, inr}
 use Rattle.sg_facts.specs.Facts.{facts_of}
 use Rattle.sg_facts.specs.Interface.{Declared}
 use Rattle.sg_input.specs.Inputs.{IsInputOf}
-use Rattle.sg_input.specs.declared.input.Input.TheVariants.{Refused as refused_input}
+use Rattle.sg_input.specs.declared.read.Read.TheVariants.{Refused as refused}
 use Rattle.sg_top.specs.Answer.{services}
 use Rattle.sg_top.specs.Inside.Plays.{IsPlayed}
 use Rattle.sg_top.proofs.EachKind.{its_facts}
@@ -40,7 +40,7 @@ returns-in_ok-found-in-Ready-clause-found g c = inl (record {
 pub returns-in-Refused-clause-found : goal.returns-in-Refused-clause-found
 returns-in-Refused-clause-found g c = inr (
   c.refusing.ensures.status,
-  subst (λ t. IsInputOf services c.args.bytes.now (refused_input t)) (sym c.refusing.ensures.line)
+  subst (λ t. IsInputOf services c.args.bytes.now (refused t)) (sym c.refusing.ensures.line)
       (subst (λ x. IsInputOf services c.args.bytes.now x) c.in-Refused.is
       (subst (λ known. IsInputOf known c.args.bytes.now c.in_ok-accepted.field-0) c.shapes.ensures.facts c.in_ok-accepted.ensures.input)),
 )

@@ -8,5 +8,6 @@ returns c = record {
   stops = refl;
   plain = record { turns = 9; over = refl; is = refl };
   follows = record { first_boot = refl; whole = λ none. refl };
+  asks = record { first_boot = refl; whole = λ none. refl };
   woken = (tt, (tt, (refl, (tt, (tt, tt)))));
 }

@@ -7,5 +7,6 @@ returns c = record {
   stops = refl;
   plain = record { turns = 9; over = refl; is = refl };
   follows = record { first_boot = refl; whole = λ none. refl };
+  asks = record { first_boot = refl; whole = λ none. refl };
   woken = (tt, (refl, (tt, (tt, (refl, tt)))));
 }

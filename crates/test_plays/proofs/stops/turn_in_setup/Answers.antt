@@ -10,4 +10,5 @@ returns c = record {
   follows = record { first_boot = refl; whole = λ none. refl };
   woken = (tt, (refl, (tt, (tt, (tt, tt)))));
   not_first = λ r. false_true r.items;
+  not_asked = λ r. false_true r.first_boot;
 }

@@ -6,7 +6,7 @@ use Rattle.sg_turn.specs.sg_facts.Object.{empty_object}
 use Rattle.sg_turn.specs.sg_facts.Tables.{Compiled}
 use Rattle.sg_turn.specs.Told.{entries_in}
 use Rattle.sg_turn.proofs.CallLaws.{on_err}
-use Rattle.sg_world.specs.Steps.{HasStepped, WantsMemory}
+use Rattle.sg_world.specs.Steps.{HasStepped, LackedMemory}
 use Rattle.sg_world.specs.Worlded.{setting_of}
 use Rattle.sg_log.specs.Log.{log_of}
 use Rattle.sg_log.proofs.Offering.{wants_log}
@@ -22,7 +22,7 @@ returns-clause-did g c =
 pub returns-clause-wants : goal.returns-clause-wants
 returns-clause-wants g c =
     let n = c.args.self.now in
-    subst (λ (t : Compiled). OnErr c.step-did.result (WantsMemory (setting_of g.S.Service.ask g.S.Service.sound g.S.Service.parts t) n.world.view c.args.client c.step-did.new.self.view)) n.tables c.step-did.ensures.err
+    subst (λ (t : Compiled). OnErr c.step-did.result (LackedMemory (setting_of g.S.Service.ask g.S.Service.sound g.S.Service.parts t) n.world.view c.args.client c.step-did.new.self.view)) n.tables c.step-did.ensures.err
 
 pub returns-clause-stepped : goal.returns-clause-stepped
 returns-clause-stepped g c =

@@ -4,7 +4,7 @@ use Rattle.sg_multi.proofs.Places.{changed, err_so, now_there, ok_both, same_the
 use Rattle.sg_multi.specs.Members.{ChangesAt, setting_in, view_in}
 use Rattle.sg_multi.specs.declared.member.Member.{Member}
 use Rattle.sg_sim.specs.sg_clients.WorldView.{WorldView}
-use Rattle.sg_sim.specs.sg_world.Steps.{AnswersLast, HasStepped, WantsMemory}
+use Rattle.sg_sim.specs.sg_world.Steps.{AnswersLast, HasStepped, LackedMemory}
 use Rattle.sg_multi.proofs.members.Members.step.Goals as goal
 
 pub step-requires : goal.step-requires
@@ -38,9 +38,9 @@ returns-clause-err c = λ m there.
     let client = c.args.client in
     let later = slice_set c.self.inside.list.items c.args.place new in
     let is = same_there c.args.self.now c.args.place old m (now_there c.self.inside.list.items c.args.self.now c.args.place old c.self.view_is c.requires.there c.index_mut.ensures.value) there in
-    err_so (WantsMemory (setting_in old) (view_in old) client now) ((now : WorldView) × ChangesAt c.args.self.now c.args.place m now later × WantsMemory (setting_in m) (view_in m) client now) c.step.result
+    err_so (LackedMemory (setting_in old) (view_in old) client now) ((now : WorldView) × ChangesAt c.args.self.now c.args.place m now later × LackedMemory (setting_in m) (view_in m) client now) c.step.result
     (λ wants. (
       now,
       changed c.args.self.now c.self.inside.list.items c.args.place old new m now c.self.view_is there is refl c.step.ensures.kind c.step.ensures.tables c.step.ensures.plan,
-      subst (λ (x : Member). WantsMemory (setting_in x) (view_in x) client now) is wants,
+      subst (λ (x : Member). LackedMemory (setting_in x) (view_in x) client now) is wants,
     )) c.step.ensures.err

@@ -7,7 +7,7 @@ use Rattle.sg_multi.specs.sg_sim.sg_script.declared.multi.MultiCall.{MultiCall}
 use Rattle.sg_multi.specs.Inside.Keeps.{is_multi_setting_up}
 use Rattle.sg_multi.specs.Inside.Turns.{KeepsRunning, TakesNextTurn}
 use Rattle.sg_multi.specs.Inside.Whose.{next_of}
-use Rattle.sg_multi.proofs.Turning.{as_many, idle_turn, member_within, some_member, turn_behind_offer}
+use Rattle.sg_multi.proofs.Turning.{as_many, idle_turn, member_within, some_member, turn_after_offer}
 use Rattle.sg_multi.proofs.running.Running.take_turn.Goals as goal
 
 pub offer-requires-clause-next : goal.offer-requires-clause-next
@@ -42,7 +42,7 @@ returns-clause-turned c =
     let q = c.offer.new.self in
     ok_so ((taken : ℕ) → TakesNextTurn s q c.args.client taken → KeepsRunning s (record c.step.new.self { passed = taken; last = c.args.client }))
     ((taken : ℕ) → TakesNextTurn s r c.args.client taken → KeepsRunning s (record c.step.new.self { passed = taken; last = c.args.client })) c.step.result
-    (λ turned taken turn. turned taken (turn_behind_offer s r q c.args.client taken c.offer.ensures.players c.offer.ensures.passed c.offer.ensures.last turn)) c.step.ensures.turned
+    (λ turned taken turn. turned taken (turn_after_offer s r q c.args.client taken c.offer.ensures.players c.offer.ensures.passed c.offer.ensures.last turn)) c.step.ensures.turned
 
 pub returns-clause-same : goal.returns-clause-same
 returns-clause-same c = c.step.ensures.same ∙ c.offer.ensures.same

@@ -36,4 +36,5 @@ invariant_of-self g c =
       c.self.invariant.1,
       ends_left (setting_of g.S.Service.ask g.S.Service.sound g.S.Service.parts e.tables) w c.args.client c.requires.client.0 (subst (λ x. c.args.client ≤ length x.view.seats) (sym c.self.view_is) c.requires.client.1) c.self.invariant.2 (subst (λ x. IsFree (seat_of x.view c.args.client).phase) (sym c.self.view_is) c.requires.free) (sym c.has_left.ensures ∙ c.if-not-has_left.true)
           c.leave.new.self c.leave.ensures c.add.new.self.items c.saturating_add-self-inside.result,
+      c.self.invariant.3,
     )

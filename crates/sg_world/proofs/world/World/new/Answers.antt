@@ -1,6 +1,7 @@
 -- A new world keeps what worlds keep.
 use Rattle.std.proofs.Common.{sym, ◌∙◌, ap, subst, arith, length}
 use Rattle.sg_facts.specs.Tables.{AreTables}
+use Rattle.sg_replay.specs.sg_hist.Recovered.{AreInBoots}
 use Rattle.sg_world_laws.specs.sg_recovery_laws.Objects.Serving.{IsService}
 use Rattle.sg_world_laws.specs.Setting.{IsSetting}
 use Rattle.sg_world.specs.Worlded.{Rooms, setting_of, view_of}
@@ -31,4 +32,5 @@ invariant_of-result g c =
       },
       new_counted (setting_of g.S.Service.ask g.S.Service.sound g.S.Service.parts e.tables) e c.new-3.result.items c.in_ok-seats.seats c.new-4.result.items c.reserve.new.self.items made.run,
       ends_new (setting_of g.S.Service.ask g.S.Service.sound g.S.Service.parts e.tables) c.args.clients (view_of e c.new-3.result.items c.in_ok-seats.seats c.new-4.result.items c.reserve.new.self.items 0 0) c.new-3.ensures (ap (λ r. r.boots) made.run) c.new-4.ensures c.in_ok-seats.ensures,
+      subst (AreInBoots e.tables.iface.facts e.cell.run 0) (sym c.new-3.ensures) tt,
     )

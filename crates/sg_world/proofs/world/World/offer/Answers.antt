@@ -6,6 +6,7 @@ use Rattle.sg_facts.specs.Kinds.{FitsKinds}
 use Rattle.sg_clients.specs.WorldView.{IsFree, happened, offered, seat_of}
 use Rattle.sg_clients.specs.declared.mark.MarkKind.TheVariants.{Offer}
 use Rattle.sg_replay.specs.sg_hist.Clients.{MayBeMade}
+use Rattle.sg_replay.specs.sg_hist.Recovered.{AreInBoots}
 use Rattle.sg_clients.specs.declared.phase.Phase.TheVariants.{Asked}
 use Rattle.sg_world.proofs.Rooming.{length_set}
 use Rattle.sg_world.specs.Inners.{rooms_in, view_in}
@@ -42,6 +43,7 @@ invariant_of-self-2 g c =
       c.self.invariant.1,
       ends_same z (happened (offered w c.args.client call)) (record w { history = c.reserve.new.self.items; seats = c.offer.new.self; withdrawn = c.reserve-2.new.self.items; marks = c.add.new.self.items; events = c.saturating_add-self-inside.result }) c.reserve.ensures.items refl c.reserve-2.ensures.items c.in_ok-offer.ensures.ok
           (kept_offered z w c.args.client c.requires.client.0 last c.self.invariant.2 call (subst (λ x. IsFree (seat_of x.view c.args.client).phase) (sym c.self.view_is) c.requires.free)),
+      subst (AreInBoots e.tables.iface.facts w.run 0) (sym c.reserve.ensures.items) c.self.invariant.3,
     )
 
 pub invariant_of-self-in_err-reserve-2 : goal.invariant_of-self-in_err-reserve-2
@@ -59,6 +61,7 @@ invariant_of-self-in_err-reserve-2 g c =
       },
       c.self.invariant.1,
       ends_same (setting_of g.S.Service.ask g.S.Service.sound g.S.Service.parts e.tables) w (record w { history = c.reserve.new.self.items; seats = w.seats; withdrawn = c.reserve-2.new.self.items; marks = w.marks; events = c.saturating_add-self-inside.result }) c.reserve.ensures.items refl c.reserve-2.ensures.items refl c.self.invariant.2,
+      subst (AreInBoots e.tables.iface.facts w.run 0) (sym c.reserve.ensures.items) c.self.invariant.3,
     )
 
 pub invariant_of-self-in_err-reserve-3 : goal.invariant_of-self-in_err-reserve-3
@@ -76,6 +79,7 @@ invariant_of-self-in_err-reserve-3 g c =
       },
       c.self.invariant.1,
       ends_same (setting_of g.S.Service.ask g.S.Service.sound g.S.Service.parts e.tables) w (record w { history = c.reserve.new.self.items; seats = w.seats; withdrawn = c.reserve-2.new.self.items; marks = c.reserve-3.new.self.items; events = c.saturating_add-self-inside.result }) c.reserve.ensures.items refl c.reserve-2.ensures.items refl c.self.invariant.2,
+      subst (AreInBoots e.tables.iface.facts w.run 0) (sym c.reserve.ensures.items) c.self.invariant.3,
     )
 
 pub invariant_of-self-in_err-offer : goal.invariant_of-self-in_err-offer
@@ -95,6 +99,7 @@ invariant_of-self-in_err-offer g c =
       },
       c.self.invariant.1,
       ends_same (setting_of g.S.Service.ask g.S.Service.sound g.S.Service.parts e.tables) w (record w { history = c.reserve.new.self.items; seats = c.offer.new.self; withdrawn = c.reserve-2.new.self.items; marks = c.reserve-3.new.self.items; events = c.saturating_add-self-inside.result }) c.reserve.ensures.items refl c.reserve-2.ensures.items c.in_err-offer.ensures.err c.self.invariant.2,
+      subst (AreInBoots e.tables.iface.facts w.run 0) (sym c.reserve.ensures.items) c.self.invariant.3,
     )
 
 pub invariant_of-self : goal.invariant_of-self
@@ -112,4 +117,5 @@ invariant_of-self g c =
       },
       c.self.invariant.1,
       ends_same (setting_of g.S.Service.ask g.S.Service.sound g.S.Service.parts e.tables) w (record w { history = c.reserve.new.self.items; events = c.saturating_add-self-inside.result }) c.reserve.ensures.items refl refl refl c.self.invariant.2,
+      subst (AreInBoots e.tables.iface.facts w.run 0) (sym c.reserve.ensures.items) c.self.invariant.3,
     )

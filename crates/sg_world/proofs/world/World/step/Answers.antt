@@ -5,13 +5,16 @@ use Rattle.sg_facts.specs.Tables.{Compiled}
 use Rattle.sg_clients.specs.WorldView.{WorldView, happened, seat_of}
 use Rattle.sg_world.proofs.Events.{any_length, err_counted, err_wants, event_on, ok_answers, ok_counted}
 use Rattle.sg_world.specs.Inners.{rooms_in, view_in}
-use Rattle.sg_world.specs.Steps.{WantsMemory}
+use Rattle.sg_world.specs.Steps.{LackedMemory}
 use Rattle.sg_world.specs.Worlded.{CountsAll, Worlded, setting_of}
 use Rattle.sg_world_laws.proofs.Moves.{its_seat}
 use Rattle.sg_world_laws.proofs.Turns.{seat_there}
 use Rattle.sg_world.specs.Engines.Stubs.{stub_of}
 use Rattle.sg_world.proofs.Ends.{ends_err, ends_ok, ends_same}
+use Rattle.sg_world.proofs.InBoots.{err_in_boots, ok_in_boots}
 use Rattle.sg_world_laws.specs.Ending.{IsEnding}
+use Rattle.sg_world_laws.specs.Keeping.{KeepsPromise}
+use Rattle.sg_replay.specs.sg_hist.Recovered.{AreInBoots}
 use Rattle.sg_world.proofs.world.World.step.Goals as goal
 
 pub invariant_of-self : goal.invariant_of-self
@@ -34,6 +37,8 @@ invariant_of-self g c =
       subst (λ (t : Compiled). IsEnding (setting_of g.S.Service.ask g.S.Service.sound g.S.Service.parts t) (record (view_in mid) { events = c.saturating_add-self-inside.result; refused = c.saturating_add-self-inside-then-is_err.result })) (sym tables)
           (ends_same z (view_in mid) (record (view_in mid) { events = c.saturating_add-self-inside.result; refused = c.saturating_add-self-inside-then-is_err.result }) refl refl refl refl
           (ends_err z w c.args.client c.requires.client.0 (subst (λ (y : Worlded). c.args.client ≤ length y.view.seats) (sym c.self.view_is) c.requires.client.1) (stub_of x.engine) c.self.invariant.0.world.set c.self.invariant.0.world.keeps c.self.invariant.2 (view_in mid) c.step-did.result (sym c.is_err.ensures.value ∙ c.if-is_err.true) c.step-did.ensures.err)),
+      subst (λ (t : Compiled). AreInBoots t.iface.facts mid.engine.cell.run 0 mid.history.items) (sym tables)
+          (err_in_boots z c.self.invariant.0.world.set w c.args.client c.requires.client.0 (subst (λ (y : Worlded). c.args.client ≤ length y.view.seats) (sym c.self.view_is) c.requires.client.1) (stub_of x.engine) c.self.invariant.0.world.keeps c.self.invariant.1 c.self.invariant.3 (view_in mid) c.step-did.result (sym c.is_err.ensures.value ∙ c.if-is_err.true) c.step-did.ensures.err),
     )
 
 pub invariant_of-self-else-is_err : goal.invariant_of-self-else-is_err
@@ -55,6 +60,10 @@ invariant_of-self-else-is_err g c =
       subst (λ (t : Compiled). IsEnding (setting_of g.S.Service.ask g.S.Service.sound g.S.Service.parts t) (record (view_in mid) { events = c.saturating_add-self-inside.result; refused = mid.refused })) (sym tables)
           (ends_same z (view_in mid) (record (view_in mid) { events = c.saturating_add-self-inside.result; refused = mid.refused }) refl refl refl refl
           (ends_ok z w c.args.client c.requires.client.0 (subst (λ (y : Worlded). c.args.client ≤ length y.view.seats) (sym c.self.view_is) c.requires.client.1) (stub_of x.engine) c.self.invariant.0.world.set c.self.invariant.0.world.keeps c.self.invariant.2 (view_in mid) c.step-did.result (sym c.is_err.ensures.value ∙ c.if-is_err.false) c.step-did.ensures.did)),
+      subst (λ (t : Compiled). AreInBoots t.iface.facts mid.engine.cell.run 0 mid.history.items) (sym tables)
+          (ok_in_boots z c.self.invariant.0.world.set w c.args.client c.requires.client.0 (subst (λ (y : Worlded). c.args.client ≤ length y.view.seats) (sym c.self.view_is) c.requires.client.1) (stub_of x.engine) c.self.invariant.0.world.keeps c.self.invariant.1 c.self.invariant.3 (view_in mid) (stub_of mid.engine)
+          (subst (λ (t : Compiled). KeepsPromise (setting_of g.S.Service.ask g.S.Service.sound g.S.Service.parts t) (view_in mid) (stub_of mid.engine)) tables order.world.keeps)
+          c.step-did.result (sym c.is_err.ensures.value ∙ c.if-is_err.false) c.step-did.ensures.did),
     )
 
 pub returns-then-is_err-clause-err : goal.returns-then-is_err-clause-err
@@ -63,10 +72,10 @@ returns-then-is_err-clause-err g c =
     let mid = c.step-did.new.self in
     let z = setting_of g.S.Service.ask g.S.Service.sound g.S.Service.parts x.engine.tables in
     let w : WorldView = view_in x in
-    subst (λ (y : Worlded). OnErr c.step-did.result (WantsMemory (setting_of g.S.Service.ask g.S.Service.sound g.S.Service.parts y.tables) y.view c.args.client
+    subst (λ (y : Worlded). OnErr c.step-did.result (LackedMemory (setting_of g.S.Service.ask g.S.Service.sound g.S.Service.parts y.tables) y.view c.args.client
     (record (view_in mid) { events = c.saturating_add-self-inside.result; refused = c.saturating_add-self-inside-then-is_err.result }))) c.self.view_is
-    (subst (λ n. OnErr c.step-did.result (WantsMemory z w c.args.client (record (view_in mid) { events = n; refused = c.saturating_add-self-inside-then-is_err.result }))) (sym c.saturating_add-self-inside.ensures)
-    (subst (λ n. OnErr c.step-did.result (WantsMemory z w c.args.client (happened (record (view_in mid) { refused = n })))) (sym c.saturating_add-self-inside-then-is_err.ensures)
+    (subst (λ n. OnErr c.step-did.result (LackedMemory z w c.args.client (record (view_in mid) { events = n; refused = c.saturating_add-self-inside-then-is_err.result }))) (sym c.saturating_add-self-inside.ensures)
+    (subst (λ n. OnErr c.step-did.result (LackedMemory z w c.args.client (happened (record (view_in mid) { refused = n })))) (sym c.saturating_add-self-inside-then-is_err.ensures)
     (err_wants z w c.args.client (view_in mid) c.step-did.result (sym c.is_err.ensures.value ∙ c.if-is_err.true) c.step-did.ensures.err)))
 
 pub returns-else-is_err-clause-answers : goal.returns-else-is_err-clause-answers

@@ -21,10 +21,10 @@ pub returns-clause-recovered : goal.returns-clause-recovered
 returns-clause-recovered g c =
     let x = c.self.inside.inner in
     subst (λ (y : Worlded). y.view.refused ≡ 0 → IsRecovered (stubs_of (setting_of g.S.Service.ask g.S.Service.sound g.S.Service.parts y.tables)) y.view.history y.view.run (unanswered y.view)) c.self.view_is
-    (recovered_now (setting_of g.S.Service.ask g.S.Service.sound g.S.Service.parts x.engine.tables) (view_in x) (stub_of x.engine) c.self.invariant.0.world.keeps c.self.invariant.1)
+    (recovered_now (setting_of g.S.Service.ask g.S.Service.sound g.S.Service.parts x.engine.tables) (view_in x) (stub_of x.engine) c.self.invariant.0.world.keeps c.self.invariant.1 c.self.invariant.3)
 
 pub returns-clause-held : goal.returns-clause-held
-returns-clause-held g c = subst (λ (y : Worlded). AreInBoots y.view.run 0 y.view.history) c.self.view_is c.self.invariant.0.world.keeps.in_boots
+returns-clause-held g c = subst (λ (y : Worlded). AreInBoots y.tables.iface.facts y.view.run 0 y.view.history) c.self.view_is c.self.invariant.3
 
 pub returns-clause-stopped : goal.returns-clause-stopped
 returns-clause-stopped g c =

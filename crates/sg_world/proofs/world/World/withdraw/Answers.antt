@@ -46,4 +46,5 @@ invariant_of-self g c =
       c.self.invariant.1,
       ends_withdrawn (setting_of g.S.Service.ask g.S.Service.sound g.S.Service.parts e.tables) w c.args.client c.requires.client.0 (subst (λ x. c.args.client ≤ length x.view.seats) (sym c.self.view_is) c.requires.client.1) c.self.invariant.2 c.withdraw-withdrawn.new.self c.withdraw-withdrawn.ensures.seats
           c.add.new.self.items c.withdraw-withdrawn.result c.add.ensures.items c.add-2.new.self.items c.saturating_add-self-inside.result,
+      c.self.invariant.3,
     )
