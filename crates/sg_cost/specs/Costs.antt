@@ -1,5 +1,5 @@
 -- What replayed calls a stop can cost, and how many there were.
-use Rattle.std.specs.Prelude.{ℕ, ◌≡◌, ◌+◌, ◌*◌, ◌^◌, ◌≤◌, ◌==◌, true, ◌&&◌, ◌||◌, not, if◌then◌else◌, max, List, [], ◌∷◌, ◌++◌, Some, filter, length, map}
+use Rattle.std.specs.Prelude.{ℕ, ◌≡◌, ◌+◌, ◌*◌, ◌^◌, ◌≤◌, ◌==◌, true, ◌||◌, if◌then◌else◌, max, List, [], ◌∷◌, ◌++◌, Some, filter, length, map}
 use Rattle.std.specs.declared.option.Option.{Option}
 use Rattle.std.specs.Option.{option_map_or}
 use Rattle.std.specs.List.{list_any, range_with_len}
@@ -18,7 +18,7 @@ use Rattle.sg_facts.specs.Track.{row_at}
 use Rattle.sg_facts.specs.declared.entry.Entry.{Entry}
 use Rattle.sg_facts.specs.declared.row.Row.{Row}
 use Rattle.sg_facts.specs.declared.tables.WalkLine.{WalkLine}
-use Rattle.sg_report.specs.sg_hist.Reading.{is_by_guard, is_item_of, items_of, walk_in}
+use Rattle.sg_report.specs.sg_hist.Reading.{items_of, stands_among, walk_in}
 use Rattle.sg_report.specs.Report.{replays_for}
 
 -- ---- histories
@@ -51,8 +51,7 @@ cost_of i walks rows call = all_lengths walks (filter (is_wanted i rows call) ro
 -- the object at which the first of some boots opens: that of the entries, in the history's order, whose items stand in the boots before, and
 -- in none of those after them
 abbrev pub opening : Facts → List Entry → List Boot → List Boot → Object
-opening facts history before boots = object_of facts
-    (filter (λ e. not (is_by_guard e.reply) && list_any (is_item_of e) (items_of before) && not (list_any (is_item_of e) (items_of boots))) history)
+opening facts history before boots = object_of facts (filter (stands_among (items_of before) (items_of boots)) history)
 
 -- the replayed calls of a boot, which stands between others, are few
 pub record AreFew (i : Declared) (walks : List WalkLine) (history : List Entry) (before : List Boot) (b : Boot) (later : List Boot) : Type 0 where

@@ -90,9 +90,13 @@ item_of run e = find (λ p. is_item_of e p.item) (reverse (places_of run))
 abbrev pub is_by_guard : Reply → Bool
 is_by_guard reply = elim reply [ Ok good ↦ false | Refused code ↦ is_guards code ]
 
+-- whether an entry's item stands among some items, and none of its call among those after them
+abbrev pub stands_among : List Item → List Item → Entry → Bool
+stands_among items later e = not (is_by_guard e.reply) && list_any (is_item_of e) items && not (list_any (is_item_of e) later)
+
 -- whether an entry's item stands before a place
 abbrev pub stands_before : Position → Entry → Bool
-stands_before p e = not (is_by_guard e.reply) && list_any (is_item_of e) (p.older ++ p.front) && not (list_any (is_item_of e) (p.item ∷ items_after p))
+stands_before p e = stands_among (p.older ++ p.front) (p.item ∷ items_after p) e
 
 -- the fault-free object that the entries make whose items stand before a place
 abbrev pub object_before : Facts → List Entry → Position → Object

@@ -25,7 +25,7 @@ use Rattle.sg_facts.specs.Interface.{Declared}
 use Rattle.sg_facts.specs.Legal.{Table}
 use Rattle.sg_facts.specs.Loads.{load_item}
 use Rattle.sg_facts.specs.Needs.{is_needed, needs, wanted}
-use Rattle.sg_facts.specs.Object.{Object, file_at, patch_of}
+use Rattle.sg_facts.specs.Object.{Object, file_at, object_of, patch_of}
 use Rattle.sg_facts.specs.Trace.{Boot, Run}
 use Rattle.sg_facts.specs.Track.{row_at}
 use Rattle.sg_facts.specs.Walks.{replayed_call}
@@ -137,36 +137,36 @@ pub record IsNextCall (facts : Facts) (walks : List WalkLine) (history : List En
 
 -- ---- on demand
 
--- whether a client's entries that were answered before a place have smaller numbers than this: the item of such an entry stands before the
--- place, or that of a visible one after it in the history does, which was answered with its item
-abbrev pub is_above_earlier : Facts → Position → ℕ → ℕ → List Entry → Bool
-is_above_earlier facts p client seq [] = true
-is_above_earlier facts p client seq (e ∷ later) =
-    (not ((e.call.client == client) && (stands_before p e || list_any (λ x. is_visible facts x.call.fun && stands_before p x) later)) || nat_lt e.call.seq seq) && is_above_earlier facts p client seq later
+-- whether a client's entries that were answered before a place have smaller numbers than this, where a test tells whose items stand before
+-- the place: the item of such an entry does, or that of a visible one after it in the history, which was answered with its item
+abbrev pub is_above_earlier : Facts → (Entry → Bool) → ℕ → ℕ → List Entry → Bool
+is_above_earlier facts before client seq [] = true
+is_above_earlier facts before client seq (e ∷ later) =
+    (not ((e.call.client == client) && (before e || list_any (λ x. is_visible facts x.call.fun && before x) later)) || nat_lt e.call.seq seq) && is_above_earlier facts before client seq later
 
 -- whether the item of an entry doesn't stand before a place, so that it was answered later
-abbrev pub is_answered_later : Position → Entry → Bool
-is_answered_later p e = not (is_by_guard e.reply || stands_before p e)
+abbrev pub is_answered_later : (Entry → Bool) → Entry → Bool
+is_answered_later before e = not (is_by_guard e.reply || before e)
 
 -- whether from the first entry on that was answered later than a place, or where one was before, a client's entries have no smaller
 -- numbers than this
-abbrev pub is_first_of_later : Position → ℕ → ℕ → Bool → List Entry → Bool
-is_first_of_later p client seq late [] = true
-is_first_of_later p client seq late (e ∷ history) =
-    (not ((e.call.client == client) && (late || is_answered_later p e)) || nat_le seq e.call.seq)
-    && is_first_of_later p client seq (late || is_answered_later p e) history
+abbrev pub is_first_of_later : (Entry → Bool) → ℕ → ℕ → Bool → List Entry → Bool
+is_first_of_later before client seq late [] = true
+is_first_of_later before client seq late (e ∷ history) =
+    (not ((e.call.client == client) && (late || is_answered_later before e)) || nat_le seq e.call.seq)
+    && is_first_of_later before client seq (late || is_answered_later before e) history
 
--- a client's call that is under way at a place: its number is above those that were answered before, and not above those that are
--- answered later. A refusal by the guard has no item: its time is that of the entries around it
-pub record IsUnderWay (facts : Facts) (history : List Entry) (unanswered : List Call) (p : Position) (client : ℕ) (call : Call) : Type 0 where
+-- a client's call that is under way at a place, where a test tells whose items stand before it: its number is above those that were answered
+-- before, and not above those that are answered later. A refusal by the guard has no item: its time is that of the entries around it
+pub record IsUnderWay (facts : Facts) (history : List Entry) (unanswered : List Call) (before : Entry → Bool) (client : ℕ) (call : Call) : Type 0 where
   pub its : IsCallOf history unanswered client call
-  pub above : is_above_earlier facts p client call.seq history ≡ true
-  pub first : is_first_of_later p client call.seq false history ≡ true
+  pub above : is_above_earlier facts before client call.seq history ≡ true
+  pub first : is_first_of_later before client call.seq false history ≡ true
 
--- a client's call is admitted at a place: it is under way there, and the guard lets it pass
-pub record IsAdmitted (i : Declared) (history : List Entry) (unanswered : List Call) (p : Position) (client : ℕ) (call : Call) : Type 0 where
-  pub under_way : IsUnderWay i.facts history unanswered p client call
-  pub guarded : guard i (object_before i.facts history p) call ≡ None
+-- a client's call is admitted at a place: it is under way there, and the guard lets it pass at the object of the entries before the place
+pub record IsAdmitted (i : Declared) (history : List Entry) (unanswered : List Call) (before : Entry → Bool) (client : ℕ) (call : Call) : Type 0 where
+  pub under_way : IsUnderWay i.facts history unanswered before client call
+  pub guarded : guard i (object_of i.facts (filter before history)) call ≡ None
 
 -- the item of a load of a file, for a client
 abbrev pub item_of_load : ℕ → ℕ → List ℕ → List ℕ → Item
@@ -175,13 +175,13 @@ item_of_load client points key bytes = load_item (record { client = client; poin
 -- what is rebuilt is wanted for an admitted call of the client in whose turn it is rebuilt, and is the least that isn't whole
 pub record IsRebuiltFor (i : Declared) (walks : List WalkLine) (history : List Entry) (unanswered : List Call) (p : Position) (client id : ℕ) : Type 0 where
   pub call : Call
-  pub admitted : IsAdmitted i history unanswered p client call
+  pub admitted : IsAdmitted i history unanswered (stands_before p) client call
   pub least : find (λ id. not (is_whole_at i.facts walks history p id)) (wanted i (object_before i.facts history p) call).ids ≡ Some id
 
 -- what is loaded is needed, once all wanted rows are whole, isn't empty, and isn't in this boot yet; and the item is just its load
 pub record IsLoadedFor (i : Declared) (walks : List WalkLine) (history : List Entry) (unanswered : List Call) (p : Position) (client : ℕ) (key : List ℕ) : Type 0 where
   pub call : Call
-  pub admitted : IsAdmitted i history unanswered p client call
+  pub admitted : IsAdmitted i history unanswered (stands_before p) client call
   pub rows : list_all (is_whole_at i.facts walks history p) (wanted i (object_before i.facts history p) call).ids ≡ true
   pub file : (needs i.facts (object_before i.facts history p) call).file ≡ Some key
   -- no item brought the file into this boot: no load of it, and no write that was committed
@@ -317,7 +317,7 @@ pub record IsRecovered (s : Stubs) (history : List Entry) (run : Run) (unanswere
   pub on_demand : Each (λ p. elim p.item.tag [
     | Walk id k client ↦ IsRebuiltFor s.interface s.walks history unanswered p client id
     | Load key client ↦ IsLoadedFor s.interface s.walks history unanswered p client key
-    | Client client seq ↦ IsAdmitted s.interface history unanswered p client p.item.shown
+    | Client client seq ↦ IsAdmitted s.interface history unanswered (stands_before p) client p.item.shown
   ])
       (places_of run)
   -- no call reaches the service where what it needs is missing there, or isn't as it is tracked

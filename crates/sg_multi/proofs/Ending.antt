@@ -15,6 +15,7 @@ use Rattle.sg_facts.specs.sg_base.declared.call.Call.{Call}
 use Rattle.sg_facts.proofs.Legality.{IsLegal-from}
 use Rattle.sg_facts.proofs.Replaying.Found.{other_test, same_test}
 use Rattle.sg_multi.proofs.sg_sim.sg_play.Ends.{IsOver, over_by}
+use Rattle.sg_multi.proofs.sg_sim.sg_play.Striking.Striking.{striking_over}
 use Rattle.sg_multi.proofs.sg_sim.sg_play.Waking.Waking.{waking_woken}
 use Rattle.sg_multi.proofs.sg_sim.sg_play.sg_world.sg_world_laws.sg_recovery_laws.Lists.{each_append}
 use Rattle.sg_multi.specs.Members.{kind_in, setting_by, setting_in, view_in, world_in}
@@ -29,7 +30,7 @@ use Rattle.sg_multi.specs.sg_sim.sg_plain.Playing.Turns.{NobodyGoes, may_go}
 use Rattle.sg_multi.specs.sg_sim.sg_plain.Promises.{AreWoken}
 use Rattle.sg_multi.specs.sg_sim.sg_play.Recovering.{RecoversSoFar}
 use Rattle.sg_multi.specs.sg_sim.sg_play.sg_hist.Clients.{AreNumbered}
-use Rattle.sg_multi.specs.sg_sim.sg_play.sg_hist.Ending.{HasRecovered}
+use Rattle.sg_multi.specs.sg_sim.sg_play.sg_hist.Ending.{AreAsked, HasRecovered}
 use Rattle.sg_multi.specs.sg_sim.sg_play.sg_hist.Inside.Parts.{IsStillBlocked, waiting_in}
 use Rattle.sg_multi.specs.sg_sim.sg_play.sg_hist.Recovered.{IsRecovered, struck_in, waiting}
 use Rattle.sg_multi.specs.sg_sim.sg_play.sg_hist.declared.ended.End.TheVariants.{Done as done, Blocked as blocked}
@@ -319,7 +320,7 @@ module _ (members : List Member) (script : MultiScript) (given : List (List ℕ)
             recovered = subst (IsRecovered (stubs_in x) w.history w.run) left_is recovered;
             blocked = still_blocked;
             used = over.used;
-            quiet = over.quiet;
+            asked = subst (λ u. AreAsked z.iface w.history u [] w.run.boots) left_is (striking_over z w over.quiet keeps.striking);
             lost = over.lost;
           })));
       stopped = subst (λ r. struck_in r ≡ filter (λ stop. nat_le stop r.points) stops) (sym its.1) (struck ∙ ap (up_to w.run.points) plan ∙ listed 0 stops w.run.points ascend);

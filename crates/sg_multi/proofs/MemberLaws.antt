@@ -15,6 +15,7 @@ use Rattle.sg_facts.specs.Object.{empty_object}
 use Rattle.sg_multi.proofs.sg_sim.Beginning.{playing_new}
 use Rattle.sg_multi.proofs.sg_sim.sg_play.Offering.{next_here, next_is, offered_playing}
 use Rattle.sg_multi.proofs.sg_sim.sg_play.Turning.{stepped_handed, stepped_quiet}
+use Rattle.sg_multi.proofs.sg_sim.sg_play.Striking.Striking.{striking_new, striking_offer, striking_stepped}
 use Rattle.sg_multi.proofs.sg_sim.sg_play.Waking.Shapes.{call_is_next, call_is_own}
 use Rattle.sg_multi.proofs.sg_sim.sg_play.Waking.Turned.{stepped}
 use Rattle.sg_multi.proofs.sg_sim.sg_play.Waking.Waking.{waking_new, waking_offer}
@@ -31,6 +32,7 @@ use Rattle.sg_multi.specs.sg_sim.sg_play.NextCall.{IsNextCall}
 use Rattle.sg_multi.specs.sg_sim.sg_play.Recovering.{RecoversSoFar}
 use Rattle.sg_multi.specs.sg_sim.sg_play.Turning.{with_call}
 use Rattle.sg_multi.specs.sg_sim.sg_plain.Answering.{no_query_waits}
+use Rattle.sg_multi.specs.sg_sim.sg_play.Striking.Striking.{IsStriking}
 use Rattle.sg_multi.specs.sg_sim.sg_play.Waking.Waking.{IsWaking}
 use Rattle.sg_multi.specs.sg_sim.sg_play.sg_hist.Clients.{AreNumbered, calls_of}
 use Rattle.sg_multi.specs.sg_sim.sg_play.sg_hist.Inside.Reads.{desc_of}
@@ -65,6 +67,7 @@ member_new z w n none_waits some within new = subst (KeepsMember z) (sym new) (r
   playing = subst (λ m. IsPlaying z.iface (empty_script n) [] (replicate m no_seat) (replicate m [])) (empty_most n some) (playing_new z.iface (empty_script n) (empty_playable z.iface n within));
   numbered = tt;
   waking = waking_new z (new_world (replicate n no_seat)) n refl;
+  striking = striking_new z (new_world (replicate n no_seat)) n refl;
   none_waits = none_waits;
   none_withdrawn = refl;
 })
@@ -72,11 +75,11 @@ member_new z w n none_waits some within new = subst (KeepsMember z) (sym new) (r
 -- ---- an event is counted, and a step wanted memory
 
 pub member_happened : (z : Setting) (w : WorldView) → KeepsMember z w → KeepsMember z (happened w)
-member_happened z w is = record { script = is.script; given = is.given; no_setup = is.no_setup; all = is.all; playing = is.playing; numbered = is.numbered; waking = is.waking; none_waits = is.none_waits; none_withdrawn = is.none_withdrawn }
+member_happened z w is = record { script = is.script; given = is.given; no_setup = is.no_setup; all = is.all; playing = is.playing; numbered = is.numbered; waking = is.waking; striking = is.striking; none_waits = is.none_waits; none_withdrawn = is.none_withdrawn }
 
 pub member_wanted : (z : Setting) (w : WorldView) (c : ℕ) (now : WorldView) → LackedMemory z w c now → KeepsMember z w → KeepsMember z now
 member_wanted z w c now wants is = subst (KeepsMember z) (sym wants.counted)
-    (record { script = is.script; given = is.given; no_setup = is.no_setup; all = is.all; playing = is.playing; numbered = is.numbered; waking = is.waking; none_waits = is.none_waits; none_withdrawn = is.none_withdrawn })
+    (record { script = is.script; given = is.given; no_setup = is.no_setup; all = is.all; playing = is.playing; numbered = is.numbered; waking = is.waking; striking = is.striking; none_waits = is.none_waits; none_withdrawn = is.none_withdrawn })
 
 -- ---- a step
 
@@ -87,6 +90,9 @@ module _ (z : Setting) (w : WorldView) (c : ℕ) (first : 1 ≤ c) (last : c ≤
   waking_so : (did : Did) (now : WorldView) → RecoversSoFar z now → HasStepped z w c did now → IsWaking z now
   waking_so did now behind steps =
       stepped z is.script w is.given c first last is.playing before is.waking did steps.later now (subst (λ (x : WorldView). LegalFrom z.iface z.ask empty_object x.history) steps.counted behind.legal) steps.steps steps.counted
+
+  striking_so : (did : Did) (now : WorldView) → HasStepped z w c did now → IsStriking z now
+  striking_so did now steps = striking_stepped z is.script w is.given c first last is.playing before is.none_withdrawn is.none_waits is.waking is.striking did steps.later now steps.steps steps.counted
 
   caller : IsCaller z.iface.facts is.script w.history c (seat_of w c)
   caller = is.playing.callers.each c first last
@@ -112,6 +118,7 @@ module _ (z : Setting) (w : WorldView) (c : ℕ) (first : 1 ≤ c) (last : c ≤
     playing = playing;
     numbered = numbered;
     waking = waking_so did now behind steps;
+    striking = striking_so did now steps;
     none_waits = is.none_waits;
     none_withdrawn = withdrawn_stepped z w c did now steps ∙ is.none_withdrawn;
   }
@@ -183,6 +190,8 @@ module _ (z : Setting) (w : WorldView) (c : ℕ) (first : 1 ≤ c) (last : c ≤
         playing = offered_playing z.iface later w.history w.seats is.given c first last playing_later free call (next.next w.history refl) (no_turn later w.seats c is.no_setup);
         waking = subst (λ o. IsWaking z (with_call w c o)) (next.next w.history refl)
             (subst (λ b. IsWaking z (cond b (with_call w c (call_after z.iface.facts later w.history c (length (calls_of w.history c)))) w)) free (waking_offer z later w is.given c playing_later first last is.waking));
+        striking = subst (λ o. IsStriking z (with_call w c o)) (next.next w.history refl)
+            (subst (λ b. IsStriking z (cond b (with_call w c (call_after z.iface.facts later w.history c (length (calls_of w.history c)))) w)) free (striking_offer z later w c first last is.striking));
         numbered = is.numbered;
         none_waits = is.none_waits;
         none_withdrawn = is.none_withdrawn;

@@ -10,6 +10,7 @@ use Rattle.sg_facts.specs.Object.{empty_object}
 use Rattle.sg_plain.specs.sg_hist.Clients.{calls_of}
 use Rattle.sg_plain.specs.sg_hist.Inside.Reads.{desc_of}
 use Rattle.sg_plain.specs.sg_hist.Reading.{items_of}
+use Rattle.sg_plain.specs.Answering.{no_query_waits}
 use Rattle.sg_plain.specs.Calls.{call_after}
 use Rattle.sg_plain.specs.Playing.Callers.{StepsOn, handed, is_receipted, is_setting_up}
 use Rattle.sg_plain.specs.Playing.Given.{HaveGiven}
@@ -25,12 +26,14 @@ use Rattle.sg_plain.proofs.sg_clients.Lines.{same_or_other, seat_here, seat_ther
 use Rattle.sg_play.proofs.Offering.{offered_playing, offered_setup}
 use Rattle.sg_play.proofs.SettingUp.{setting_up_step, setting_up_still}
 use Rattle.sg_play.proofs.Stepping.{handed_step, quiet_step}
+use Rattle.sg_play.proofs.Striking.Striking.{striking_left, striking_offer, striking_stepped}
 use Rattle.sg_play.proofs.Turning.{some_last, stepped_handed, stepped_left, stepped_quiet}
 use Rattle.sg_play.proofs.Waking.Turned.{stepped, waking_left}
 use Rattle.sg_play.proofs.Waking.Waking.{waking_offer}
 use Rattle.sg_play.specs.GoingOn.{MayGoOn}
 use Rattle.sg_play.specs.Recovering.{RecoversSoFar}
 use Rattle.sg_play.specs.SettingUp.{IsSettingUpFirst}
+use Rattle.sg_play.specs.Striking.Striking.{IsStriking}
 use Rattle.sg_play.specs.Turning.{with_call}
 use Rattle.sg_play.specs.Waking.Waking.{IsWaking}
 use Rattle.sg_world.specs.declared.did.Did.{Did}
@@ -70,8 +73,8 @@ pub playing_of : (z : Setting) (script : Script) (w : WorldView) → MayGoOn z s
 playing_of z script w is given gave = record { playable = is.playable; clients = is.clients; callers = is.callers; first = is.first; have_given = gave }
 
 pub goes_of : (z : Setting) (script : Script) (w : WorldView) (given : List (List ℕ)) → IsPlaying z.iface script w.history w.seats given → is_setting_up script w.seats ≡ false → IsSettingUpFirst script w → IsWaking z w
-    → MayGoOn z script w
-goes_of z script w given playing settled setting_up waking = record {
+    → IsStriking z w → MayGoOn z script w
+goes_of z script w given playing settled setting_up waking striking = record {
   playable = playing.playable;
   clients = playing.clients;
   callers = playing.callers;
@@ -79,6 +82,7 @@ goes_of z script w given playing settled setting_up waking = record {
   settled = settled;
   setting_up = setting_up;
   waking = waking;
+  striking = striking;
 }
 
 past : (a b n : ℕ) → a ≤ b → nat_lt a n ≡ false → nat_lt b n ≡ false
@@ -121,6 +125,7 @@ goes_happened z script w is = record {
   settled = is.settled;
   setting_up = record { front = is.setting_up.front; all = is.setting_up.all };
   waking = is.waking;
+  striking = is.striking;
 }
 
 -- a step that wanted memory
@@ -133,6 +138,7 @@ goes_wanted z script w c now is wants = subst (MayGoOn z script) (sym wants.coun
   settled = is.settled;
   setting_up = record { front = is.setting_up.front; all = is.setting_up.all };
   waking = is.waking;
+  striking = is.striking;
 })
 
 module _ (z : Setting) (script : Script) (w : WorldView) (c : ℕ) (first : 1 ≤ c) (last : c ≤ length w.seats) (is : MayGoOn z script w) where
@@ -152,15 +158,21 @@ module _ (z : Setting) (script : Script) (w : WorldView) (c : ℕ) (first : 1 �
         subst (IsWaking z) (ap (λ b. cond b (with_call w c (call_after z.iface.facts script w.history c (length (calls_of w.history c)))) w) free ∙ ap (with_call w c) next)
         (waking_offer z script w given c playing first last is.waking)
 
+    striking_then : IsStriking z (happened (offered w c call))
+    striking_then =
+        subst (IsStriking z) (ap (λ b. cond b (with_call w c (call_after z.iface.facts script w.history c (length (calls_of w.history c)))) w) free ∙ ap (with_call w c) next)
+        (striking_offer z script w c first last is.striking)
+
     pub goes_offered : MayGoOn z script (happened (offered w c call))
     goes_offered =
         let done : is_setting_up script (happened (offered w c call)).seats ≡ false
         = offered_setup z.iface script w.history w.seats given c first last playing free call next ∙ is.settled in
         goes_of z script (happened (offered w c call)) given (offered_playing z.iface script w.history w.seats given c first last playing free call next over) done
-        (setting_up_still script w (happened (offered w c call)) (λ off. done) is.setting_up refl) waking_then
+        (setting_up_still script w (happened (offered w c call)) (λ off. done) is.setting_up refl) waking_then striking_then
 
   -- a client makes a step
-  module _ (did : Did) (now : WorldView) (before : RecoversSoFar z w) (legal : LegalFrom z.iface z.ask empty_object now.history) (steps : HasStepped z w c did now) where
+  module _ (none : w.withdrawn ≡ []) (queries : no_query_waits z.iface.facts ≡ true) (did : Did) (now : WorldView) (before : RecoversSoFar z w) (legal : LegalFrom z.iface z.ask empty_object now.history)
+      (steps : HasStepped z w c did now) where
     its : is_offered (seat_of w c).phase ≡ true → (seat_of w c).call.client ≡ c
     its offers = its_client z.iface.facts script w.history c (length (calls_of w.history c)) (seat_of w c).call ((is.callers.each c first last).next offers)
 
@@ -173,19 +185,22 @@ module _ (z : Setting) (script : Script) (w : WorldView) (c : ℕ) (first : 1 �
     waking_stepped = stepped z script w given c first last playing before is.waking did steps.later now
         (subst (LegalFrom z.iface z.ask empty_object) (ap (λ (x : WorldView). x.history) steps.counted) legal) steps.steps steps.counted
 
+    striking_now : IsStriking z now
+    striking_now = striking_stepped z script w given c first last playing before none queries is.waking is.striking did steps.later now steps.steps steps.counted
+
     goes_by : StepsOn w.history w.seats c steps.later.history steps.later.seats → (later : List (List ℕ)) → IsPlaying z.iface script now.history now.seats later → MayGoOn z script now
     goes_by on later is_playing =
         let settled : is_setting_up script now.seats ≡ false
         = ap (λ (x : WorldView). is_setting_up script x.seats) steps.counted ∙ still_done script w.history steps.later.history w.seats steps.later.seats c on is.settled in
         goes_of z script now later is_playing settled
-        (setting_up_step z script w given c first last playing did now over (λ off. settled) is.setting_up steps) waking_stepped
+        (setting_up_step z script w given c first last playing did now over (λ off. settled) is.setting_up steps) waking_stepped striking_now
 
     pub goes_stepped : AnswersLast now c did → MayGoOn z script now
     goes_stepped answers = by did steps answers refl
       where
         quiet : (d : Did) → d ≡ did → ((reply : Reply) → d ≡ Answered reply → ⊥) → MayGoOn z script now
-        quiet d same none =
-            let none_here : (reply : Reply) → did ≡ Answered reply → ⊥ = λ reply answered. none reply (same ∙ answered) in
+        quiet d same no_reply =
+            let none_here : (reply : Reply) → did ≡ Answered reply → ⊥ = λ reply answered. no_reply reply (same ∙ answered) in
             goes_by (quiet_step z w c first last its number did steps.later none_here steps.steps).on given (stepped_quiet z script w given c first last over playing did now none_here steps)
 
         by : (d : Did) → HasStepped z w c d now → AnswersLast now c d → d ≡ did → MayGoOn z script now
@@ -208,7 +223,7 @@ module _ (z : Setting) (script : Script) (w : WorldView) (c : ℕ) (first : 1 �
                 let settled : is_setting_up script now.seats ≡ false
                 = ap (λ (x : WorldView). is_setting_up script x.seats) s.counted ∙ still_done script w.history s.later.history w.seats s.later.seats c on is.settled in
                 goes_of z script now _ is_then settled
-                (setting_up_step z script w given c first last playing did now over (λ off. settled) is.setting_up steps) waking_stepped
+                (setting_up_step z script w given c first last playing did now over (λ off. settled) is.setting_up steps) waking_stepped striking_now
 
   -- a client that has no call under way leaves
   pub goes_left : IsFree (seat_of w c).phase → MayGoOn z script (happened (with_leave w c))
@@ -228,7 +243,7 @@ module _ (z : Setting) (script : Script) (w : WorldView) (c : ℕ) (first : 1 �
           = ap (λ (x : WorldView). is_setting_up script x.seats) is_now ∙ still_set script w.seats c new first last same is.settled in
           goes_of z script (happened (with_leave w c)) given (stepped_left z script w given c first last at (happened (with_leave w c)) refl playing) settled
           (setting_up_still script w (happened (with_leave w c)) (λ off. settled) is.setting_up (ap (λ (x : WorldView). items_of x.run.boots) is_now))
-          (waking_left z w c first last at is.waking)
+          (waking_left z w c first last at is.waking) (striking_left z w c first last at is.striking)
 
       by : (p : Phase) → (seat_of w c).phase ≡ p → IsFree p → MayGoOn z script (happened (with_leave w c))
       by Idle at free = idle at

@@ -6,6 +6,7 @@ pub mod Given
 pub mod GoingOn
 pub mod Offering
 pub mod SettingUp
+pub mod Striking
 pub mod Stepping
 pub mod Turning
 pub mod Waking

@@ -4,6 +4,7 @@ pub mod GoingOn
 pub mod NextCall
 pub mod Recovering
 pub mod SettingUp
+pub mod Striking
 pub mod Turning
 pub mod Waking
 pub use Rattle.sg_plain.specs.sg_hist

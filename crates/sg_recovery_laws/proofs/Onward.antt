@@ -324,10 +324,10 @@ made_stays s h run u u' kept r = record {
   tracked_state = r.tracked_state;
 }
   where
-    under : (p : Position) (client : ℕ) (call : Call) → IsUnderWay s.interface.facts h u p client call → IsUnderWay s.interface.facts h u' p client call
+    under : (p : Position) (client : ℕ) (call : Call) → IsUnderWay s.interface.facts h u (stands_before p) client call → IsUnderWay s.interface.facts h u' (stands_before p) client call
     under p client call w = record { its = record { its = w.its.its; made = kept call w.its.made }; above = w.above; first = w.first }
 
-    admitted : (p : Position) (client : ℕ) (call : Call) → IsAdmitted s.interface h u p client call → IsAdmitted s.interface h u' p client call
+    admitted : (p : Position) (client : ℕ) (call : Call) → IsAdmitted s.interface h u (stands_before p) client call → IsAdmitted s.interface h u' (stands_before p) client call
     admitted p client call a = record { under_way = under p client call a.under_way; guarded = a.guarded }
 
     demanded : (p : Position) → IsDemanded s.interface s.walks h u p p.item.tag → IsDemanded s.interface s.walks h u' p p.item.tag

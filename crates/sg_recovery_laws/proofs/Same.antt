@@ -18,7 +18,7 @@ use Rattle.sg_facts.specs.Needs.{is_needed, needs, wanted}
 use Rattle.sg_facts.specs.Object.{Object, file_at, object_of}
 use Rattle.sg_facts.specs.Track.{row_at}
 use Rattle.sg_hist.specs.Growing.{AreGrown, IsGrown}
-use Rattle.sg_hist.specs.Reading.{Position, is_made, is_ok, is_whole_at, names_at, object_before, value_at, walk_in}
+use Rattle.sg_hist.specs.Reading.{Position, is_made, is_ok, is_whole_at, names_at, object_before, stands_before, value_at, walk_in}
 use Rattle.sg_hist.specs.Inside.Reads.{entries_before, ends_walk, has_length, is_rebuilt_at}
 use Rattle.sg_hist.specs.Recovered.{IsAdmitted, IsTracked, IsUnderWay, item_of_load}
 use Rattle.sg_hist.specs.Inside.Parts.{IsAlikeTo, IsCallOfRow, IsDemanded, IsTrackedAt, IsWalked}
@@ -57,7 +57,7 @@ pub record IsSame (facts : Facts) (walks : List WalkLine) (h : List Entry) (u : 
   pub names : names_at facts h' p.front ≡ names_at facts h p.front
   pub made : (id : ℕ) → list_any (is_made facts h' id) p.front ≡ list_any (is_made facts h id) p.front
   pub whole : (id : ℕ) → is_whole_at facts walks h' (again p r n) id ≡ is_whole_at facts walks h p id
-  pub under_way : (client : ℕ) (call : Call) → IsUnderWay facts h u p client call → IsUnderWay facts h' u' (again p r n) client call
+  pub under_way : (client : ℕ) (call : Call) → IsUnderWay facts h u (stands_before p) client call → IsUnderWay facts h' u' (stands_before (again p r n)) client call
 
 pub walked_same : (facts : Facts) (walks : List WalkLine) (h : List Entry) (u : List Call) (h' : List Entry) (u' : List Call) (p : Position) (r n : List Item)
     → IsSame facts walks h u h' u' p r n → IsWalked facts walks h p p.item.tag → IsWalked facts walks h' (again p r n) p.item.tag
@@ -84,7 +84,7 @@ pub demanded_same : (i : Declared) (walks : List WalkLine) (h : List Entry) (u :
     → IsSame i.facts walks h u h' u' p r n → IsDemanded i walks h u p p.item.tag → IsDemanded i walks h' u' (again p r n) p.item.tag
 demanded_same i walks h u h' u' p r n same d = by p.item.tag d
   where
-    admitted : (client : ℕ) (call : Call) → IsAdmitted i h u p client call → IsAdmitted i h' u' (again p r n) client call
+    admitted : (client : ℕ) (call : Call) → IsAdmitted i h u (stands_before p) client call → IsAdmitted i h' u' (stands_before (again p r n)) client call
     admitted client call a = record {
       under_way = same.under_way client call a.under_way;
       guarded = ap (λ o. guard i o call) same.object ∙ a.guarded;

@@ -49,72 +49,73 @@ when_own true true A own = own refl
 when_own true false A own = tt
 when_own false c A own = tt
 
-any_each : (facts : Facts) (p q : Position) (h : List Entry) → Each (λ e. stands_before q e ≡ stands_before p e) h
-    → list_any (λ x. is_visible facts x.call.fun && stands_before q x) h ≡ list_any (λ x. is_visible facts x.call.fun && stands_before p x) h
-any_each facts p q [] same = refl
-any_each facts p q (e ∷ h) same =
-    ap (λ b. (is_visible facts e.call.fun && b) || list_any (λ x. is_visible facts x.call.fun && stands_before q x) h) same.0
-    ∙ ap (λ b. (is_visible facts e.call.fun && stands_before p e) || b) (any_each facts p q h same.1)
+any_each : (facts : Facts) (f g : Entry → Bool) (h : List Entry) → Each (λ e. g e ≡ f e) h
+    → list_any (λ x. is_visible facts x.call.fun && g x) h ≡ list_any (λ x. is_visible facts x.call.fun && f x) h
+any_each facts f g [] same = refl
+any_each facts f g (e ∷ h) same =
+    ap (λ b. (is_visible facts e.call.fun && b) || list_any (λ x. is_visible facts x.call.fun && g x) h) same.0
+    ∙ ap (λ b. (is_visible facts e.call.fun && f e) || b) (any_each facts f g h same.1)
 
-below_each : (facts : Facts) (p q : Position) (client seq : ℕ) (h : List Entry) → Each (λ e. stands_before q e ≡ stands_before p e) h
-    → AreBelow facts p client seq h → AreBelow facts q client seq h
-below_each facts p q client seq [] same are = tt
-below_each facts p q client seq (e ∷ h) same are = (
+below_each : (facts : Facts) (f g : Entry → Bool) (client seq : ℕ) (h : List Entry) → Each (λ e. g e ≡ f e) h → AreBelow facts f client seq h → AreBelow facts g client seq h
+below_each facts f g client seq [] same are = tt
+below_each facts f g client seq (e ∷ h) same are = (
   subst (λ b. When ((e.call.client == client) && b) (e.call.seq < seq))
-      (sym (ap (λ b. b || list_any (λ x. is_visible facts x.call.fun && stands_before q x) h) same.0 ∙ ap (λ b. stands_before p e || b) (any_each facts p q h same.1))) are.0,
-  below_each facts p q client seq h same.1 are.1,
+      (sym (ap (λ b. b || list_any (λ x. is_visible facts x.call.fun && g x) h) same.0 ∙ ap (λ b. f e || b) (any_each facts f g h same.1))) are.0,
+  below_each facts f g client seq h same.1 are.1,
 )
 
-from_each : (p q : Position) (client seq : ℕ) (late : Bool) (h : List Entry) → Each (λ e. stands_before q e ≡ stands_before p e) h
-    → AreFrom p client seq late h → AreFrom q client seq late h
-from_each p q client seq late [] same are = tt
-from_each p q client seq late (e ∷ h) same are =
-    let one : (late || is_answered_later q e) ≡ (late || is_answered_later p e) = ap (λ b. late || not (is_by_guard e.reply || b)) same.0 in (
+from_each : (f g : Entry → Bool) (client seq : ℕ) (late : Bool) (h : List Entry) → Each (λ e. g e ≡ f e) h → AreFrom f client seq late h → AreFrom g client seq late h
+from_each f g client seq late [] same are = tt
+from_each f g client seq late (e ∷ h) same are =
+    let one : (late || is_answered_later g e) ≡ (late || is_answered_later f e) = ap (λ b. late || not (is_by_guard e.reply || b)) same.0 in (
       subst (λ b. When ((e.call.client == client) && b) (seq ≤ e.call.seq)) (sym one) are.0,
-      subst (λ b. AreFrom q client seq b h) (sym one) (from_each p q client seq (late || is_answered_later p e) h same.1 are.1),
+      subst (λ b. AreFrom g client seq b h) (sym one) (from_each f g client seq (late || is_answered_later f e) h same.1 are.1),
     )
 
+-- where the same entries stand before the place, and the calls that were made are still made
+pub under_each : (facts : Facts) (f g : Entry → Bool) (h : List Entry) (u u' : List Call) → Each (λ e. g e ≡ f e) h → AreKept h u h u'
+    → (client : ℕ) (call : Call) → IsUnderWay facts h u f client call → IsUnderWay facts h u' g client call
+under_each facts f g h u u' same kept client call w = record {
+  its = record { its = w.its.its; made = kept call w.its.made };
+  above = of_below facts g client call.seq h (below_each facts f g client call.seq h same (below_of facts f client call.seq h w.above));
+  first = of_from g client call.seq false h (from_each f g client call.seq false h same (from_of f client call.seq false h w.first));
+}
+
 under_noted : (facts : Facts) (item : Item) (p q : Position) (h : List Entry) (u u' : List Call) → IsOfNoEntry item h → IsGrown item p q → AreKept h u h u'
-    → (client : ℕ) (call : Call) → IsUnderWay facts h u p client call → IsUnderWay facts h u' q client call
-under_noted facts item p q h u u' none g kept client call w =
-    let same = stands_each item p q h none g in
-    record {
-      its = record { its = w.its.its; made = kept call w.its.made };
-      above = of_below facts q client call.seq h (below_each facts p q client call.seq h same (below_of facts p client call.seq h w.above));
-      first = of_from q client call.seq false h (from_each p q client call.seq false h same (from_of p client call.seq false h w.first));
-    }
+    → (client : ℕ) (call : Call) → IsUnderWay facts h u (stands_before p) client call → IsUnderWay facts h u' (stands_before q) client call
+under_noted facts item p q h u u' none g kept = under_each facts (stands_before p) (stands_before q) h u u' (stands_each item p q h none g) kept
 
 -- an entry more that doesn't stand before the place
-pub any_push : (facts : Facts) (q : Position) (h : List Entry) (e : Entry) → stands_before q e ≡ false
-    → list_any (λ x. is_visible facts x.call.fun && stands_before q x) (h ++ e ∷ []) ≡ list_any (λ x. is_visible facts x.call.fun && stands_before q x) h
-any_push facts q [] e stands = ap (λ b. (is_visible facts e.call.fun && b) || false) stands ∙ none (is_visible facts e.call.fun)
+pub any_push : (facts : Facts) (before : Entry → Bool) (h : List Entry) (e : Entry) → before e ≡ false
+    → list_any (λ x. is_visible facts x.call.fun && before x) (h ++ e ∷ []) ≡ list_any (λ x. is_visible facts x.call.fun && before x) h
+any_push facts before [] e stands = ap (λ b. (is_visible facts e.call.fun && b) || false) stands ∙ none (is_visible facts e.call.fun)
   where
     none : (v : Bool) → (v && false) || false ≡ false
     none true = refl
     none false = refl
-any_push facts q (x ∷ h) e stands = ap (λ b. (is_visible facts x.call.fun && stands_before q x) || b) (any_push facts q h e stands)
+any_push facts before (x ∷ h) e stands = ap (λ b. (is_visible facts x.call.fun && before x) || b) (any_push facts before h e stands)
 
-below_push : (facts : Facts) (q : Position) (client seq : ℕ) (h : List Entry) (e : Entry) → stands_before q e ≡ false → AreBelow facts q client seq h → AreBelow facts q client seq (h ++ e ∷ [])
-below_push facts q client seq [] e stands are =
+below_push : (facts : Facts) (before : Entry → Bool) (client seq : ℕ) (h : List Entry) (e : Entry) → before e ≡ false → AreBelow facts before client seq h → AreBelow facts before client seq (h ++ e ∷ [])
+below_push facts before client seq [] e stands are =
     (subst (λ b. When ((e.call.client == client) && (b || false)) (e.call.seq < seq)) (sym stands) (when_not (e.call.client == client) _), tt)
-below_push facts q client seq (x ∷ h) e stands are = (
-  subst (λ b. When ((x.call.client == client) && (stands_before q x || b)) (x.call.seq < seq)) (sym (any_push facts q h e stands)) are.0,
-  below_push facts q client seq h e stands are.1,
+below_push facts before client seq (x ∷ h) e stands are = (
+  subst (λ b. When ((x.call.client == client) && (before x || b)) (x.call.seq < seq)) (sym (any_push facts before h e stands)) are.0,
+  below_push facts before client seq h e stands are.1,
 )
 
-from_push : (q : Position) (client seq : ℕ) (late : Bool) (h : List Entry) (e : Entry) → ((e.call.client == client) ≡ true → seq ≤ e.call.seq) → AreFrom q client seq late h
-    → AreFrom q client seq late (h ++ e ∷ [])
-from_push q client seq late [] e own are = (when_own (e.call.client == client) (late || is_answered_later q e) _ own, tt)
-from_push q client seq late (x ∷ h) e own are = (are.0, from_push q client seq (late || is_answered_later q x) h e own are.1)
+from_push : (before : Entry → Bool) (client seq : ℕ) (late : Bool) (h : List Entry) (e : Entry) → ((e.call.client == client) ≡ true → seq ≤ e.call.seq) → AreFrom before client seq late h
+    → AreFrom before client seq late (h ++ e ∷ [])
+from_push before client seq late [] e own are = (when_own (e.call.client == client) (late || is_answered_later before e) _ own, tt)
+from_push before client seq late (x ∷ h) e own are = (are.0, from_push before client seq (late || is_answered_later before x) h e own are.1)
 
--- with an entry more that stands before no place that was there, and is of its client's last call
-under_more : (facts : Facts) (h : List Entry) (e : Entry) (u u' : List Call) (q : Position) → stands_before q e ≡ false → IsLastCall h u e.call
-    → AreKept h u (h ++ e ∷ []) u' → (client : ℕ) (call : Call) → IsUnderWay facts h u q client call → IsUnderWay facts (h ++ e ∷ []) u' q client call
-under_more facts h e u u' q stands last kept client call w = record {
+-- with an entry more that doesn't stand before the place, and is of its client's last call
+pub under_more : (facts : Facts) (h : List Entry) (e : Entry) (u u' : List Call) (before : Entry → Bool) → before e ≡ false → IsLastCall h u e.call
+    → AreKept h u (h ++ e ∷ []) u' → (client : ℕ) (call : Call) → IsUnderWay facts h u before client call → IsUnderWay facts (h ++ e ∷ []) u' before client call
+under_more facts h e u u' before stands last kept client call w = record {
   its = record { its = w.its.its; made = kept call w.its.made };
-  above = of_below facts q client call.seq (h ++ e ∷ []) (below_push facts q client call.seq h e stands (below_of facts q client call.seq h w.above));
-  first = of_from q client call.seq false (h ++ e ∷ [])
-      (from_push q client call.seq false h e (λ own. last call w.its.made (same_client call.client e.call.client client w.its.its own)) (from_of q client call.seq false h w.first));
+  above = of_below facts before client call.seq (h ++ e ∷ []) (below_push facts before client call.seq h e stands (below_of facts before client call.seq h w.above));
+  first = of_from before client call.seq false (h ++ e ∷ [])
+      (from_push before client call.seq false h e (λ own. last call w.its.made (same_client call.client e.call.client client w.its.its own)) (from_of before client call.seq false h w.first));
 }
   where
     same_client : (a b c : ℕ) → a ≡ c → b == c ≡ true → a ≡ b
@@ -147,7 +148,7 @@ same_committed facts walks h u u' e item p r n none own more kept last given =
       made = λ id. made_same facts h (h ++ e ∷ []) id p.front ids;
       whole = λ id. whole_grown facts walks h (h ++ e ∷ []) item p r n id (made_same facts h (h ++ e ∷ []) id p.front ids)
           (λ x y is. entries_before-committed item x y h e is none own) more;
-      under_way = λ client call w. under_more facts h e u u' (again p r n) (stands_before-own item p (again p r n) e g own) last kept client call
+      under_way = λ client call w. under_more facts h e u u' (stands_before (again p r n)) (stands_before-own item p (again p r n) e g own) last kept client call
           (under_noted facts item p (again p r n) h u u none g (λ c has. has) client call w);
     }
 
@@ -164,7 +165,7 @@ same_refused facts walks h u u' e p guards last kept =
           ∙ ap (λ b. list_any (is_made facts h id) p.front || b)
           (any_same (is_rebuilt_at facts walks (h ++ e ∷ []) id) (is_rebuilt_at facts walks h id) (places_in p.older [] p.front (p.item ∷ items_after p))
           (λ x. rebuilt_again facts walks h (h ++ e ∷ []) id x x.rest x.newer (ap (object_of facts) (entries_before-refused x h e guards))));
-      under_way = under_more facts h e u u' p (ap (λ b. not b && list_any (is_item_of e) (past p) && not (list_any (is_item_of e) (p.item ∷ items_after p))) guards) last kept;
+      under_way = under_more facts h e u u' (stands_before p) (ap (λ b. not b && list_any (is_item_of e) (past p) && not (list_any (is_item_of e) (p.item ∷ items_after p))) guards) last kept;
     }
   where
     all : (items : List Item) → Each (IsSameId facts h (h ++ e ∷ [])) items
@@ -233,5 +234,5 @@ same_held facts walks h u u' e p after_it kept last given =
       made = λ id. made_same facts h (h ++ e ∷ []) id p.front ids;
       whole = λ id. ap (λ b. b || list_any (is_rebuilt_at facts walks (h ++ e ∷ []) id) (places_in p.older [] p.front (p.item ∷ items_after p))) (made_same facts h (h ++ e ∷ []) id p.front ids)
           ∙ ap (λ b. list_any (is_made facts h id) p.front || b) (rebuilt_earlier facts walks h e id p.older [] p.front (p.item ∷ items_after p) after_it);
-      under_way = under_more facts h e u u' p after_it last kept;
+      under_way = under_more facts h e u u' (stands_before p) after_it last kept;
     }

@@ -26,7 +26,7 @@ ghost use Rattle.sg_facts.specs.Object.{Object, empty_object, file_at, object_of
 ghost use Rattle.sg_facts.specs.Trace.{Boot};
 ghost use Rattle.sg_facts.specs.Track.{is_live, row_at};
 ghost use Rattle.sg_facts.specs.Walks.{replayed_call};
-ghost use Rattle.sg_hist.specs.Reading.{Position, id_given, is_made, is_whole_at, last_items, names_at, object_before, older_items, value_at, walk_in};
+ghost use Rattle.sg_hist.specs.Reading.{Position, id_given, is_made, is_whole_at, last_items, names_at, object_before, older_items, stands_before, value_at, walk_in};
 ghost use Rattle.sg_hist.specs.Inside.Reads.{entries_before, is_rebuilt_at, names_in};
 ghost use Rattle.sg_hist.specs.Recovered.{IsAdmitted, IsCallOf, IsLoadedFor, IsTracked, item_of_load};
 ghost use Rattle.sg_hist.specs.Inside.Parts.{IsCallOfRow, IsOkOrStopped, is_patch_at, is_walk_of};
@@ -57,7 +57,7 @@ pub fn last_place()
 pub fn items_settle()
     ensures admitted { (i : Declared) (walks : List WalkLine) (h : List Entry) (u : List Call) (older front : List Item) (item : Item) (names : List (ℕ × ℕ)) (told : ℕ → Told)
         (present : List ℕ → Bool) (o : Object) (client : ℕ) (call : Call) → IsKnown i.facts walks h older front item names told present o → IsCallOf h u client call
-        → Each (λ e. (e.call.client == client) ≡ true → e.call.seq < call.seq) h → guard i o call ≡ None → IsAdmitted i h u (last_place older front item) client call }
+        → Each (λ e. (e.call.client == client) ≡ true → e.call.seq < call.seq) h → guard i o call ≡ None → IsAdmitted i h u (stands_before (last_place older front item)) client call }
     ensures tracked { (i : Declared) (walks : List WalkLine) (h : List Entry) (older front : List Item) (item : Item) (names : List (ℕ × ℕ)) (told : ℕ → Told)
         (present : List ℕ → Bool) (o held : Object) → IsKnown i.facts walks h older front item names told present o → value_at i.facts front ≡ held
         → ((r : Row) → row_at o.rows r.id ≡ Some r → is_wanted i o.rows item.shown r ≡ true → told r.id ≡ complete)

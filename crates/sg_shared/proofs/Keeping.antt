@@ -67,7 +67,9 @@ module _ (z : Setting) (script : Script) (w : WorldView) (is : KeepsPlayed z scr
         → IfOk r (λ did. HasStepped z w c did now) → OnErr r (LackedMemory z w c now) → IfOk r (AnswersLast now c) → KeepsPlayed z script now
     kept_stepped (Ok did) now before legal steps wants answers = record {
       none_waits = is.none_waits;
-      goes = λ none. goes_stepped z script w c first last (is.goes (sym (withdrawn_stepped z w c did now steps) ∙ none)) did now before legal steps answers;
+      goes = λ none.
+          let was : w.withdrawn ≡ [] = sym (withdrawn_stepped z w c did now steps) ∙ none in
+          goes_stepped z script w c first last (is.goes was) was is.none_waits did now before legal steps answers;
       comes = come_more z script (new_of script) w now is.comes (inr (inl (record { client = c; made = inl (did, steps) })));
     }
     kept_stepped (Err e) now before legal steps wants answers = record {

@@ -13,7 +13,7 @@ use Rattle.sg_play.proofs.Following.Following.{following_asked, following_end}
 use Rattle.sg_play.proofs.Following.Whose.{nobody_next}
 use Rattle.sg_play.specs.sg_hist.Clients.{calls_of}
 use Rattle.sg_play.specs.sg_hist.Recovered.{IsRecovered, struck_in}
-use Rattle.sg_play.specs.sg_hist.Ending.{HasRecovered}
+use Rattle.sg_play.specs.sg_hist.Ending.{AreAsked, HasRecovered}
 use Rattle.sg_play.specs.sg_hist.declared.ended.End.{End}
 use Rattle.sg_play.specs.sg_hist.declared.ended.Ended.{Ended}
 use Rattle.sg_play.specs.sg_plain.Calls.{AreEnds, most_client}
@@ -32,6 +32,7 @@ use Rattle.sg_sim.specs.Inside.Keeps.{KeepsPlay}
 use Rattle.sg_sim.proofs.Beginning.{clients_from_one, few_handed}
 use Rattle.sg_sim.specs.Played.{FollowsSchedule, IsPlayed}
 use Rattle.sg_play.proofs.Ends.{IsOver, over_by}
+use Rattle.sg_play.proofs.Striking.Striking.{striking_over}
 use Rattle.sg_play.proofs.Waking.Waking.{waking_woken}
 use Rattle.sg_play.specs.sg_world_laws.Setting.{Setting, stubs_of}
 
@@ -138,7 +139,8 @@ module _ (z : Setting) (test : ℕ → List ℕ → List ℕ → Type 0) (script
           recovered = subst (IsRecovered (stubs_of z) w.history w.run) (not_withdrawn w is.none_withdrawn ∙ playing_waiting z.iface z.ask script w.history w.seats given is.playing nobody) recovered;
           blocked = over.blocked;
           used = over.used;
-          quiet = over.quiet;
+          asked = subst (λ u. AreAsked z.iface w.history u [] w.run.boots) (not_withdrawn w is.none_withdrawn ∙ playing_waiting z.iface z.ask script w.history w.seats given is.playing nobody)
+              (striking_over z w over.quiet is.striking);
           lost = over.lost;
         })));
     stops = subst (λ r. test r.points (struck_in r) plan) (sym run) stops;

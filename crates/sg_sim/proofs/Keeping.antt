@@ -29,8 +29,10 @@ use Rattle.sg_sim.proofs.AnyTurn.{settled_missed, settled_taken, still_settled}
 use Rattle.sg_sim.proofs.Beginning.{playing_new}
 use Rattle.sg_sim.specs.Inside.Keeps.{KeepsPlay}
 use Rattle.sg_sim.specs.Inside.Taken.{MissesTurn, TakesTurn, after_offer}
+use Rattle.sg_play.proofs.Striking.Striking.{striking_happened, striking_new, striking_offer, striking_turn, striking_wanted}
 use Rattle.sg_play.proofs.Waking.Waking.{waking_happened, waking_new, waking_offer, waking_turn, waking_wanted}
 use Rattle.sg_play.specs.sg_plain.Answering.{no_query_waits}
+use Rattle.sg_play.specs.Striking.Striking.{IsStriking}
 use Rattle.sg_play.specs.Waking.Waking.{IsWaking}
 use Rattle.sg_play.specs.sg_world.declared.did.Did.{Did}
 use Rattle.sg_play.specs.sg_world.declared.did.Did.TheVariants.{Answered, Blocked as Waits, Booted, Loaded, Lost, Replayed, Served, Skipped, Struck}
@@ -126,6 +128,7 @@ kept_new z script playable none_waits w new = subst (λ x. KeepsPlay z script x 
   following = λ ordered. following_new z script (new_world (replicate (most_client script.clients) no_seat)) refl;
   setting_up = setting_up_new script (new_world (replicate (most_client script.clients) no_seat)) (most_client script.clients) refl;
   waking = waking_new z (new_world (replicate (most_client script.clients) no_seat)) (most_client script.clients) refl;
+  striking = striking_new z (new_world (replicate (most_client script.clients) no_seat)) (most_client script.clients) refl;
   none_waits = none_waits;
 })
 
@@ -139,13 +142,14 @@ kept_over z script w given none_waits none is gave = record {
   following = λ ordered. absurd (cc ordered);
   setting_up = is.setting_up;
   waking = is.waking;
+  striking = is.striking;
   none_waits = none_waits;
 }
 
 -- and over that of a play whose setup is done
 pub kept_goes : (z : Setting) (script : Script) (w : WorldView) (given : List (List ℕ)) (passed last : ℕ) (in_order : Bool) → KeepsPlay z script w given passed last in_order → is_setting_up script w.seats ≡ false
     → MayGoOn z script w
-kept_goes z script w given passed last in_order is settled = goes_of z script w given is.playing settled is.setting_up is.waking
+kept_goes z script w given passed last in_order is settled = goes_of z script w given is.playing settled is.setting_up is.waking is.striking
 
 module _ (z : Setting) (script : Script) (w : WorldView) (given : List (List ℕ)) (passed last : ℕ) (in_order : Bool) (is : KeepsPlay z script w given passed last in_order) where
   -- a turn out of order may follow
@@ -157,6 +161,7 @@ module _ (z : Setting) (script : Script) (w : WorldView) (given : List (List ℕ
     following = λ ordered. absurd (cc ordered);
     setting_up = is.setting_up;
     waking = is.waking;
+    striking = is.striking;
     none_waits = is.none_waits;
   }
 
@@ -172,6 +177,9 @@ module _ (z : Setting) (script : Script) (w : WorldView) (given : List (List ℕ
     waking = waking_turn z script (after_offer z script w given client) now given client handed t.offered t.told_before t.told first
         (subst (λ n. client ≤ n) (sym (as_many z script w (after_offer z script w given client) given given is.playing t.offered)) there)
         (waking_offer z script w given client is.playing first there is.waking) t.steps;
+    striking = striking_turn z script (after_offer z script w given client) now given client handed t.offered t.told_before (none_offered z.iface.facts script w client ∙ is.none_withdrawn) is.none_waits first
+        (subst (λ n. client ≤ n) (sym (as_many z script w (after_offer z script w given client) given given is.playing t.offered)) there)
+        (waking_offer z script w given client is.playing first there is.waking) (striking_offer z script w client first there is.striking) t.steps;
     none_waits = is.none_waits;
   }
 
@@ -184,6 +192,7 @@ module _ (z : Setting) (script : Script) (w : WorldView) (given : List (List ℕ
     following = λ so. following (is.following so) m.missed;
     setting_up = set_up_missed z script w given client is.playing now gave m is.setting_up;
     waking = waking m.missed;
+    striking = striking m.missed;
     none_waits = is.none_waits;
   })
     where
@@ -198,6 +207,12 @@ module _ (z : Setting) (script : Script) (w : WorldView) (given : List (List ℕ
       waking (inl same) = subst (IsWaking z) (sym same) is.waking
       waking (inr (inl same)) = subst (IsWaking z) (sym same) (waking_happened z w is.waking)
       waking (inr (inr both)) = waking_wanted z (after_offer z script w given client) now client both.1 (waking_offer z script w given client is.playing first there is.waking)
+
+      striking : (now ≡ w) ⊎ (now ≡ happened w) ⊎ (IsPlaying z.iface script (after_offer z script w given client).history (after_offer z script w given client).seats given × LackedMemory z (after_offer z script w given client) client now)
+          → IsStriking z now
+      striking (inl same) = subst (IsStriking z) (sym same) is.striking
+      striking (inr (inl same)) = subst (IsStriking z) (sym same) (striking_happened z w is.striking)
+      striking (inr (inr both)) = striking_wanted z (after_offer z script w given client) now client both.1 (striking_offer z script w client first there is.striking)
 
       by : (now ≡ w) ⊎ (now ≡ happened w) ⊎ (IsPlaying z.iface script (after_offer z script w given client).history (after_offer z script w given client).seats given × LackedMemory z (after_offer z script w given client) client now)
           → now.withdrawn ≡ w.withdrawn

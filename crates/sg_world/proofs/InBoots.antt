@@ -73,7 +73,7 @@ after_on facts (b ∷ boots) points later stop item entries h e begun running no
 -- ---- held replies
 
 -- what holds of each held reply holds of that of a seat
-held_there : (P : Entry → Type 0) (boot : ℕ) (seats : List Seat) (n : ℕ) (s : Seat) → slice_get seats n ≡ Some s → is_held_in boot s ≡ true → Each P (held_in boot seats)
+pub held_there : (P : Entry → Type 0) (boot : ℕ) (seats : List Seat) (n : ℕ) (s : Seat) → slice_get seats n ≡ Some s → is_held_in boot s ≡ true → Each P (held_in boot seats)
     → P (record { call = s.call; reply = s.reply })
 held_there P boot [] n s there holds all = absurd (cc there)
 held_there P boot (x ∷ seats) zero s there holds all =

@@ -5,9 +5,11 @@ use Rattle.sg_replay.specs.sg_hist.Recovered.{AreInBoots, ArePointsOf, IsRecover
 use Rattle.sg_replay.specs.sg_hist.Growing.{IsRecovering}
 use Rattle.sg_clients.specs.WorldView.{WorldView, held_replies, seat_of, unanswered}
 use Rattle.sg_world.specs.Worlded.{CountsAll, CountsPoints}
+use Rattle.sg_world_laws.proofs.Ending.Ended.{goes_on}
 use Rattle.sg_world_laws.proofs.Moves.{its_seat}
 use Rattle.sg_world_laws.proofs.Struck.{no_drawn}
 use Rattle.sg_world_laws.proofs.Turns.{seat_there}
+use Rattle.sg_world_laws.specs.Ending.{HasLastBoot}
 use Rattle.sg_world_laws.specs.Keeping.{KeepsPromise, Stub}
 use Rattle.sg_world_laws.specs.Seats.{IsSeated}
 use Rattle.sg_world_laws.specs.Setting.{Setting, stubs_of}
@@ -28,6 +30,10 @@ module _ (z : Setting) (w : WorldView) (stub : Stub) (k : KeepsPromise z w stub)
     points = subst (λ n. ArePointsOf (n == 0) z.iface.facts z.ask z.parts 0 w.run.boots w.run.points) none counts;
     held = in_boots;
   }
+
+  -- the last boot has the items of the held replies, and goes on while the service is up
+  pub last_now : HasLastBoot w
+  last_now = record { goes_on = goes_on z.iface.facts w.running w.run.boots k.cell; held = k.held_items }
 
   -- each client's seat is as its phase says
   pub seated_now : (client : ℕ) → 1 ≤ client → client ≤ length w.seats → IsSeated z w.history client (seat_of w client)

@@ -12,7 +12,7 @@ ghost use Rattle.sg_facts.specs.Trace.{run_of};
 ghost use Rattle.sg_replay.specs.sg_hist.Clients.{calls_of};
 ghost use Rattle.sg_replay.specs.sg_hist.Recovered.{AreInBoots, IsRecovered, struck_in};
 ghost use Rattle.sg_replay.specs.sg_hist.Growing.{IsRecovering};
-ghost use Rattle.sg_world_laws.specs.Ending.{IsEnding};
+ghost use Rattle.sg_world_laws.specs.Ending.{HasLastBoot, IsEnding};
 ghost use Rattle.sg_world_laws.specs.Seats.{last_of};
 ghost use Rattle.sg_world_laws.specs.Setting.{IsSetting, stubs_of};
 ghost use Rattle.sg_world.specs.Marked.{TellsAll};
@@ -101,13 +101,14 @@ impl<S: Service, T: Stops> World<S, T> {
     /// What was done to the service, lent: a run that recovers. Along the history the boots of the entries' items never go back, and where
     /// the service stopped right after a commit, no later entry has its item in that boot. Its points and its stops meet the test of the
     /// world's own stops. The points are counted exactly where no step wanted memory, and at least so where one did, up to the end of
-    /// their count.
+    /// their count. The last boot isn't stopped while the service is up, and has the items of the replies that are held.
     pub fn trace(&self) -> &Trace
         ensures run { run_of result.now ≡ self.now.view.run }
         ensures recovering { let z = setting_of S.ask S.sound S.parts self.now.tables in let w = self.now.view in IsRecovering (stubs_of z) w.history w.run (unanswered w) }
         ensures recovered { let z = setting_of S.ask S.sound S.parts self.now.tables in let w = self.now.view in w.refused ≡ 0 → IsRecovered (stubs_of z) w.history w.run (unanswered w) }
         ensures held { AreInBoots self.now.tables.iface.facts self.now.view.run 0 self.now.view.history }
         ensures ending { IsEnding (setting_of S.ask S.sound S.parts self.now.tables) self.now.view }
+        ensures last { HasLastBoot self.now.view }
         ensures stopped { let run = self.now.view.run in T.test run.points (struck_in run) self.now.plan }
         ensures points { CountsAll (setting_of S.ask S.sound S.parts self.now.tables) self.now.view }
     {

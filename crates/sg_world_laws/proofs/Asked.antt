@@ -18,7 +18,7 @@ use Rattle.sg_facts.specs.declared.trace.Tag.{Tag}
 use Rattle.sg_facts.specs.declared.trace.Tag.TheVariants.{Client, Load, Walk}
 use Rattle.sg_recovery_laws.proofs.Midway.Served.{serves_it}
 use Rattle.sg_recovery_laws.specs.Midway.Progress.{IsNone, complete}
-use Rattle.sg_recovery_laws.specs.sg_hist.Reading.{is_tagged, last_items, older_items, service_call}
+use Rattle.sg_recovery_laws.specs.sg_hist.Reading.{is_tagged, last_items, older_items, service_call, stands_before}
 use Rattle.sg_recovery_laws.specs.sg_hist.Recovered.{IsAdmitted, IsByTable, IsCallOf, IsTracked}
 use Rattle.sg_recovery_laws.specs.sg_hist.Inside.Parts.{AskedAs, IsDemanded, IsItsCall, IsTrackedAt, IsWalked}
 use Rattle.sg_recovery_laws.proofs.Objects.Apart.{Ascends}
@@ -142,7 +142,7 @@ module _ (z : Setting) (set : IsSetting z) (w : WorldView) (b : Boot) (boots : L
         lets = guard_after z.iface z.ask z.sound set.law (object_of z.iface.facts w.history) es call (good_now z set w b boots (Some v) stub k) (time_es z set w b boots (Some v) stub k es drawn)
             (wait_es z set w b boots (Some v) stub k es drawn) (none_es z set w b boots (Some v) stub k es drawn call let_in) let_in.passes.is_call.first let_in.passes.is_call.last let_in.guarded
 
-        admitted : IsCallOf (w.history ++ es) u call.client call → IsAdmitted z.iface (w.history ++ es) u (last_place (older_items [] (b ∷ boots)) (last_items (b ∷ boots)) item) call.client call
+        admitted : IsCallOf (w.history ++ es) u call.client call → IsAdmitted z.iface (w.history ++ es) u (stands_before (last_place (older_items [] (b ∷ boots)) (last_items (b ∷ boots)) item)) call.client call
         admitted is = admitted_last z.iface z.walks (w.history ++ es) u (older_items [] (b ∷ boots)) (last_items (b ∷ boots)) item stub.names stub.told stub.present (object_from z.iface.facts (object_of z.iface.facts w.history) es)
             known.object known.sound are none_of known.items known.read call.client call is seqs lets
 
@@ -163,8 +163,8 @@ module _ (z : Setting) (set : IsSetting z) (w : WorldView) (b : Boot) (boots : L
         demanded (Client x s) is its =
             let one : x ≡ call.client = cc is in
             let own : IsCallOf (w.history ++ es) u call.client call = subst (λ n. IsCallOf (w.history ++ es) u n call) one (subst (IsCallOf (w.history ++ es) u x) asked.shown its.0) in
-            subst (λ n. IsAdmitted z.iface (w.history ++ es) u (last_place (older_items [] (b ∷ boots)) (last_items (b ∷ boots)) item) n item.shown) (sym one)
-            (subst (IsAdmitted z.iface (w.history ++ es) u (last_place (older_items [] (b ∷ boots)) (last_items (b ∷ boots)) item) call.client) (sym asked.shown) (admitted own))
+            subst (λ n. IsAdmitted z.iface (w.history ++ es) u (stands_before (last_place (older_items [] (b ∷ boots)) (last_items (b ∷ boots)) item)) n item.shown) (sym one)
+            (subst (IsAdmitted z.iface (w.history ++ es) u (stands_before (last_place (older_items [] (b ∷ boots)) (last_items (b ∷ boots)) item)) call.client) (sym asked.shown) (admitted own))
 
         state_of : (t : Tag) → t ≡ Client call.client call.seq → IsTrackedAt z.iface z.walks (w.history ++ es) (last_place (older_items [] (b ∷ boots)) (last_items (b ∷ boots)) item) t
         state_of (Walk i n x) is = absurd (cc is)

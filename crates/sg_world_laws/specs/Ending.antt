@@ -13,9 +13,10 @@ use Rattle.sg_facts.specs.Interface.{Declared}
 use Rattle.sg_facts.specs.Object.{object_of}
 use Rattle.sg_facts.specs.Trace.{Boot}
 use Rattle.sg_recovery_laws.specs.sg_hist.Ending.{client_of, is_still_blocked}
+use Rattle.sg_recovery_laws.specs.sg_hist.Growing.{IsInLast, last_stop}
 use Rattle.sg_recovery_laws.specs.sg_hist.Inside.Parts.{EndsQuiet, EndsUsed, IsLost, is_unentered, waking_entries}
 use Rattle.sg_recovery_laws.specs.sg_hist.Reading.{Position, is_by_guard, items_of, last_places, places_in}
-use Rattle.sg_clients.specs.WorldView.{Seat, WorldView, is_held_phase, seat_in}
+use Rattle.sg_clients.specs.WorldView.{Seat, WorldView, held_replies, is_held_phase, seat_in}
 use Rattle.sg_clients.specs.declared.phase.Phase.TheVariants.{Asked, Blocked, Held}
 use Rattle.sg_world_laws.specs.Setting.{Setting}
 
@@ -46,6 +47,11 @@ pub record IsHeldUsed (boots : List Boot) (s : Seat) : Type 0 where
 pub record IsEndingSoFar (i : Declared) (history : List Entry) (boots : List Boot) (seats : List Seat) : Type 0 where
   pub ends : EndsWell i.facts boots ⊎ SomebodyAsks i history seats
   pub held : EachSeat (λ client s. s.phase ≡ Held → IsHeldUsed boots s) seats
+
+-- the last boot isn't stopped while the service is up, and the items of the held replies stand in it
+pub record HasLastBoot (w : WorldView) : Type 0 where
+  pub goes_on : IsSome w.running → last_stop w.run.boots ≡ None
+  pub held : Each (IsInLast w.run) (held_replies w)
 
 -- ---- who waits
 

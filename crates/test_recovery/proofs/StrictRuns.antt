@@ -138,6 +138,6 @@ made_and_stopped-recovered = record {
   };
   blocked = tt;
   used = λ few. let two : 2 ≤ 1 = few in absurd (omega (arith, two));
-  quiet = (refl, refl);
+  asked = (inl (refl, refl), tt);
   lost = ((tt, tt), tt);
 }

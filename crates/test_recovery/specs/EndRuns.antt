@@ -47,6 +47,34 @@ slept_over_reboot = record {
   points = 21;
 }
 
+-- ---- stops
+
+-- client 1 makes a lock and takes it, and is done; client 2's take has to wait
+abbrev pub until_wait : List Item
+until_wait = called alloc 0 4 (replied (ok_at 1)) ∷ called (bare_call 1 2 2 1) 1 8 (replied ok) ∷ called other_take 1 10 Blocks ∷ []
+
+-- the lock is rebuilt for client 2, whose take has to wait again
+abbrev pub waits_once_more : List Item
+waits_once_more = walked 1 1 2 (bare_call 1 0 1 0) 0 15 (replied (ok_at 1)) ∷ walked 1 2 2 (bare_call 1 0 2 1) 1 18 (replied ok) ∷ called other_take 1 19 Blocks ∷ []
+
+-- no call asks, and the service stops all the same
+abbrev pub waits_again : Run
+waits_again = record { boots = boot until_wait (Some 11) ∷ boot waits_once_more None ∷ []; points = 19 }
+
+-- the service stops as it is about to be used for client 2's take, which has to wait in the next boot
+abbrev pub stopped_idle : Run
+stopped_idle = record {
+  boots =
+      boot (called alloc 0 4 (replied (ok_at 1)) ∷ called (bare_call 1 2 2 1) 1 8 (replied ok) ∷ []) (Some 10)
+      ∷ boot (
+      walked 1 1 2 (bare_call 1 0 1 0) 0 14 (replied (ok_at 1))
+      ∷ walked 1 2 2 (bare_call 1 0 2 1) 1 17 (replied ok)
+      ∷ called other_take 1 18 Blocks
+      ∷ []) None
+      ∷ [];
+  points = 18;
+}
+
 -- ---- the last boot
 
 -- the service stops at a point that no call asked

@@ -5,7 +5,7 @@ ghost use Rattle.sg_recovery_laws.specs.sg_hist.Recovered.{ArePointsOf, IsRecove
 ghost use Rattle.sg_recovery_laws.specs.sg_hist.Ending.{AreLost, HasRecovered};
 ghost use Rattle.test_recovery.specs.LockRuns.{lock_stubs};
 ghost use Rattle.test_recovery.specs.RamfsRuns.{held_late, held_late_history, held_lost, held_lost_history, ramfs_stubs};
-ghost use Rattle.test_recovery.specs.EndRuns.{asked_early, asked_late, both_opened, counted_for_nothing, held_asked_twice, held_seek, load_shows_a_call, made_at_the_end, other_waits, refused_early, refused_late, slept_over_reboot, sought_and_read, sought_at_last, sought_ends, stopped_after, stopped_unasked, stopped_unused, take_after_refusal, taken_and_held, waits_asked, waits_unasked, written_and_read};
+ghost use Rattle.test_recovery.specs.EndRuns.{asked_early, asked_late, both_opened, counted_for_nothing, held_asked_twice, held_seek, load_shows_a_call, made_at_the_end, other_waits, refused_early, refused_late, slept_over_reboot, sought_and_read, sought_at_last, sought_ends, stopped_after, stopped_idle, stopped_unasked, stopped_unused, take_after_refusal, taken_and_held, waits_again, waits_asked, waits_unasked, written_and_read};
 ghost use Rattle.test_recovery.specs.StrictRuns.{one_made, one_made_ends, one_taken};
 
 /// A run that ended hasn't recovered where a client waits in a call that the service was never asked for, though the run recovers so far.
@@ -24,7 +24,19 @@ pub fn slept_over_reboot()
     ensures wrong { HasRecovered lock_stubs taken_and_held slept_over_reboot other_waits → ⊥ }
 {}
 
-/// It hasn't recovered where the service stops at a point that no call asked, though the run recovers so far.
+/// It hasn't recovered where the service stops though no call asks, and is booted only for who has to wait again, though the run recovers
+/// so far.
+pub fn waits_again()
+    ensures wrong { HasRecovered lock_stubs one_taken waits_again other_waits → ⊥ }
+    ensures recovered { IsRecovered lock_stubs one_taken waits_again (waiting other_waits) }
+{}
+
+/// It has recovered where the service stops as it is about to be used for a call that then has to wait.
+pub fn stopped_idle()
+    ensures recovered { HasRecovered lock_stubs one_taken stopped_idle other_waits }
+{}
+
+/// It hasn't recovered where the last boot stops at a point that no call asked, though the run recovers so far.
 pub fn stopped_unasked()
     ensures wrong { HasRecovered lock_stubs one_made stopped_unasked one_made_ends → ⊥ }
     ensures recovered { IsRecovered lock_stubs one_made stopped_unasked [] }

@@ -17,8 +17,8 @@ mod timers;
 pub use eager::{both_rebuilt, one_rebuilt, second_first};
 pub use ends::{
     asked_early, asked_late, committed_after_stop, counted_to_the_end, held_asked_twice,
-    held_or_lost, load_shows_a_call, slept_over_reboot, stopped_unasked, stopped_unused,
-    waits_asked, waits_unasked,
+    held_or_lost, load_shows_a_call, slept_over_reboot, stopped_idle, stopped_unasked,
+    stopped_unused, waits_again, waits_asked, waits_unasked,
 };
 pub use events::{blocked_redone, earlier_value, present_value, trigger_not_twice};
 pub use files::{file_loaded, held_late, held_lost, loaded_twice};

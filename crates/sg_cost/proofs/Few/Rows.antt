@@ -27,7 +27,7 @@ use Rattle.sg_facts.specs.declared.row.Row.{Row}
 use Rattle.sg_facts.specs.declared.trace.Item.{Item}
 use Rattle.sg_facts.specs.declared.trace.Tag.{Tag}
 use Rattle.sg_facts.specs.declared.trace.Tag.TheVariants.{Walk, Load, Client}
-use Rattle.sg_report.specs.sg_hist.Reading.{Position, id_given, is_made, is_ok, is_tagged, is_whole_at, item_of, items_of, object_before}
+use Rattle.sg_report.specs.sg_hist.Reading.{Position, id_given, is_made, is_ok, is_tagged, is_whole_at, item_of, items_of, object_before, stands_before}
 use Rattle.sg_report.specs.sg_hist.Inside.Reads.{desc_of, made_by}
 use Rattle.sg_report.specs.sg_hist.Recovered.{IsAdmitted, IsNextCall, IsRebuiltFor, IsRecovered, IsReplyOf, IsTracked, Stubs}
 use Rattle.sg_report.specs.sg_hist.Inside.Parts.{GivesEntry, IsCallOfRow, IsWalked, HasItem, IsDemanded, IsTrackedAt}
@@ -183,7 +183,7 @@ module _ (s : Stubs) (history : List Entry) (run : Run) (unanswered : List Call)
           cc both
 
       -- its call passed the guard there, and what it needs was whole
-      admitted : IsAdmitted s.interface history unanswered at e.call.client i.item.shown
+      admitted : IsAdmitted s.interface history unanswered (stands_before at) e.call.client i.item.shown
       admitted =
           let demanded = at_one (λ p. IsDemanded s.interface s.walks history unanswered p p.item.tag) (items_of before) i.front i.item (i.mid ++ y ∷ rest) (items_of behind) b.items split
           (each_in_boot (λ p. IsDemanded s.interface s.walks history unanswered p p.item.tag) run before b behind boots recovered.on_demand) in

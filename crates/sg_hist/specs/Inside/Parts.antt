@@ -26,9 +26,9 @@ use Rattle.sg_facts.specs.Track.{row_at}
 use Rattle.sg_facts.specs.Walks.{replayed_call}
 use Rattle.sg_hist.specs.declared.ended.End.{End}
 use Rattle.sg_hist.specs.declared.ended.End.TheVariants.{Done, Blocked}
-use Rattle.sg_hist.specs.Ending.{client_of, is_still_blocked}
+use Rattle.sg_hist.specs.Ending.{IsAfterCommit, client_of, is_still_blocked}
 use Rattle.sg_hist.specs.Reading.{Position, is_by_guard, is_tagged, item_of, last_places, names_at, object_before, service_call, stands_before, value_at}
-use Rattle.sg_hist.specs.Recovered.{IsAdmitted, IsByTable, IsCallOf, IsCount, IsLoadedFor, IsNextCall, IsPointOfCall, IsRebuiltFor, IsReplyOf, IsTracked, ends_committed, is_clients, is_entered, is_replied, is_visible_reply}
+use Rattle.sg_hist.specs.Recovered.{IsAdmitted, IsByTable, IsCallOf, IsCount, IsLoadedFor, IsNextCall, IsPointOfCall, IsRebuiltFor, IsReplyOf, IsTracked, is_clients, is_entered, is_replied, is_visible_reply}
 use Rattle.sg_hist.specs.Wakes.{has_blocked}
 
 -- ---- the calls of clients
@@ -106,8 +106,8 @@ IsWalked facts walks history p tag = elim tag [ Walk id k client ↦ IsCallOfRow
 -- ---- on demand
 
 -- whether an entry, which these follow in the history, was answered before a place
-abbrev pub is_answered_before : Facts → Position → Entry → List Entry → Bool
-is_answered_before facts p e later = stands_before p e || list_any (λ x. is_visible facts x.call.fun && stands_before p x) later
+abbrev pub is_answered_before : Facts → (Entry → Bool) → Entry → List Entry → Bool
+is_answered_before facts before e later = before e || list_any (λ x. is_visible facts x.call.fun && before x) later
 
 -- whether an item brought a file into this boot
 abbrev pub is_patch_at : List ℕ → Outcome → Bool
@@ -126,7 +126,7 @@ abbrev pub IsDemanded : Declared → List WalkLine → List Entry → List Call 
 IsDemanded i walks history unanswered p tag = elim tag [
   | Walk id k client ↦ IsRebuiltFor i walks history unanswered p client id
   | Load key client ↦ IsLoadedFor i walks history unanswered p client key
-  | Client client seq ↦ IsAdmitted i history unanswered p client p.item.shown
+  | Client client seq ↦ IsAdmitted i history unanswered (stands_before p) client p.item.shown
 ]
 
 -- ---- tracked state
@@ -199,9 +199,9 @@ EndsUsed (b ∷ c ∷ d ∷ boots) = EndsUsed (c ∷ d ∷ boots)
 abbrev pub last_point : ℕ → List Item → ℕ
 last_point asked items = fold (λ asked item. item.points) asked items
 
--- a boot that stopped did so right after the commit of its last item: the stop is the next point
+-- a boot that stopped did so right after the commit of its last item
 abbrev pub IsQuietStop : Facts → List Item → Option ℕ → Type 0
-IsQuietStop facts items stop = IfSome stop (λ s. (ends_committed facts items ≡ true) × (s ≡ asked_after (last_point 0 items) 1))
+IsQuietStop facts items stop = IfSome stop (IsAfterCommit facts items)
 
 -- the last boot, if it stopped, did so
 abbrev pub EndsQuiet : Facts → List Boot → Type 0

@@ -11,6 +11,7 @@ use Rattle.sg_facts.specs.declared.row.Row.{Row}
 use Rattle.sg_facts.specs.declared.tables.WalkLine.{WalkLine}
 use Rattle.sg_facts.specs.declared.trace.Item.{Item}
 use Rattle.sg_facts.specs.Alike.{HasAlike, IsAlike, SameFile, named}
+use Rattle.sg_facts.specs.Facts.{Facts}
 use Rattle.sg_facts.specs.Guard.{guard}
 use Rattle.sg_facts.specs.Interface.{Declared}
 use Rattle.sg_facts.specs.Laws.{is_none}
@@ -51,6 +52,27 @@ find_told f g (a ∷ ids) each = ap (λ b. cond b (Some a) (find f ids)) each.0 
 each_mapped : (P : ℕ → Type 0) (rows : List Row) → Each (λ r. P r.id) rows → Each P (map (λ r. r.id) rows)
 each_mapped P [] each = tt
 each_mapped P (r ∷ rows) each = (each.0, each_mapped P rows each.1)
+
+-- a call is under way after all entries that have items, where its client's entries have smaller numbers
+pub under_way_now : (facts : Facts) (history : List Entry) (u : List Call) (before : Entry → Bool) (client : ℕ) (call : Call) → IsCallOf history u client call
+    → Each (λ e. (e.call.client == client) ≡ true → e.call.seq < call.seq) history → Each (λ e. (is_by_guard e.reply || before e) ≡ true) history → IsMade facts history u before client call
+under_way_now facts history u before client call its seqs all = record {
+  its = its;
+  above = of_below facts before client call.seq history (above history seqs);
+  first = of_from before client call.seq false history (first history all);
+}
+  where
+    above : (h : List Entry) → Each (λ e. (e.call.client == client) ≡ true → e.call.seq < call.seq) h → AreBelow facts before client call.seq h
+    above [] each = tt
+    above (e ∷ h) each = (when_own (e.call.client == client) (is_answered_before facts before e h) _ each.0, above h each.1)
+
+    first : (h : List Entry) → Each (λ e. (is_by_guard e.reply || before e) ≡ true) h → AreFrom before client call.seq false h
+    first [] each = tt
+    first (e ∷ h) each =
+        let now : is_answered_later before e ≡ false = ap not each.0 in (
+          subst (λ b. When ((e.call.client == client) && b) (call.seq ≤ e.call.seq)) (sym now) (when_not (e.call.client == client) _),
+          subst (λ b. AreFrom before client call.seq b h) (sym now) (first h each.1),
+        )
 
 module _ (i : Declared) (walks : List WalkLine) (history : List Entry) (u : List Call) (older front : List Item) (item : Item) (names : List (ℕ × ℕ)) (told : ℕ → Told) (present : List ℕ → Bool) (o : Object)
     (is_o : object_of i.facts history ≡ o) (sound : IsSound i.facts o) (are : Ascends 0 o.given o.rows) (none : IsOfNoEntry item history) (items : HaveItems (older ++ front) history)
@@ -117,31 +139,12 @@ module _ (i : Declared) (walks : List WalkLine) (history : List Entry) (u : List
       at false false i is has = absurd (cc has)
 
   pub under_way_last : (client : ℕ) (call : Call) → IsCallOf history u client call → Each (λ e. (e.call.client == client) ≡ true → e.call.seq < call.seq) history
-      → IsMade i.facts history u (last_place older front item) client call
-  under_way_last client call its seqs = record {
-    its = its;
-    above = of_below i.facts p client call.seq history (above history seqs);
-    first = of_from p client call.seq false history (first history (stands_all history none items));
-  }
-    where
-      p : Position
-      p = last_place older front item
-
-      above : (h : List Entry) → Each (λ e. (e.call.client == client) ≡ true → e.call.seq < call.seq) h → AreBelow i.facts p client call.seq h
-      above [] each = tt
-      above (e ∷ h) each = (when_own (e.call.client == client) (is_answered_before i.facts p e h) _ each.0, above h each.1)
-
-      first : (h : List Entry) → Each (λ e. (is_by_guard e.reply || stands_before p e) ≡ true) h → AreFrom p client call.seq false h
-      first [] each = tt
-      first (e ∷ h) each =
-          let now : is_answered_later p e ≡ false = ap not each.0 in (
-            subst (λ b. When ((e.call.client == client) && b) (call.seq ≤ e.call.seq)) (sym now) (when_not (e.call.client == client) _),
-            subst (λ b. AreFrom p client call.seq b h) (sym now) (first h each.1),
-          )
+      → IsMade i.facts history u (stands_before (last_place older front item)) client call
+  under_way_last client call its seqs = under_way_now i.facts history u (stands_before (last_place older front item)) client call its seqs (stands_all history none items)
 
   -- which the guard lets pass
   pub admitted_last : (client : ℕ) (call : Call) → IsCallOf history u client call → Each (λ e. (e.call.client == client) ≡ true → e.call.seq < call.seq) history → guard i o call ≡ None
-      → IsAdmitted i history u (last_place older front item) client call
+      → IsAdmitted i history u (stands_before (last_place older front item)) client call
   admitted_last client call its seqs passes = record { under_way = under_way_last client call its seqs; guarded = ap (λ x. guard i x call) object_is ∙ passes }
 
   -- ---- a call of a walk

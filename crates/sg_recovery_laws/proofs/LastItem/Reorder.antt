@@ -171,7 +171,7 @@ module _ (h es : List Entry) (e : Entry) (none : NoneBy e.call.client es) where
 
     seen_front : (xs : List Entry) → list_any seen (xs ++ (es ++ e ∷ [])) ≡ list_any seen (xs ++ e ∷ es)
     seen_front [] =
-        any_push facts p es e isn't ∙ none_seen es hidden
+        any_push facts (stands_before p) es e isn't ∙ none_seen es hidden
         ∙ sym (ap (λ b. (is_visible facts e.call.fun && b) || list_any seen es) isn't ∙ at (is_visible facts e.call.fun) ∙ none_seen es hidden)
       where
         at : (v : Bool) → (v && false) || list_any seen es ≡ list_any seen es
@@ -179,22 +179,22 @@ module _ (h es : List Entry) (e : Entry) (none : NoneBy e.call.client es) where
         at false = refl
     seen_front (x ∷ xs) = ap (λ b. seen x || b) (seen_front xs)
 
-    below_front : (client seq : ℕ) (xs : List Entry) → AreBelow facts p client seq (xs ++ (es ++ e ∷ [])) → AreBelow facts p client seq (xs ++ e ∷ es)
+    below_front : (client seq : ℕ) (xs : List Entry) → AreBelow facts (stands_before p) client seq (xs ++ (es ++ e ∷ [])) → AreBelow facts (stands_before p) client seq (xs ++ e ∷ es)
     below_front client seq [] are = (
       subst (λ b. When ((e.call.client == client) && (b || list_any seen es)) (e.call.seq < seq)) (sym isn't)
           (subst (λ b. When ((e.call.client == client) && b) (e.call.seq < seq)) (sym (none_seen es hidden)) (when_not (e.call.client == client) _)),
       rest es are,
     )
       where
-        rest : (ys : List Entry) → AreBelow facts p client seq (ys ++ e ∷ []) → AreBelow facts p client seq ys
+        rest : (ys : List Entry) → AreBelow facts (stands_before p) client seq (ys ++ e ∷ []) → AreBelow facts (stands_before p) client seq ys
         rest [] are = tt
-        rest (y ∷ ys) are = (subst (λ b. When ((y.call.client == client) && (stands_before p y || b)) (y.call.seq < seq)) (any_push facts p ys e isn't) are.0, rest ys are.1)
+        rest (y ∷ ys) are = (subst (λ b. When ((y.call.client == client) && (stands_before p y || b)) (y.call.seq < seq)) (any_push facts (stands_before p) ys e isn't) are.0, rest ys are.1)
     below_front client seq (x ∷ xs) are =
         (subst (λ b. When ((x.call.client == client) && (stands_before p x || b)) (x.call.seq < seq)) (seen_front xs) are.0, below_front client seq xs are.1)
 
-    from_all : (client seq : ℕ) (late : Bool) (ys : List Entry) → Each (λ x. (x.call.client == client) ≡ true → seq ≤ x.call.seq) ys → AreFrom p client seq late ys
+    from_all : (client seq : ℕ) (late : Bool) (ys : List Entry) → Each (λ x. (x.call.client == client) ≡ true → seq ≤ x.call.seq) ys → AreFrom (stands_before p) client seq late ys
     from_all client seq late [] all = tt
-    from_all client seq late (y ∷ ys) all = (when_own (y.call.client == client) (late || is_answered_later p y) _ all.0, from_all client seq (late || is_answered_later p y) ys all.1)
+    from_all client seq late (y ∷ ys) all = (when_own (y.call.client == client) (late || is_answered_later (stands_before p) y) _ all.0, from_all client seq (late || is_answered_later (stands_before p) y) ys all.1)
 
     less_late : (own a b c : Bool) (A : Type 0) → When (own && ((a || b) || c)) A → When (own && (a || c)) A
     less_late false a b c A is = tt
@@ -203,23 +203,23 @@ module _ (h es : List Entry) (e : Entry) (none : NoneBy e.call.client es) where
     less_late true false true false A is = tt
     less_late true false false c A is = is
 
-    own_late : (client seq : ℕ) (late : Bool) (ys : List Entry) → AreFrom p client seq late (ys ++ e ∷ []) → When ((e.call.client == client) && (late || is_answered_later p e)) (seq ≤ e.call.seq)
+    own_late : (client seq : ℕ) (late : Bool) (ys : List Entry) → AreFrom (stands_before p) client seq late (ys ++ e ∷ []) → When ((e.call.client == client) && (late || is_answered_later (stands_before p) e)) (seq ≤ e.call.seq)
     own_late client seq late [] are = are.0
     own_late client seq late (y ∷ ys) are =
-        less_late (e.call.client == client) late (is_answered_later p y) (is_answered_later p e) (seq ≤ e.call.seq) (own_late client seq (late || is_answered_later p y) ys are.1)
+        less_late (e.call.client == client) late (is_answered_later (stands_before p) y) (is_answered_later (stands_before p) e) (seq ≤ e.call.seq) (own_late client seq (late || is_answered_later (stands_before p) y) ys are.1)
 
     from_front : (client seq : ℕ) (late : Bool) (xs : List Entry) → Each (λ x. (x.call.client == client) ≡ true → seq ≤ x.call.seq) es
-        → AreFrom p client seq late (xs ++ (es ++ e ∷ [])) → AreFrom p client seq late (xs ++ e ∷ es)
-    from_front client seq late [] all are = (own_late client seq late es are, from_all client seq (late || is_answered_later p e) es all)
-    from_front client seq late (x ∷ xs) all are = (are.0, from_front client seq (late || is_answered_later p x) xs all are.1)
+        → AreFrom (stands_before p) client seq late (xs ++ (es ++ e ∷ [])) → AreFrom (stands_before p) client seq late (xs ++ e ∷ es)
+    from_front client seq late [] all are = (own_late client seq late es are, from_all client seq (late || is_answered_later (stands_before p) e) es all)
+    from_front client seq late (x ∷ xs) all are = (are.0, from_front client seq (late || is_answered_later (stands_before p) x) xs all are.1)
 
-    under_moved : (client : ℕ) (call : Call) → IsUnderWay facts (h ++ (es ++ e ∷ [])) u p client call → IsUnderWay facts (h ++ e ∷ es) u p client call
+    under_moved : (client : ℕ) (call : Call) → IsUnderWay facts (h ++ (es ++ e ∷ [])) u (stands_before p) client call → IsUnderWay facts (h ++ e ∷ es) u (stands_before p) client call
     under_moved client call w = record {
       its = record { its = w.its.its; made = contains_moved u call w.its.made };
-      above = of_below facts p client call.seq (h ++ e ∷ es) (below_front client call.seq h (below_of facts p client call.seq (h ++ (es ++ e ∷ [])) w.above));
-      first = of_from p client call.seq false (h ++ e ∷ es) (from_front client call.seq false h
+      above = of_below facts (stands_before p) client call.seq (h ++ e ∷ es) (below_front client call.seq h (below_of facts (stands_before p) client call.seq (h ++ (es ++ e ∷ [])) w.above));
+      first = of_from (stands_before p) client call.seq false (h ++ e ∷ es) (from_front client call.seq false h
           (each_map (λ x. IsLastCall (h ++ e ∷ es) u x.call) (λ x. (x.call.client == client) ≡ true → call.seq ≤ x.call.seq) es
-          (λ x last own. last call (contains_moved u call w.its.made) (same_client call.client x.call.client client w.its.its own)) last) (from_of p client call.seq false (h ++ (es ++ e ∷ [])) w.first));
+          (λ x last own. last call (contains_moved u call w.its.made) (same_client call.client x.call.client client w.its.its own)) last) (from_of (stands_before p) client call.seq false (h ++ (es ++ e ∷ [])) w.first));
     }
       where
         same_client : (a b c : ℕ) → a ≡ c → b == c ≡ true → a ≡ b

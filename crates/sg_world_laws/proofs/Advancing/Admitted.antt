@@ -11,7 +11,7 @@ use Rattle.sg_facts.specs.declared.entry.Entry.{Entry}
 use Rattle.sg_facts.specs.declared.trace.Item.{Item}
 use Rattle.sg_recovery_laws.specs.sg_hist.Recovered.{IsAdmitted}
 use Rattle.sg_recovery_laws.specs.sg_hist.Growing.{IsOfNoEntry}
-use Rattle.sg_recovery_laws.specs.sg_hist.Reading.{last_items, older_items}
+use Rattle.sg_recovery_laws.specs.sg_hist.Reading.{last_items, older_items, stands_before}
 use Rattle.sg_recovery_laws.proofs.Lists.{each_map}
 use Rattle.sg_recovery_laws.proofs.Objects.Apart.{Ascends}
 use Rattle.sg_recovery_laws.proofs.Objects.Room.{guard_after}
@@ -45,7 +45,7 @@ module _ (z : Setting) (set : IsSetting z) (w : WorldView) (b : Boot) (boots : L
       guard_after z.iface z.ask z.sound set.law (object_of z.iface.facts w.history) es call (good_now z set w b boots (Some v) stub k) (time_es z set w b boots (Some v) stub k es drawn)
       (wait_es z set w b boots (Some v) stub k es drawn) (none_es z set w b boots (Some v) stub k es drawn call let_in) let_in.passes.is_call.first let_in.passes.is_call.last let_in.guarded
 
-  pub admitted_es : IsAdmitted z.iface (w.history ++ es) (unanswered (standing w b boots (Some v))) (last_place (older_items [] (b ∷ boots)) (last_items (b ∷ boots)) item) call.client call
+  pub admitted_es : IsAdmitted z.iface (w.history ++ es) (unanswered (standing w b boots (Some v))) (stands_before (last_place (older_items [] (b ∷ boots)) (last_items (b ∷ boots)) item)) call.client call
   admitted_es =
       admitted_last z.iface z.walks (w.history ++ es) (unanswered (standing w b boots (Some v))) (older_items [] (b ∷ boots)) (last_items (b ∷ boots)) item stub.names stub.told stub.present
       (object_from z.iface.facts (object_of z.iface.facts w.history) es) known_item.object known_item.sound ascends_es none known_item.items known_item.read call.client call

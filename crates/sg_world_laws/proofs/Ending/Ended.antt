@@ -50,11 +50,11 @@ stop_noted (b ∷ []) item = refl
 stop_noted (b ∷ c ∷ []) item = refl
 stop_noted (b ∷ c ∷ d ∷ boots) item = stop_noted (c ∷ d ∷ boots) item
 
-last_point_noted : (asked : ℕ) (items : List Item) (item : Item) → last_point asked (items ++ item ∷ []) ≡ item.points
+pub last_point_noted : (asked : ℕ) (items : List Item) (item : Item) → last_point asked (items ++ item ∷ []) ≡ item.points
 last_point_noted asked [] item = refl
 last_point_noted asked (x ∷ items) item = last_point_noted x.points items item
 
-ends_noted : (facts : Facts) (items : List Item) (item : Item) → ends_committed facts (items ++ item ∷ []) ≡ is_visible_reply facts item
+pub ends_noted : (facts : Facts) (items : List Item) (item : Item) → ends_committed facts (items ++ item ∷ []) ≡ is_visible_reply facts item
 ends_noted facts [] item = refl
 ends_noted facts (x ∷ []) item = refl
 ends_noted facts (x ∷ y ∷ items) item = ends_noted facts (y ∷ items) item

@@ -24,7 +24,7 @@ returns-clause-played g c = λ ended its ends.
     let all = ends ∙ (c.requires.ends_so ∙ ap (λ (q : Playing). ends_from q.script 1 q.view.seats) (sym c.self.view_is)) in
     subst (λ (q : Playing). IsPlayed (stubs_of (setting_of g.S.Service.ask g.S.Service.sound g.S.Service.parts q.tables)) g.T.Stops.test q.script q.plan ended) c.self.view_is
     (played z g.T.Stops.test x.script x.world.plan x.world.view (lists_of x.given) x.passed x.last x.in_order c.self.invariant
-    (record { set = c.interface.ensures.set; legal = c.history.ensures.legal; recovering = c.trace.ensures.recovering; waits = c.history.ensures.waits; ending = c.trace.ensures.ending })
+    (record { set = c.interface.ensures.set; legal = c.history.ensures.legal; recovering = c.trace.ensures.recovering; waits = c.history.ensures.waits; ending = c.trace.ensures.ending; last = c.trace.ensures.last })
     settled nobody ended history run all (c.trace.ensures.recovered refused) c.trace.ensures.stopped)
 
 pub returns-clause-schedule : goal.returns-clause-schedule
@@ -38,5 +38,5 @@ returns-clause-schedule g c = λ ended its so.
     let run = its.1 ∙ ap (λ (q : Playing). q.view.run) (sym c.self.view_is) in
     subst (λ (q : Playing). FollowsSchedule q.tables.iface g.S.Service.ask q.script (run_of ended.trace) ended.history.items) c.self.view_is
     (follows_plain z g.T.Stops.test x.script x.world.plan x.world.view (lists_of x.given) x.passed x.last x.in_order c.self.invariant
-    (record { set = c.interface.ensures.set; legal = c.history.ensures.legal; recovering = c.trace.ensures.recovering; waits = c.history.ensures.waits; ending = c.trace.ensures.ending })
+    (record { set = c.interface.ensures.set; legal = c.history.ensures.legal; recovering = c.trace.ensures.recovering; waits = c.history.ensures.waits; ending = c.trace.ensures.ending; last = c.trace.ensures.last })
     settled nobody ordered ended history run)

@@ -4,10 +4,10 @@ use Rattle.sg_world.specs.Engines.Stubs.{stub_of}
 use Rattle.sg_replay.specs.sg_hist.Recovered.{AreInBoots, IsRecovered, struck_in}
 use Rattle.sg_replay.specs.sg_hist.Growing.{IsRecovering}
 use Rattle.sg_clients.specs.WorldView.{unanswered}
-use Rattle.sg_world.proofs.Recovered.{recovered_now, recovering_now, tested_now}
+use Rattle.sg_world.proofs.Recovered.{last_now, recovered_now, recovering_now, tested_now}
 use Rattle.sg_world.specs.Inners.{view_in}
 use Rattle.sg_world.specs.Worlded.{CountsAll, Worlded, setting_of}
-use Rattle.sg_world_laws.specs.Ending.{IsEnding}
+use Rattle.sg_world_laws.specs.Ending.{HasLastBoot, IsEnding}
 use Rattle.sg_world_laws.specs.Setting.{stubs_of}
 use Rattle.sg_world.proofs.world.World.trace.Goals as goal
 
@@ -34,6 +34,11 @@ returns-clause-stopped g c =
 
 pub returns-clause-points : goal.returns-clause-points
 returns-clause-points g c = subst (λ (y : Worlded). CountsAll (setting_of g.S.Service.ask g.S.Service.sound g.S.Service.parts y.tables) y.view) c.self.view_is c.self.invariant.1
+
+pub returns-clause-last : goal.returns-clause-last
+returns-clause-last g c =
+    let x = c.self.inside.inner in
+    subst (λ (y : Worlded). HasLastBoot y.view) c.self.view_is (last_now (setting_of g.S.Service.ask g.S.Service.sound g.S.Service.parts x.engine.tables) (view_in x) (stub_of x.engine) c.self.invariant.0.world.keeps)
 
 pub returns-clause-ending : goal.returns-clause-ending
 returns-clause-ending g c = subst (λ (y : Worlded). IsEnding (setting_of g.S.Service.ask g.S.Service.sound g.S.Service.parts y.tables) y.view) c.self.view_is c.self.invariant.2

@@ -1,0 +1,2 @@
+-- Stops, and the calls that asked for them.
+pub mod Striking
