@@ -5,7 +5,7 @@ ghost use Rattle.sg_check_statements.specs.Flaws.{wrong_fact};
 ghost use Rattle.sg_check_statements.specs.Inside.Pieces.{first_other, other_value};
 
 use sg_facts::{Shape, close_word, flag_word, parents_word};
-use sg_parse::{Facts, Name};
+use sg_parse::{Facts, Spelled};
 
 /// The place of the first fact that isn't the service's.
 pub fn wrong_fact(shape: &Shape, facts: &Facts) -> Option<usize>
@@ -28,7 +28,7 @@ fn first_other(shape: &Shape, facts: &Facts) -> Option<usize>
 }
 
 // The place of a value that isn't this word.
-fn other_value(value: &Name, word: &[u8]) -> Option<usize>
+fn other_value(value: &Spelled, word: &[u8]) -> Option<usize>
     ensures { result ≡ other_value value.now word.now }
 {
     if value.slice == word {

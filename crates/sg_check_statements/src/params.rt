@@ -9,7 +9,7 @@ ghost use Rattle.sg_check_statements.specs.Params.{is_of_kind, fit_params, has_w
 use crate::funs::fun_of_name;
 use crate::judge::{Judge, first_flaw};
 use sg_facts::{FunShape, Kind, Shape};
-use sg_parse::{Name, Param, Statement, TypeName};
+use sg_parse::{Param, Spelled, Statement, TypeName};
 
 /// Looks for prototypes whose parameters aren't their function's.
 #[derive(Clone, Copy)]
@@ -80,7 +80,7 @@ fn is_client_type(ty: &TypeName) -> bool
 }
 
 /// Whether a name, where there is one, is this word.
-pub fn has_word(name: &Option<Name>, word: &[u8]) -> bool
+pub fn has_word(name: &Option<Spelled>, word: &[u8]) -> bool
     ensures { result ≡ has_word name.now word.now }
 {
     match name {

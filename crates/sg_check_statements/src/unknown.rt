@@ -10,7 +10,7 @@ use crate::funs::fun_number;
 use crate::judge::{Judge, first_flaw};
 use crate::protos::Protos;
 use sg_facts::{NoMemory, Shape};
-use sg_parse::{Name, Statement};
+use sg_parse::{Spelled, Statement};
 use std::alloc::Global;
 
 /// Looks for names of functions that have no prototype, and for prototypes of functions that the service hasn't.
@@ -40,7 +40,7 @@ impl Judge for Unknown<'_, '_, '_> {
 }
 
 // The place of the name of a function that has no prototype.
-fn bare(protos: &Protos, name: &Name) -> Option<usize>
+fn bare(protos: &Protos, name: &Spelled) -> Option<usize>
     ensures { result ≡ then_some (not (has_proto protos.now name.now.bytes)) name.now.at }
 {
     if protos.has(name.slice) {
@@ -51,7 +51,7 @@ fn bare(protos: &Protos, name: &Name) -> Option<usize>
 }
 
 // The place of a second name, where a word says that this is a function's, and the function has no prototype.
-fn bare_second(protos: &Protos, word: &[u8], name: &Name) -> Option<usize>
+fn bare_second(protos: &Protos, word: &[u8], name: &Spelled) -> Option<usize>
     ensures { result ≡ then_some (names_two word.now && not (has_proto protos.now name.now.bytes)) name.now.at }
 {
     if names_two(word) {

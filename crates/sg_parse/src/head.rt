@@ -9,8 +9,9 @@ ghost use Rattle.sg_lex.specs.Inside.Automata.{read, Leads};
 use crate::error::ParseError;
 use crate::reader::{fixed, forked, mark, two, word_of};
 use crate::tokens::Reader;
-use crate::tree::{Facts, Name};
+use crate::tree::Facts;
 use crate::words::Sort;
+use sg_lex::Spelled;
 
 /// The facts at the head of a text, of whichever version the text is.
 pub fn facts<'a>(reader: &mut Reader<'a>) -> Result<Facts<'a>, ParseError>
@@ -87,13 +88,13 @@ fn version_2(reader: &mut Reader<'_>) -> Result<(), ParseError>
 // The facts that texts of both versions have, as in `Facts`.
 #[derive(Drop)]
 struct SharedFacts<'a> {
-    service: Name<'a>,
-    parent: Name<'a>,
-    close: Name<'a>,
-    global: Name<'a>,
-    block: Name<'a>,
-    has_data: Name<'a>,
-    resc_data: Name<'a>,
+    service: Spelled<'a>,
+    parent: Spelled<'a>,
+    close: Spelled<'a>,
+    global: Spelled<'a>,
+    block: Spelled<'a>,
+    has_data: Spelled<'a>,
+    resc_data: Spelled<'a>,
 }
 
 // The facts that texts of both versions have.
@@ -120,7 +121,7 @@ fn shared_facts<'a>(reader: &mut Reader<'a>) -> Result<SharedFacts<'a>, ParseErr
 }
 
 // A fact with the comma after it.
-fn fact<'a>(reader: &mut Reader<'a>, what: &[u8], sort: Sort) -> Result<Name<'a>, ParseError>
+fn fact<'a>(reader: &mut Reader<'a>, what: &[u8], sort: Sort) -> Result<Spelled<'a>, ParseError>
     ensures { (go : Named → State) → Leads trees (read trees (fact what.now sort comma go) reader.old) result go reader.new }
 {
     let value = value(reader, what, sort)?;
@@ -129,7 +130,7 @@ fn fact<'a>(reader: &mut Reader<'a>, what: &[u8], sort: Sort) -> Result<Name<'a>
 }
 
 // A fact: its word, and its value of this sort.
-fn value<'a>(reader: &mut Reader<'a>, what: &[u8], sort: Sort) -> Result<Name<'a>, ParseError>
+fn value<'a>(reader: &mut Reader<'a>, what: &[u8], sort: Sort) -> Result<Spelled<'a>, ParseError>
     ensures { (go : Named → State) → Leads trees (read trees (due (word what.now) (due equals (want sort go))) reader.old) result go reader.new }
 {
     fixed(reader, what)?;

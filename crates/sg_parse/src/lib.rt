@@ -1,7 +1,7 @@
 //! The interface language: the grammar, with the tree of a text, and the parser, which answers with that tree or with the
 //! place at which a text ceases to be one.
 //!
-//! - `tree`: a text's tree (`Tree`), whose names are lent from the text (`Name`)
+//! - `tree`: a text's tree (`Tree`), whose names are lent from the text (`Spelled`)
 //! - `words`: the words that the grammar keeps for itself
 //! - `error`: why a text has no tree (`ParseError`)
 //! - `laws`: a sentence has one tree, and a text one answer
@@ -26,8 +26,6 @@ mod words;
 pub use error::ParseError;
 pub use laws::{one_answer, one_tree};
 pub use parser::parse;
-pub use sg_lex::{LexFault, Lexer, TokenKind, first_token};
-pub use tree::{
-    Facts, Name, NameList, Param, ParamList, Ret, Statement, StatementList, Tree, TypeName,
-};
+pub use sg_lex::{LexFault, Lexer, Spelled, SpelledList, TokenKind, first_token};
+pub use tree::{Facts, Param, ParamList, Ret, Statement, StatementList, Tree, TypeName};
 pub use words::Sort;

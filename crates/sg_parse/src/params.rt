@@ -11,9 +11,10 @@ ghost use Rattle.sg_parse.specs.Inside.{either_of};
 use crate::error::ParseError;
 use crate::reader::{mark, take_mark, take_word, word_of};
 use crate::tokens::Reader;
-use crate::tree::{Name, Param, ParamList};
+use crate::tree::{Param, ParamList};
 use crate::types::{SpelledType, declared, spelling};
 use crate::words::Sort;
+use sg_lex::Spelled;
 use std::alloc::Global;
 
 /// The parameters after the bracket that opens them, at least one, and the bracket that closes them.
@@ -60,7 +61,7 @@ fn after_type<'a>(
 
 /// The form of a parameter, if one comes.
 #[tactic(auto, using(crate::proofs::ByToken::form_came, crate::proofs::ByToken::form_missing))]
-fn form<'a>(reader: &mut Reader<'a>) -> Result<Option<Name<'a>>, ParseError>
+fn form<'a>(reader: &mut Reader<'a>) -> Result<Option<Spelled<'a>>, ParseError>
     ensures leads { (k : Named → State) (s : State) → Leads trees (read trees (either k s) reader.old) result (either_of k s) reader.new }
     ensures fewer { OnOk result (length reader.new.rest ≤ length reader.old.rest) }
 {
@@ -86,7 +87,7 @@ fn unformed<'a>(reader: &mut Reader<'a>, spelled: SpelledType<'a>) -> Result<Par
 fn formed<'a>(
     reader: &mut Reader<'a>,
     spelled: SpelledType<'a>,
-    form: Name<'a>,
+    form: Spelled<'a>,
 ) -> Result<Param<'a>, ParseError>
     ensures leads { (params : List Declared) (k : List Declared → State) →
         Leads trees (read trees (due open_bracket (want a_name (λ n. due close_bracket

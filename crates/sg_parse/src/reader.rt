@@ -10,9 +10,8 @@ ghost use Rattle.sg_parse.specs.Inside.{named_token, one_of};
 
 use crate::error::ParseError;
 use crate::tokens::{Reader, is_kept_word};
-use crate::tree::Name;
 use crate::words::Sort;
-use sg_lex::{IsMark, IsWord, LexFault, Token, TokenKind, TokenTest};
+use sg_lex::{IsMark, IsWord, LexFault, Spelled, Token, TokenKind, TokenTest};
 
 /// Takes the next token; None at the end of the text. A byte that begins none is a `Lex` error.
 pub fn next_token<'a>(reader: &mut Reader<'a>) -> Result<Option<Token<'a>>, ParseError>
@@ -25,7 +24,7 @@ pub fn next_token<'a>(reader: &mut Reader<'a>) -> Result<Option<Token<'a>>, Pars
 }
 
 /// Takes the next token where it is a word of this sort; None, and nothing is taken, where it isn't or the text ends.
-pub fn take_word<'a>(reader: &mut Reader<'a>, sort: Sort) -> Result<Option<Name<'a>>, ParseError>
+pub fn take_word<'a>(reader: &mut Reader<'a>, sort: Sort) -> Result<Option<Spelled<'a>>, ParseError>
     ensures word { IfOk result (λ word. MatchOption word ((reader.new ≡ reader.old) × Off (has_sort sort) reader.old.rest)
         (λ name. (reader.old.rest ≡ answered (named_token name) ∷ reader.new.rest) × (is_of sort name.bytes ≡ true))) }
     ensures fault { IfErr result (λ error. (s : State) → read trees s reader.old ≡ Err error) }
@@ -100,7 +99,7 @@ pub fn two(reader: &mut Reader<'_>) -> Result<(), ParseError>
 
 /// Takes a word of this sort.
 #[tactic(auto, using(crate::proofs::ByToken::word_came, crate::proofs::ByToken::word_missing))]
-pub fn word_of<'a>(reader: &mut Reader<'a>, sort: Sort) -> Result<Name<'a>, ParseError>
+pub fn word_of<'a>(reader: &mut Reader<'a>, sort: Sort) -> Result<Spelled<'a>, ParseError>
     ensures leads { (k : Named → State) → Leads trees (read trees (want sort k) reader.old) result k reader.new }
     ensures fewer { OnOk result (length reader.new.rest ≤ length reader.old.rest) }
 {
@@ -156,10 +155,10 @@ fn fault_error(fault: LexFault) -> ParseError
 }
 
 /// The name that a token is.
-pub fn name_of(token: Token<'_>) -> Name<'_>
+pub fn name_of(token: Token<'_>) -> Spelled<'_>
     ensures { result ≡ named_by token.entry }
 {
-    Name {
+    Spelled {
         slice: token.slice,
         at: token.at,
     }

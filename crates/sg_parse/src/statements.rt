@@ -12,10 +12,10 @@ use crate::error::ParseError;
 use crate::params::params;
 use crate::reader::{has_sort, is_kept, mark, name_of, next_token, word_of};
 use crate::tokens::Reader;
-use crate::tree::{Facts, Name, Ret, Statement, StatementList, Tree, TypeName};
+use crate::tree::{Facts, Ret, Statement, StatementList, Tree, TypeName};
 use crate::types::{declared, spelling};
 use crate::words::Sort;
-use sg_lex::Token;
+use sg_lex::{Spelled, Token};
 use std::alloc::Global;
 
 /// The statements after the facts, up to the end of the text.
@@ -67,7 +67,7 @@ fn statement<'a>(
 }
 
 /// A statement over one function, after its word.
-fn one<'a>(reader: &mut Reader<'a>, word: Name<'a>) -> Result<Statement<'a>, ParseError>
+fn one<'a>(reader: &mut Reader<'a>, word: Spelled<'a>) -> Result<Statement<'a>, ParseError>
     ensures leads { (go : Stated → State) → Leads trees (read trees (one_rest go word.entry) reader.old) result go reader.new }
     ensures fewer { OnOk result (length reader.new.rest ≤ length reader.old.rest) }
 {
@@ -79,7 +79,7 @@ fn one<'a>(reader: &mut Reader<'a>, word: Name<'a>) -> Result<Statement<'a>, Par
 }
 
 /// A statement over two names, after its word.
-fn two<'a>(reader: &mut Reader<'a>, word: Name<'a>) -> Result<Statement<'a>, ParseError>
+fn two<'a>(reader: &mut Reader<'a>, word: Spelled<'a>) -> Result<Statement<'a>, ParseError>
     ensures leads { (go : Stated → State) → Leads trees (read trees (two_rest go word.entry) reader.old) result go reader.new }
     ensures fewer { OnOk result (length reader.new.rest ≤ length reader.old.rest) }
 {
@@ -100,7 +100,7 @@ fn two<'a>(reader: &mut Reader<'a>, word: Name<'a>) -> Result<Statement<'a>, Par
 fn plain<'a>(
     reader: &mut Reader<'a>,
     alloc: Global,
-    first: Name<'a>,
+    first: Spelled<'a>,
 ) -> Result<Statement<'a>, ParseError>
     ensures leads { (go : Stated → State) → Leads trees (read trees (plain_rest go first.entry) reader.old) result go reader.new }
     ensures fewer { OnOk result (length reader.new.rest ≤ length reader.old.rest) }
@@ -144,7 +144,7 @@ fn sub<'a>(reader: &mut Reader<'a>, alloc: Global) -> Result<Statement<'a>, Pars
 fn returned<'a>(
     reader: &mut Reader<'a>,
     alloc: Global,
-) -> Result<(TypeName<'a>, Name<'a>), ParseError>
+) -> Result<(TypeName<'a>, Spelled<'a>), ParseError>
     ensures leads { (go : Stated → State) (make : Typed → Named → Returned) →
         Leads trees (read trees (returned_rest go make) reader.old) result (λ r. want a_name (λ n. proto_rest go (make r.0 r.1) n)) reader.new }
     ensures fewer { OnOk result (length reader.new.rest ≤ length reader.old.rest) }
@@ -164,7 +164,7 @@ fn proto<'a>(
     reader: &mut Reader<'a>,
     alloc: Global,
     ret: Ret<'a>,
-    name: Name<'a>,
+    name: Spelled<'a>,
 ) -> Result<Statement<'a>, ParseError>
     ensures leads { (go : Stated → State) → Leads trees (read trees (proto_rest go ret.entry name.entry) reader.old) result go reader.new }
     ensures fewer { OnOk result (length reader.new.rest ≤ length reader.old.rest) }

@@ -8,17 +8,18 @@ ghost use Rattle.sg_lex.specs.Inside.Automata.{read, Leads};
 use crate::error::ParseError;
 use crate::reader::{take_mark, take_word, unexpected, word_of};
 use crate::tokens::Reader;
-use crate::tree::{Name, NameList, TypeName};
+use crate::tree::TypeName;
 use crate::words::Sort;
 use sg_base::NoMemory;
+use sg_lex::{Spelled, SpelledList};
 use std::alloc::Global;
 
 /// The names of a type, the last apart, and the number of its stars. Without stars the last name may be the one that is
 /// declared.
 #[derive(Debug, Drop)]
 pub struct SpelledType<'a> {
-    pub front: NameList<'a>,
-    pub last: Name<'a>,
+    pub front: SpelledList<'a>,
+    pub last: Spelled<'a>,
     pub stars: usize,
 }
 
@@ -40,7 +41,7 @@ impl<'a> SpelledType<'a> {
 pub fn spelling<'a>(
     reader: &mut Reader<'a>,
     alloc: Global,
-    first: Name<'a>,
+    first: Spelled<'a>,
 ) -> Result<SpelledType<'a>, ParseError>
     ensures leads { (k : List Named → Named → ℕ → State) →
         Leads trees (read trees (names [] first.entry k) reader.old) result (λ s. k s.front s.last s.stars) reader.new }
@@ -56,13 +57,13 @@ pub fn spelling<'a>(
 fn names<'a>(
     reader: &mut Reader<'a>,
     alloc: Global,
-    first: Name<'a>,
-) -> Result<(NameList<'a>, Name<'a>), ParseError>
+    first: Spelled<'a>,
+) -> Result<(SpelledList<'a>, Spelled<'a>), ParseError>
     ensures leads { (k : List Named → Named → ℕ → State) →
         Leads trees (read trees (names [] first.entry k) reader.old) result (λ r. stars r.0 r.1 0 k) reader.new }
     ensures fewer { OnOk result (length reader.new.rest ≤ length reader.old.rest) }
 {
-    let mut front = NameList::new(alloc);
+    let mut front = SpelledList::new(alloc);
     let mut last = first;
     'names: while let Some(name) = take_word(reader, Sort::Name)? {
         front.push(last)?;
@@ -92,7 +93,7 @@ fn stars(reader: &mut Reader<'_>) -> Result<usize, ParseError>
 pub fn declared<'a>(
     reader: &mut Reader<'a>,
     spelled: SpelledType<'a>,
-) -> Result<(TypeName<'a>, Name<'a>), ParseError>
+) -> Result<(TypeName<'a>, Spelled<'a>), ParseError>
     ensures leads { (go : Typed → Named → State) →
         Leads trees (read trees (declared go spelled.entry.front spelled.entry.last spelled.entry.stars) reader.old) result (λ r. go r.0 r.1) reader.new }
     ensures fewer { OnOk result (length reader.new.rest ≤ length reader.old.rest) }

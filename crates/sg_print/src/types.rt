@@ -6,10 +6,10 @@ ghost use Rattle.sg_print.specs.Inside.Pieces.{names_text, type_before_comma, pa
 
 use crate::parts::{put, put_stars};
 use sg_facts::{Bytes, NoMemory};
-use sg_parse::{Name, Param, Ret, TypeName};
+use sg_parse::{Param, Ret, Spelled, TypeName};
 
 // Adds names at the end, with a space between two.
-fn put_names(out: &mut Bytes, names: &[Name<'_>]) -> Result<(), NoMemory>
+fn put_names(out: &mut Bytes, names: &[Spelled<'_>]) -> Result<(), NoMemory>
     ensures { OnOk result (out.new ≡ out.old ++ names_text names.now) }
 {
     let Some((first, more)) = names.split_first() else {
@@ -73,7 +73,7 @@ fn put_returned(
     out: &mut Bytes,
     what: &[u8],
     ty: &TypeName<'_>,
-    field: &Name<'_>,
+    field: &Spelled<'_>,
 ) -> Result<(), NoMemory>
     ensures { OnOk result (out.new ≡ out.old ++ returned_text what.now ty.now field.now) }
 {

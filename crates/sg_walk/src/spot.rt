@@ -1,10 +1,11 @@
 // Where a walk has come to.
 ghost use Rattle.std.specs.Prelude.{◌≡◌, ◌≤◌, length, map};
+ghost use Rattle.sg_facts.specs.Limits.{most_fields};
 ghost use Rattle.sg_facts.specs.Walks.{mark_after, marks_after};
 ghost use Rattle.sg_facts.specs.Inside.Walking.{restores_field};
 ghost use Rattle.sg_walk.specs.Inside.Spots.{known_of, shown_marks, restores_number};
 
-use sg_facts::Effect;
+use sg_facts::{Effect, MOST_FIELDS};
 
 /// What is known of a field when a walk has come so far.
 #[derive(Clone, Copy, Debug, PartialEq, Eq, Hash)]
@@ -17,11 +18,11 @@ pub enum FieldState {
     Unknown,
 }
 
-/// A state, and a mark for each of at most 8 fields; those past the last are `Unset`.
+/// A state, and a mark for each of at most `MOST_FIELDS` fields; those past the last are `Unset`.
 #[derive(Clone, Copy, Debug, PartialEq, Eq, Hash)]
 pub struct Spot {
     pub state: u8,
-    pub marks: [FieldState; 8],
+    pub marks: [FieldState; MOST_FIELDS],
 }
 
 /// The state that is sought, and the number of the set of fields.
@@ -61,8 +62,12 @@ impl FieldState {
 }
 
 /// The marks after a function's effects, where rows have so many fields.
-pub fn marked(marks: [FieldState; 8], count: usize, effects: &[(u8, Effect)]) -> [FieldState; 8]
-    requires { count ≤ 8 }
+pub fn marked(
+    marks: [FieldState; MOST_FIELDS],
+    count: usize,
+    effects: &[(u8, Effect)],
+) -> [FieldState; MOST_FIELDS]
+    requires { count ≤ most_fields }
     ensures { shown_marks count result ≡ marks_after (map (λ p. (p.0, p.1)) effects.now) (shown_marks count marks) }
 {
     let mut marked = marks;

@@ -6,7 +6,7 @@ ghost use Rattle.sg_facts.specs.Inside.Walking.{may_begin, may_go_on, first_spot
 ghost use Rattle.sg_walk.specs.Inside.Spots.{shown, shown_marks, is_goal};
 
 use crate::spot::{FieldState, Goal, Spot, marked, restores_number};
-use sg_facts::Interface;
+use sg_facts::{Interface, MOST_FIELDS};
 
 /// Where a walk has come to after its creation; None exactly where no walk begins with this function.
 pub fn begin(iface: &Interface, made: u8) -> Option<Spot>
@@ -55,11 +55,11 @@ pub fn is_goal(iface: &Interface, spot: Spot, goal: Goal) -> bool
 }
 
 // The marks where nothing is set yet.
-fn none_set(iface: &Interface) -> [FieldState; 8]
+fn none_set(iface: &Interface) -> [FieldState; MOST_FIELDS]
     requires { HasFewFields iface.now }
     ensures { shown_marks (length iface.now.facts.fields) result ≡ map (λ f. unset) iface.now.facts.fields }
 {
-    [FieldState::Unset; 8]
+    [FieldState::Unset; MOST_FIELDS]
 }
 
 // The number of fields of a row.
