@@ -93,13 +93,20 @@ no_more interfaces merged client [] calls are = omega arith
 no_more interfaces merged client (e ∷ es) [] are = absurd are
 no_more interfaces merged client (e ∷ es) (c ∷ calls) are = omega (arith, no_more interfaces merged client es calls are.1)
 
--- the last of them is of the member of its call
-pub last_member : (interfaces : List Declared) (merged : List MultiEntry) (client : ℕ) (front : List MultiEntry) (x : MultiEntry) (calls : List MultiCall) (written : MultiCall)
-    → AreFirstMultiCalls interfaces merged client (front ++ x ∷ []) calls → slice_get calls (length front) ≡ Some written → x.member ≡ written.member
-last_member interfaces merged client [] x [] written are there = absurd (cc there)
-last_member interfaces merged client [] x (c ∷ calls) written are there = let same : c ≡ written = cc there in are.0.its_member ∙ ap (λ w. w.member) same
-last_member interfaces merged client (e ∷ front) x [] written are there = absurd are
-last_member interfaces merged client (e ∷ front) x (c ∷ calls) written are there = last_member interfaces merged client front x calls written are.1 there
+-- each of them is of the member of its call
+pub at_its_member : (interfaces : List Declared) (merged : List MultiEntry) (client : ℕ) (front : List MultiEntry) (x : MultiEntry) (rest : List MultiEntry) (calls : List MultiCall) (written : MultiCall)
+    → AreFirstMultiCalls interfaces merged client (front ++ x ∷ rest) calls → slice_get calls (length front) ≡ Some written → x.member ≡ written.member
+at_its_member interfaces merged client [] x rest [] written are there = absurd (cc there)
+at_its_member interfaces merged client [] x rest (c ∷ calls) written are there = let same : c ≡ written = cc there in are.0.its_member ∙ ap (λ w. w.member) same
+at_its_member interfaces merged client (e ∷ front) x rest [] written are there = absurd are
+at_its_member interfaces merged client (e ∷ front) x rest (c ∷ calls) written are there = at_its_member interfaces merged client front x rest calls written are.1 there
+
+-- and so are those of a front
+pub first_front : (interfaces : List Declared) (merged : List MultiEntry) (client : ℕ) (front rest : List MultiEntry) (calls : List MultiCall) → AreFirstMultiCalls interfaces merged client (front ++ rest) calls
+    → AreFirstMultiCalls interfaces merged client front calls
+first_front interfaces merged client [] rest calls are = tt
+first_front interfaces merged client (e ∷ front) rest [] are = absurd are
+first_front interfaces merged client (e ∷ front) rest (c ∷ calls) are = (are.0, first_front interfaces merged client front rest calls are.1)
 
 -- ---- what was handed over
 

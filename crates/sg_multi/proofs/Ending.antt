@@ -1,5 +1,5 @@
 -- What a play over several services promises, where nobody can take a turn.
-use Rattle.std.proofs.Common.{◌≡◌, ◌≢◌, ℕ, zero, suc, ◌+◌, ◌-◌, ◌<◌, ◌≤◌, Bool, true, false, cond, not, List, [], ◌∷◌, ◌++◌, Some, None, filter, flat_map, length, map, refl, sym, ◌∙◌, ap, subst, arith, append-nil, append_assoc}
+use Rattle.std.proofs.Common.{◌≡◌, ◌≢◌, ℕ, zero, suc, ◌+◌, ◌-◌, ◌<◌, ◌≤◌, Bool, true, false, cond, not, List, [], ◌∷◌, ◌++◌, Some, None, filter, flat_map, length, map, take, refl, sym, ◌∙◌, ap, subst, arith, append-nil, append_assoc}
 use Rattle.std.specs.Prelude.{◌==◌, ◌&&◌, ◌||◌, nat_le, nat_lt, slice_get, unwrap_or}
 use Rattle.std.specs.List.{list_all, list_any}
 use Rattle.std.specs.Option.{option_map_or}
@@ -18,21 +18,22 @@ use Rattle.sg_multi.proofs.sg_sim.sg_play.Ends.{IsOver, over_by}
 use Rattle.sg_multi.proofs.sg_sim.sg_play.Striking.Striking.{striking_over}
 use Rattle.sg_multi.proofs.sg_sim.sg_play.Waking.Waking.{waking_woken}
 use Rattle.sg_multi.proofs.sg_sim.sg_play.sg_world.sg_world_laws.sg_recovery_laws.Lists.{each_append}
-use Rattle.sg_multi.specs.Members.{kind_in, setting_by, setting_in, view_in, world_in}
+use Rattle.sg_multi.specs.Members.{setting_in, view_in, world_in}
 use Rattle.sg_multi.specs.declared.member.Member.{Member}
 use Rattle.sg_multi.specs.sg_sim.Played.{IsOfWorld}
 use Rattle.sg_multi.specs.sg_sim.sg_plain.Calls.{ascending_from, most_client}
-use Rattle.sg_multi.specs.sg_sim.sg_plain.Plain.{IsPlay}
+use Rattle.sg_multi.specs.sg_sim.sg_plain.Plain.{IsPlay, first_stage, stage_from}
 use Rattle.sg_multi.specs.sg_sim.sg_plain.Playing.Callers.{is_receipted}
 use Rattle.sg_multi.specs.sg_sim.sg_plain.Playing.Given.{given_in}
 use Rattle.sg_multi.specs.sg_sim.sg_plain.Playing.Ends.{ends_from}
 use Rattle.sg_multi.specs.sg_sim.sg_plain.Playing.Turns.{NobodyGoes, may_go}
-use Rattle.sg_multi.specs.sg_sim.sg_plain.Promises.{AreWoken}
+use Rattle.sg_multi.specs.sg_sim.sg_plain.Promises.{AreWoken, IsSetupFirst}
 use Rattle.sg_multi.specs.sg_sim.sg_play.Recovering.{RecoversSoFar}
 use Rattle.sg_multi.specs.sg_sim.sg_play.sg_hist.Clients.{AreNumbered}
 use Rattle.sg_multi.specs.sg_sim.sg_play.sg_hist.Ending.{AreAsked, HasRecovered}
 use Rattle.sg_multi.specs.sg_sim.sg_play.sg_hist.Inside.Parts.{IsStillBlocked, waiting_in}
-use Rattle.sg_multi.specs.sg_sim.sg_play.sg_hist.Recovered.{IsRecovered, struck_in, waiting}
+use Rattle.sg_multi.specs.sg_sim.sg_play.sg_hist.Reading.{places_of}
+use Rattle.sg_multi.specs.sg_sim.sg_play.sg_hist.Recovered.{IsRecovered, Stubs, struck_in, waiting}
 use Rattle.sg_multi.specs.sg_sim.sg_play.sg_hist.declared.ended.End.TheVariants.{Done as done, Blocked as blocked}
 use Rattle.sg_multi.specs.sg_sim.sg_play.sg_hist.declared.ended.Ended.{Ended}
 use Rattle.sg_multi.specs.sg_sim.sg_script.declared.multi.MultiCall.{MultiCall}
@@ -40,24 +41,28 @@ use Rattle.sg_multi.specs.sg_sim.sg_script.declared.multi.MultiScript.{MultiScri
 use Rattle.sg_multi.specs.sg_sim.sg_clients.WorldView.{Seat, WorldView, is_blocked_phase, is_offered, no_seat, offered_by, seat_of, unanswered}
 use Rattle.sg_multi.specs.sg_sim.sg_clients.declared.phase.Phase.{Phase}
 use Rattle.sg_multi.specs.sg_sim.sg_clients.declared.phase.Phase.TheVariants.{Idle, Asked, Held, Receipted, Blocked as Waits, Left}
-use Rattle.sg_multi.specs.sg_sim.sg_world_laws.Setting.{Setting, stubs_of}
-use Rattle.sg_multi.specs.Calls.{AreFirstMultiCalls, AreMultiCalls, has_multi_calls, multi_callers, multi_calls}
+use Rattle.sg_multi.specs.sg_sim.sg_world_laws.Setting.{Setting}
+use Rattle.sg_multi.specs.Calls.{AreFirstMultiCalls, AreMultiCalls, has_multi_calls, multi_callers, multi_calls, setup_at}
 use Rattle.sg_multi.specs.Ends.{AreMultiEnds, IsMultiEnd, IsWaiting, end_at, ends_at}
+use Rattle.sg_multi.specs.Inside.Asked.{AreAskedSoFar}
 use Rattle.sg_multi.specs.Inside.Callers.{IsSeatOf}
 use Rattle.sg_multi.specs.Inside.Ended.{AreEndedMembers}
-use Rattle.sg_multi.specs.Inside.Keeps.{IsMultiCaller, KeepsMulti, interfaces_of}
+use Rattle.sg_multi.specs.Inside.Keeps.{IsMultiCaller, KeepsMulti, interfaces_of, is_multi_setting_up}
+use Rattle.sg_multi.specs.Inside.SettingUp.{AreSettingUp}
 use Rattle.sg_multi.specs.Inside.Member.{KeepsMember}
 use Rattle.sg_multi.specs.Inside.Turns.{end_of_client, ends_up_to}
 use Rattle.sg_multi.specs.Inside.Whose.{NobodyGoesOn, next_of, seat_at}
 use Rattle.sg_multi.specs.Merged.{Merges, MultiEntry, entries_at, own_in}
-use Rattle.sg_multi.specs.Played.{IsMemberPlayed, IsMultiPlayed, stubs_in}
+use Rattle.sg_multi.specs.Played.{AreBeforeStops, IsAskedInTurn, IsMemberPlayed, IsMultiPlayed, stubs_in}
 use Rattle.sg_multi.specs.SeveralServices.{MemberCall, multi_call_after, multi_workload, several_services}
 use Rattle.sg_multi.specs.declared.ended.MultiEnd.{MultiEnd}
 use Rattle.sg_multi.specs.declared.ended.MultiEnd.TheVariants.{Done, Blocked}
+use Rattle.sg_multi.proofs.Asking.{asked_over}
 use Rattle.sg_multi.proofs.Calling.{fits_at, no_more}
 use Rattle.sg_multi.proofs.Merging.{at_mapped, length_mapped, mapped_at, shown_alike, there_is, there_within}
 use Rattle.sg_multi.proofs.Stages.{next_call_is}
 use Rattle.sg_multi.proofs.Own.{calls_alone, empty_script, nothing_of}
+use Rattle.sg_multi.proofs.SettingUp.{sets_up_first}
 
 -- ---- phases
 
@@ -310,10 +315,11 @@ module _ (members : List Member) (script : MultiScript) (given : List (List ℕ)
                 rests_so p phase offers = rests_or_waits (seat_of w c).phase (seat_rests c first (omega (arith, last, as_many)) q x there) offers
 
     pub member_played : (stops : List ℕ) → (world_in x).plan ≡ stops → AscendsAbove 0 stops → struck_in w.run ≡ up_to w.run.points (world_in x).plan
-        → (ended : Ended) → IsOfWorld w ended → ended.ends ≡ ends_at (q + 1) ends → IsMemberPlayed (stubs_in x) stops ended
-    member_played stops plan ascend struck ended its ends_are = record {
+        → IsSetupFirst (setup_at (q + 1) script) w.history w.run → (ended : Ended) → IsOfWorld w ended → ended.ends ≡ ends_at (q + 1) ends → IsMemberPlayed (stubs_in x) (setup_at (q + 1) script) stops ended
+    member_played stops plan ascend struck sets_up ended its ends_are = record {
       legal = subst (IsLegal z.iface z.ask) (sym its.0) (IsLegal-from z.iface z.ask w.history told.legal);
       numbered = subst (AreNumbered []) (sym its.0) keeps.numbered;
+      setup = subst (λ h. IsSetupFirst (setup_at (q + 1) script) h (run_of ended.trace)) (sym its.0) (subst (IsSetupFirst (setup_at (q + 1) script) w.history) (sym its.1) sets_up);
       recovered = subst (λ h. HasRecovered (stubs_in x) h (run_of ended.trace) ended.ends) (sym its.0)
           (subst (λ r. HasRecovered (stubs_in x) w.history r ended.ends) (sym its.1) (subst (HasRecovered (stubs_in x) w.history w.run) (sym ends_are) (record {
             tables = told.set.tables;
@@ -424,21 +430,31 @@ module _ (members : List Member) (script : MultiScript) (given : List (List ℕ)
   -- ---- the whole
 
   -- what the members' runs came to is what the play promises
-  pub multi_played : (eds : List Ended) → AreEndedMembers members (ends_up_to members script given (most_client script.clients)) eds
+  pub multi_played : 1 ≤ most_client script.clients → is_multi_setting_up script given ≡ false → AreSettingUp members script given → AreAskedSoFar members script is.merged → (eds : List Ended) → AreEndedMembers members (ends_up_to members script given (most_client script.clients)) eds
       → (Each (λ e. struck_in (run_of e.trace) ≡ []) eds → IsPlay (several_services (map stubs_in members) script) (multi_workload script) is.merged)
+      → ((n : ℕ) → AreBeforeStops (map stubs_in members) eds is.merged n
+      → (turns : ℕ) × (take n is.merged ≡ take n (stage_from (several_services (map stubs_in members) script) (multi_workload script) (first_stage (multi_workload script)) turns).history))
       → IsMultiPlayed (map stubs_in members) script (record { order = order; members = eds; ends = ends_up_to members script given (most_client script.clients) })
-  multi_played eds are plain = let each = are.each in record {
+  multi_played some settled sets_up asked eds are plain begins = let each = are.each in record {
     count = are.count ∙ sym (length_mapped stubs_in members);
     each = λ q s stops e member stop there.
         let found = at_mapped stubs_in members q s member in
         let k = each q found.0 e found.1 there in
         let plan : (world_in found.0).plan ≡ stops = (let both : Some (world_in found.0).plan ≡ Some stops = sym (mapped_at (λ (y : Member). (world_in y).plan) members q found.0 found.1) ∙ ap (λ l. slice_get l q) is.plans ∙ stop in cc both) in (
-          subst (λ y. IsMemberPlayed y stops e) found.2 (member_played q found.0 found.1 k.told k.recovered stops plan (each_at (AscendsAbove 0) script.stops q stops is.playable.stops stop) k.struck e k.its k.ends_are),
+          subst (λ y. IsMemberPlayed y (setup_at (q + 1) script) stops e) found.2
+              (member_played q found.0 found.1 k.told k.recovered stops plan (each_at (AscendsAbove 0) script.stops q stops is.playable.stops stop) k.struck
+              (sets_up_first members script given order is some q found.0 found.1 settled (sets_up q found.0 found.1)) e k.its k.ends_are),
           k.ends_are,
         );
     merged = is.merged;
     merges = subst (λ h. Merges order h is.merged) (sym (shown_alike (λ (e : Ended). e.history.items) (λ (x : Member). (view_in x).history) eds members are.count (λ q e x there here. (each q x e here there).its.0))) is.merges;
     calls = multi_calls_are;
+    asked = λ q s e member there.
+        let found = at_mapped stubs_in members q s member in
+        let run : run_of e.trace ≡ (view_in found.0).run = (each q found.0 e found.1 there).its.1 in
+        subst (λ (y : Stubs). Each (λ p. IsAskedInTurn y.interface.facts is.merged (q + 1) p p.item.tag) (places_of (run_of e.trace))) found.2
+        (subst (λ r. Each (λ p. IsAskedInTurn (setting_in found.0).iface.facts is.merged (q + 1) p p.item.tag) (places_of r)) (sym run) (asked_over members script given order is q found.0 found.1 asked));
     ends = multi_ends_are (λ q x there. let e = there_is eds q (omega (arith, are.count, there_within members q x there)) in (each q x e.0 there e.1).told);
     plain = plain;
+    begins = begins;
   }

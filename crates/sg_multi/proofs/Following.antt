@@ -5,18 +5,17 @@ use Rattle.std.specs.Option.{option_map_or}
 use Rattle.std.specs.declared.option.Option.{Option}
 use Rattle.sg_facts.specs.declared.entry.Entry.{Entry}
 use Rattle.sg_facts.specs.Trace.{run_of}
-use Rattle.sg_facts.specs.Tables.{Compiled}
 use Rattle.sg_facts.specs.sg_base.Lists.{Each}
 use Rattle.sg_facts.specs.sg_base.declared.call.Call.{Call}
 use Rattle.sg_multi.proofs.sg_sim.Beginning.{new_seat}
 use Rattle.sg_multi.proofs.sg_sim.sg_play.sg_plain.sg_clients.Lines.{same_or_other, seat_here, seat_there}
-use Rattle.sg_multi.specs.Members.{ChangesAt, kind_in, setting_by, setting_in, view_in, world_in}
+use Rattle.sg_multi.specs.Members.{ChangesAt, setting_in, view_in}
 use Rattle.sg_multi.specs.declared.member.Member.{Member}
-use Rattle.sg_multi.specs.sg_load.declared.kind.ServiceKind.{ServiceKind}
 use Rattle.sg_multi.specs.sg_sim.sg_plain.Calls.{most_client}
 use Rattle.sg_multi.specs.sg_sim.sg_plain.Plain.{IsPlay, Player, Stage, first_stage, next_turn, player_at, player_of, ready, stage_from, through, turned}
 use Rattle.sg_multi.specs.sg_sim.sg_plain.Playing.Given.{given_in, with_handed}
 use Rattle.sg_multi.specs.sg_sim.sg_plain.Playing.Turns.{is_free_phase}
+use Rattle.sg_multi.specs.sg_sim.sg_play.Following.Follows.{HoldAll}
 use Rattle.sg_multi.specs.sg_sim.sg_play.Following.Stages.{phase_by}
 use Rattle.sg_multi.specs.sg_sim.sg_play.Recovering.{RecoversSoFar}
 use Rattle.sg_multi.specs.sg_sim.sg_play.Turning.{handed_by}
@@ -29,32 +28,30 @@ use Rattle.sg_multi.specs.sg_sim.sg_clients.declared.phase.Phase.{Phase}
 use Rattle.sg_multi.specs.sg_sim.sg_clients.declared.phase.Phase.TheVariants.{Idle, Asked, Held, Receipted, Blocked, Left}
 use Rattle.sg_multi.specs.sg_sim.sg_world.declared.did.Did.{Did}
 use Rattle.sg_multi.specs.sg_sim.sg_world.Steps.{HasStepped, LackedMemory}
-use Rattle.sg_multi.specs.sg_sim.sg_world_laws.Setting.{Setting}
 use Rattle.sg_multi.specs.Calls.{multi_calls}
+use Rattle.sg_multi.specs.Inside.Asked.{AreAskedSoFar}
 use Rattle.sg_multi.specs.Inside.Ended.{AreEndedMembers}
-use Rattle.sg_multi.specs.Inside.Following.{FollowsMulti, IsNextMultiTurn, NeverStruck, NoneStruck, phase_at, player_now, players_now, stage_now, stage_with}
+use Rattle.sg_multi.specs.Inside.Following.{Begins, FollowsMulti, IsNextMultiTurn, NeverStruck, NoneStruck, phase_at, player_now, players_now, stage_now, stage_with}
 use Rattle.sg_multi.specs.Inside.Keeps.{KeepsMulti, is_multi_setting_up}
+use Rattle.sg_multi.specs.Inside.SettingUp.{AreSettingUp}
 use Rattle.sg_multi.specs.Inside.Turns.{SameMembers}
 use Rattle.sg_multi.specs.Inside.Whose.{NobodyGoesOn, next_of, seat_at}
-use Rattle.sg_multi.specs.Merged.{Merges, MultiEntry}
+use Rattle.sg_multi.specs.Merged.{MultiEntry}
 use Rattle.sg_multi.specs.Played.{stubs_in}
 use Rattle.sg_multi.specs.SeveralServices.{multi_workload, several_services}
 use Rattle.sg_multi.specs.declared.ended.MultiEnd.{MultiEnd}
+use Rattle.sg_multi.proofs.Asking.{asked_still}
 use Rattle.sg_multi.proofs.Beginning.{first_client}
 use Rattle.sg_multi.proofs.Ending.{each_at}
-use Rattle.sg_multi.proofs.Keeping.{later_cases, new_there, same_members, still_there}
+use Rattle.sg_multi.proofs.Keeping.{later_cases, moved, new_there, same_members, still_there}
 use Rattle.sg_multi.proofs.Merging.{map_kept, merges_same, there_is, there_within}
 use Rattle.sg_multi.proofs.NextTurn.{nobody_next}
-use Rattle.sg_multi.proofs.Onward.{merged_one, turned_on}
+use Rattle.sg_multi.proofs.Onward.{merged_one, turned_at, turned_on}
+use Rattle.sg_multi.proofs.PastStop.{begins_still}
 use Rattle.sg_multi.proofs.Players.{player_in, same_from}
-use Rattle.sg_multi.proofs.Stages.{player_same, ready_next, turned_into}
+use Rattle.sg_multi.proofs.SettingUp.{sets_up_still}
+use Rattle.sg_multi.proofs.Stages.{player_same, ready_next}
 use Rattle.sg_multi.proofs.Unstopped.{never_new, never_offered, never_wanted, none_before, unstopped}
-
--- what holds of a member's world at another view holds of the member that has it
-moved : (P : Setting → WorldView → Type 0) (old new : Member) (now : WorldView) → kind_in new ≡ kind_in old → (world_in new).tables ≡ (world_in old).tables → view_in new ≡ now → P (setting_in old) now → P (setting_in new) (view_in new)
-moved P old new now kind tables view is =
-    subst (P (setting_in new)) (sym view)
-    (subst (λ (t : Compiled). P (setting_by (kind_in new) t) now) (sym tables) (subst (λ (k : ServiceKind). P (setting_by k (world_in old).tables) now) (sym kind) is))
 
 free_phase : (p : Phase) (s : Seat) → s.phase ≡ p → is_free_phase p ≡ true → phase_at s ≡ ready
 free_phase Idle s at free = ap (λ p. phase_by p s.reply ready) at
@@ -71,6 +68,9 @@ pub record StillKeeps (members later : List Member) (script : MultiScript) (give
   pub kept : KeepsMulti later script given order
   pub same : SameMembers members later
   pub players : players_now later script given ≡ players_now members script given
+  pub sets_up : AreSettingUp members script given → AreSettingUp later script given
+  pub asked : AreAskedSoFar members script is.merged → AreAskedSoFar later script kept.merged
+  pub begins : Begins members script is.merged → Begins later script kept.merged
   pub follows : (passed last : ℕ) → (NoneStruck members → FollowsMulti members script given is.merged passed last) → NoneStruck later → FollowsMulti later script given kept.merged passed last
 
 module _ (members later : List Member) (script : MultiScript) (given : List (List ℕ)) (order : List ℕ) (place : ℕ) (m : Member) (now : WorldView) (changes : ChangesAt members place m now later)
@@ -127,12 +127,15 @@ module _ (members later : List Member) (script : MultiScript) (given : List (Lis
       histories : List Member → List (List Entry)
       histories list = map (λ x. (view_in x).history) list
 
-  pub still : now.history ≡ w.history → (struck_in now.run ≡ [] → struck_in w.run ≡ []) → (NeverStruck (setting_in m) w → NeverStruck (setting_in m) now)
+  pub still : now.history ≡ w.history → now.run.boots ≡ w.run.boots → now.running ≡ w.running → (HoldAll (setting_in m).iface.facts w.seats → HoldAll (setting_in m).iface.facts now.seats) → (struck_in now.run ≡ [] → struck_in w.run ≡ []) → (NeverStruck (setting_in m) w → NeverStruck (setting_in m) now)
       → ((d : ℕ) → 1 ≤ d → phase_at (seat_of now d) ≡ phase_at (seat_of w d)) → KeepsMulti later script given order → StillKeeps members later script given order is
-  still history back never same kept = record {
+  still history boots running hold back never same kept = record {
     kept = kept;
     same = same_members members later script given order place m now changes is;
     players = players_stay same;
+    sets_up = sets_up_still members later script given order place m now changes is (first_client 0 script.clients is.playable.clients) boots;
+    asked = asked_still members later script given order place m now changes is boots kept.merged (sym (merged_still history kept));
+    begins = begins_still members later script given order place m now changes is given order kept refl history boots running hold;
     follows = λ passed last follows none. subst (λ g. FollowsMulti later script given g passed last) (merged_still history kept) (follows_still is.merged passed last back never same follows none);
   }
 
@@ -195,14 +198,10 @@ module _ (members later : List Member) (script : MultiScript) (given : List (Lis
         let f = follows (none_members (none_before (setting_in m) w c did now steps) none) in
         let a = f.up place m changes.there in
         let both = unstopped (setting_in m) w c first within (is.each place m changes.there) before a busy did now steps behind (none_now none) in
-        let t = turned_into members script given order is later place m now changes c first last written next number (drop taken script.schedule) c did both.1 in
-        let same : t.merged ≡ kept.merged = merged_one order_then (map (λ x. (view_in x).history) later) t.merged kept.merged
-        (subst (λ (o : List ℕ). Merges o (map (λ x. (view_in x).history) later) t.merged) order_is t.merges) kept.merges in
         record {
           up = up_later f.up both.0;
           turns = suc f.turns;
-          at = ap (λ (g : List MultiEntry). stage_with later script (with_handed given c (handed_by did)) g (drop taken script.schedule) c) (sym same)
-              ∙ sym t.leads ∙ turned_on (several_services (map stubs_in members) script) members script given is.merged passed latest c taken f.turns turn f.at
+          at = turned_at members later script given order place m now changes is c first last written next number did both.1 order_then order_is kept passed latest taken f.turns turn f.at
               ∙ ap (λ (l : List Stubs). stage_from (several_services l script) (multi_workload script) (first_stage (multi_workload script)) (suc f.turns)) (sym (same_members members later script given order place m now changes is));
         }
 

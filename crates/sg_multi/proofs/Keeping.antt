@@ -35,10 +35,10 @@ use Rattle.sg_multi.specs.Inside.Member.{KeepsMember}
 use Rattle.sg_multi.specs.Inside.Turns.{SameMembers}
 use Rattle.sg_multi.specs.Merged.{Merges, MultiEntry, entries_at, entries_in, own_in}
 use Rattle.sg_multi.specs.sg_sim.sg_world_laws.Seats.{last_of}
-use Rattle.sg_multi.specs.sg_sim.sg_world_laws.Setting.{stubs_of}
+use Rattle.sg_multi.specs.sg_sim.sg_world_laws.Setting.{Setting, stubs_of}
 use Rattle.sg_multi.specs.Playable.{IsMultiPlayable}
 use Rattle.sg_multi.specs.Played.{stubs_in}
-use Rattle.sg_multi.proofs.Calling.{call_grown, few_given, first_grown, first_more, first_same, fits_at, gave_front, gave_last, gave_same, last_member, offers_alone, receipt_alone, seat_free, seat_goes_on}
+use Rattle.sg_multi.proofs.Calling.{at_its_member, call_grown, few_given, first_grown, first_more, first_same, fits_at, gave_front, gave_last, gave_same, offers_alone, receipt_alone, seat_free, seat_goes_on}
 use Rattle.sg_multi.proofs.MemberLaws.{member_happened, member_stepped, member_wanted}
 use Rattle.sg_multi.proofs.Merging.{last_at, length_kept, map_kept, map_set, mapped_at, merges_push, merges_same, own_more, own_same, set_cases, set_elsewhere, set_there, there_is}
 use Rattle.sg_multi.proofs.Stepping.{Answers, Enters, GoesOn, GoesQuietly, HandsOver, IsQuiet, clients_kept, goes_quietly, goes_same, is_answered}
@@ -101,6 +101,25 @@ bool_cases : (b : Bool) → (b ≡ true) ⊎ (b ≡ false)
 bool_cases true = inl refl
 bool_cases false = inr refl
 
+-- who is at the setup after a reply was handed over was so before
+pub handed_was : (script : MultiScript) (given : List (List ℕ)) (c : ℕ) → 1 ≤ c → c ≤ length given → (id : ℕ) → is_multi_setting_up script (with_handed given c (Some id)) ≡ true → is_multi_setting_up script given ≡ true
+handed_was script given c first last id on = by (same_or_other 1 c)
+  where
+    less : length (given_in (with_handed given c (Some id)) 1) < length script.setup
+    less = below (length (given_in (with_handed given c (Some id)) 1)) (length script.setup) on
+
+    own : given_in (with_handed given c (Some id)) c ≡ given_in given c ++ id ∷ []
+    own = given_here given c (given_in given c ++ id ∷ []) first last
+
+    by : (1 ≡ c) ⊎ (1 ≢ c) → is_multi_setting_up script given ≡ true
+    by (inl same) =
+        let more : length (given_in (with_handed given c (Some id)) 1) ≡ length (given_in given 1) + 1
+        = ap (λ n. length (given_in (with_handed given c (Some id)) n)) same ∙ ap (λ (l : List ℕ). length l) own ∙ length-append (given_in given c) (id ∷ []) ∙ ap (λ n. length (given_in given n) + 1) (sym same) in
+        is_below (length (given_in given 1)) (length script.setup) (omega (arith, less, more))
+    by (inr other) =
+        is_below (length (given_in given 1)) (length script.setup)
+        (subst (λ (l : List ℕ). length l < length script.setup) (given_there given c 1 (given_in given c ++ id ∷ []) first (omega arith) other) less)
+
 free_receipts : (p : Phase) → is_free_phase p ≡ true → is_receipted p ≡ false
 free_receipts Idle free = refl
 free_receipts Left free = refl
@@ -124,11 +143,15 @@ split_last (x ∷ y ∷ es) (suc n) count = let rest = split_last (y ∷ es) n (
 
 -- ---- a member changes
 
+-- what holds of a member's world at another view holds of the member that has it
+pub moved : (P : Setting → WorldView → Type 0) (old new : Member) (now : WorldView) → kind_in new ≡ kind_in old → (world_in new).tables ≡ (world_in old).tables → view_in new ≡ now → P (setting_in old) now → P (setting_in new) (view_in new)
+moved P old new now kind tables view is =
+    subst (P (setting_in new)) (sym view)
+    (subst (λ (t : Compiled). P (setting_by (kind_in new) t) now) (sym tables) (subst (λ (k : ServiceKind). P (setting_by k (world_in old).tables) now) (sym kind) is))
+
 -- the world of a member is that of a play of its own, at another view
 member_moved : (old new : Member) (now : WorldView) → kind_in new ≡ kind_in old → (world_in new).tables ≡ (world_in old).tables → view_in new ≡ now → KeepsMember (setting_in old) now → KeepsMember (setting_in new) (view_in new)
-member_moved old new now kind tables view is =
-    subst (KeepsMember (setting_in new)) (sym view)
-    (subst (λ (t : Compiled). KeepsMember (setting_by (kind_in new) t) now) (sym tables) (subst (λ (k : ServiceKind). KeepsMember (setting_by k (world_in old).tables) now) (sym kind) is))
+member_moved old new now kind tables view is = moved KeepsMember old new now kind tables view is
 
 -- by what a run is judged that is of a service with some tables
 pub stubs_alike : (k l : ServiceKind) → k ≡ l → (s t : Compiled) → s ≡ t → stubs_of (setting_by k s) ≡ stubs_of (setting_by l t)
@@ -380,7 +403,7 @@ module _ (members later : List Member) (script : MultiScript) (given : List (Lis
 
         by : (front : List MultiEntry) × (x : MultiEntry) × (own_in c is.merged ≡ front ++ x ∷ []) × (length front ≡ length gave_then) → IsMultiCaller later script is.merged c new
         by (front, x, own, count) =
-            let its : x.member ≡ place + 1 = last_member (interfaces_of members) is.merged c front x (multi_calls script c) receipt.written
+            let its : x.member ≡ place + 1 = at_its_member (interfaces_of members) is.merged c front x [] (multi_calls script c) receipt.written
             (subst (λ es. AreFirstMultiCalls (interfaces_of members) is.merged c es (multi_calls script c)) own caller_then.made) (ap (slice_get (multi_calls script c)) count ∙ receipt.next) ∙ sym receipt.its_member in
             let history : entries_at x.member is.merged ≡ now.history = ap (λ n. entries_at n is.merged) its
             ∙ is.merges.each place w.history (mapped_at (λ y. (view_in y).history) members place m changes.there) ∙ sym h.same in
@@ -420,16 +443,7 @@ module _ (members later : List Member) (script : MultiScript) (given : List (Lis
     given_other d from other = given_there given c d (given_in given c ++ id ∷ []) first from other
 
     was_on : is_multi_setting_up script gave_more ≡ true → is_multi_setting_up script given ≡ true
-    was_on on = by (same_or_other 1 c)
-      where
-        less : length (given_in gave_more 1) < length script.setup
-        less = below (length (given_in gave_more 1)) (length script.setup) on
-
-        by : (1 ≡ c) ⊎ (1 ≢ c) → is_multi_setting_up script given ≡ true
-        by (inl same) =
-            let more : length (given_in gave_more 1) ≡ length (given_in given 1) + 1 = ap (λ n. length (given_in gave_more n)) same ∙ ap (λ (l : List ℕ). length l) given_own ∙ length-append (given_in given c) (id ∷ []) ∙ ap (λ n. length (given_in given n) + 1) (sym same) in
-            is_below (length (given_in given 1)) (length script.setup) (omega (arith, less, more))
-        by (inr other) = is_below (length (given_in given 1)) (length script.setup) (subst (λ (l : List ℕ). length l < length script.setup) (given_other 1 (omega arith) other) less)
+    was_on on = handed_was script given c first within_lists id on
 
     callers_more : (merged : List MultiEntry) → IsMultiCaller later script merged c (given_in given c ++ id ∷ [])
         → ((d : ℕ) → 1 ≤ d → d ≤ most_client script.clients → d ≢ c → IsMultiCaller later script merged d (given_in given d))

@@ -9,8 +9,7 @@ use Rattle.std.proofs.lemmas.List.Folds.{list_any-append}
 use Rattle.std.proofs.lemmas.List.Sums.{take_while-cons}
 use Rattle.std.proofs.lemmas.Bool.Decides.{nat_tests}
 use Rattle.sg_multi.specs.Inside.Numbers.{AddsNumber, AreKept, IsKept, counted, is_call, kept_number, number_by}
-use Rattle.sg_multi.specs.Merged.{MultiEntry, own_in}
-use Rattle.sg_multi.specs.Report.{is_of_call, number_over_all}
+use Rattle.sg_multi.specs.Merged.{MultiEntry, is_of_call, number_over_all, own_in}
 use Rattle.sg_multi.specs.declared.numbers.CallKey.{CallKey}
 use Rattle.sg_multi.specs.declared.numbers.Numbers.{Numbers}
 

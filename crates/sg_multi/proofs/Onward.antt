@@ -1,19 +1,31 @@
 -- The play without stops of several services, one turn more; and a merged list is told by the order of its members and their histories.
-use Rattle.std.proofs.Common.{◌≡◌, ◌≢◌, ◌⊎◌, ℕ, zero, suc, ◌+◌, ◌<◌, ◌≤◌, cond, List, [], ◌∷◌, drop, filter, length, map, refl, sym, ◌∙◌, ap, subst, inl, inr, arith}
-use Rattle.std.specs.Prelude.{◌==◌}
+use Rattle.std.proofs.Common.{◌≡◌, ◌≢◌, ◌⊎◌, ℕ, zero, suc, ◌+◌, ◌<◌, ◌≤◌, cond, List, [], ◌∷◌, ◌++◌, Some, drop, filter, length, map, refl, sym, ◌∙◌, ap, subst, inl, inr, arith}
+use Rattle.std.specs.Prelude.{◌==◌, nat_lt}
 use Rattle.std.proofs.lemmas.Bool.{cases_lt}
 use Rattle.sg_facts.specs.sg_base.Lists.{Each}
 use Rattle.sg_facts.specs.declared.entry.Entry.{Entry}
 use Rattle.sg_facts.proofs.Replaying.Found.{other_test, same_test}
+use Rattle.sg_multi.specs.Members.{ChangesAt, setting_in, view_in}
 use Rattle.sg_multi.specs.declared.member.Member.{Member}
+use Rattle.sg_multi.specs.sg_sim.sg_plain.Calls.{most_client}
 use Rattle.sg_multi.specs.sg_sim.sg_plain.Inside.Turns.{after_turn}
 use Rattle.sg_multi.specs.sg_sim.sg_plain.Plain.{Stage, System, Workload, first_stage, next_stage, player_of, stage_from, turned}
+use Rattle.sg_multi.specs.sg_sim.sg_plain.Playing.Given.{with_handed}
+use Rattle.sg_multi.specs.sg_sim.sg_play.Turning.{handed_by}
+use Rattle.sg_multi.specs.sg_sim.sg_script.declared.multi.MultiCall.{MultiCall}
 use Rattle.sg_multi.specs.sg_sim.sg_script.declared.multi.MultiScript.{MultiScript}
+use Rattle.sg_multi.specs.sg_sim.sg_clients.WorldView.{WorldView, seat_of}
+use Rattle.sg_multi.specs.sg_sim.sg_world.declared.did.Did.{Did}
 use Rattle.sg_multi.proofs.sg_sim.sg_play.sg_plain.sg_clients.Lines.{same_or_other}
 use Rattle.sg_multi.specs.Inside.Following.{IsNextMultiTurn, stage_now, stage_with}
+use Rattle.sg_multi.specs.Inside.Keeps.{KeepsMulti}
+use Rattle.sg_multi.specs.Inside.Whose.{next_of}
 use Rattle.sg_multi.specs.Merged.{Merges, MultiEntry, entries_at}
-use Rattle.sg_multi.specs.SeveralServices.{MemberCall, multi_workload}
+use Rattle.sg_multi.specs.Played.{stubs_in}
+use Rattle.sg_multi.specs.SeveralServices.{MemberCall, multi_workload, several_services}
 use Rattle.sg_multi.proofs.Merging.{there_is}
+use Rattle.sg_multi.proofs.Stages.{turned_into}
+use Rattle.sg_multi.proofs.Unstopped.{TurnsAs}
 
 -- ---- one turn more
 
@@ -98,3 +110,21 @@ merged_one order histories a b x y = same_merged a b (x.members ∙ sym y.member
             let number : place + 1 ≡ suc place = omega arith in
             ap (λ k. entries_at k a) (sym number) ∙ x.each place found.0 found.1 ∙ sym (y.each place found.0 found.1) ∙ ap (λ k. entries_at k b) number
         by (inr beyond) = none (suc place) (inr (omega (arith, beyond)))
+
+-- ---- a step as a turn
+
+-- a step that is a turn of the play without stops leads to the stage after it
+module _ (members later : List Member) (script : MultiScript) (given : List (List ℕ)) (order : List ℕ) (place : ℕ) (m : Member) (now : WorldView) (changes : ChangesAt members place m now later)
+    (is : KeepsMulti members script given order) (c : ℕ) (first : 1 ≤ c) (last : c ≤ most_client script.clients) (written : MultiCall) (next : next_of script given c ≡ Some written) (number : place + 1 ≡ written.member)
+    (did : Did) (turns_as : TurnsAs (setting_in m) (view_in m) c did now) (order_then : List ℕ)
+    (order_is : cond (nat_lt (seat_of (view_in m) c).seq (seat_of now c).seq) (order ++ (place + 1) ∷ []) order ≡ order_then) (kept : KeepsMulti later script (with_handed given c (handed_by did)) order_then) where
+  pub turned_at : (passed latest taken turns : ℕ) → IsNextMultiTurn script (stage_now members script given is.merged passed latest) c taken
+      → stage_now members script given is.merged passed latest ≡ stage_from (several_services (map stubs_in members) script) (multi_workload script) (first_stage (multi_workload script)) turns
+      → stage_with later script (with_handed given c (handed_by did)) kept.merged (drop taken script.schedule) c
+      ≡ stage_from (several_services (map stubs_in members) script) (multi_workload script) (first_stage (multi_workload script)) (suc turns)
+  turned_at passed latest taken turns turn at =
+      let t = turned_into members script given order is later place m now changes c first last written next number (drop taken script.schedule) c did turns_as in
+      let same : t.merged ≡ kept.merged = merged_one order_then (map (λ x. (view_in x).history) later) t.merged kept.merged
+      (subst (λ (o : List ℕ). Merges o (map (λ x. (view_in x).history) later) t.merged) order_is t.merges) kept.merges in
+      ap (λ (g : List MultiEntry). stage_with later script (with_handed given c (handed_by did)) g (drop taken script.schedule) c) (sym same)
+      ∙ sym t.leads ∙ turned_on (several_services (map stubs_in members) script) members script given is.merged passed latest c taken turns turn at

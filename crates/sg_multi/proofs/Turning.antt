@@ -23,6 +23,7 @@ use Rattle.sg_multi.specs.sg_sim.sg_plain.Calls.{most_client}
 use Rattle.sg_multi.specs.sg_sim.sg_plain.Playing.Given.{GaveIds, given_in, with_handed}
 use Rattle.sg_multi.specs.sg_sim.sg_plain.Playing.Turns.{is_free_phase}
 use Rattle.sg_multi.specs.sg_sim.sg_plain.Script.{call_fits, desc_among, values_of}
+use Rattle.sg_multi.specs.sg_sim.sg_play.Following.Follows.{HoldAll}
 use Rattle.sg_multi.specs.sg_sim.sg_play.NextCall.{IsResolved}
 use Rattle.sg_multi.specs.sg_sim.sg_play.Recovering.{RecoversSoFar}
 use Rattle.sg_multi.specs.sg_sim.sg_play.Turning.{handed_by}
@@ -38,8 +39,10 @@ use Rattle.sg_multi.specs.sg_sim.sg_clients.declared.phase.Phase.TheVariants.{Id
 use Rattle.sg_multi.specs.sg_sim.sg_world.Steps.{AnswersLast, HasStepped, LackedMemory}
 use Rattle.sg_multi.specs.sg_sim.sg_world.declared.did.Did.{Did}
 use Rattle.sg_multi.specs.Calls.{IsCallOf, multi_calls}
+use Rattle.sg_multi.specs.Inside.Asked.{AreAskedSoFar}
 use Rattle.sg_multi.specs.Inside.Keeps.{KeepsMulti, interfaces_of, is_multi_setting_up}
-use Rattle.sg_multi.specs.Inside.Following.{FollowsMulti, IsNextMultiTurn, NoneStruck, players_now, stage_now}
+use Rattle.sg_multi.specs.Inside.SettingUp.{AreSettingUp}
+use Rattle.sg_multi.specs.Inside.Following.{Begins, FollowsMulti, IsNextMultiTurn, NoneStruck, players_now, stage_now}
 use Rattle.sg_multi.specs.Inside.Turns.{KeepsRunning, SameMembers, TakesNextTurn}
 use Rattle.sg_multi.specs.Inside.Whose.{next_of, seat_at}
 use Rattle.sg_multi.specs.Merged.{MultiEntry, entries_at, entries_in, own_in}
@@ -50,14 +53,20 @@ use Rattle.sg_multi.specs.declared.ended.MultiEnd.{MultiEnd}
 use Rattle.sg_multi.specs.sg_sim.sg_script.Scripts.{most_members}
 use Rattle.sg_multi.specs.sg_sim.sg_play.sg_hist.declared.ended.Ended.{Ended}
 use Rattle.sg_multi.specs.declared.running.Running.{Running}
+use Rattle.sg_multi.proofs.Asking.{asked_turn}
 use Rattle.sg_multi.proofs.Beginning.{first_client}
 use Rattle.sg_multi.proofs.Calling.{fits_at}
 use Rattle.sg_multi.proofs.Following.{StillKeeps, follows_idle, follows_turn, happened_back, happened_never, happened_stays, offer_back, offer_never, offer_stays, still, wanted_back, wanted_never, wanted_stays}
-use Rattle.sg_multi.proofs.Keeping.{all_handed, kept_happened, kept_offered, kept_step, kept_wanted, same_members, seats_stay}
+use Rattle.sg_multi.proofs.Grown.{grows}
+use Rattle.sg_multi.proofs.Holding.{hold_offered}
+use Rattle.sg_multi.proofs.Keeping.{all_handed, handed_was, kept_happened, kept_offered, kept_step, kept_wanted, same_members, seats_stay}
 use Rattle.sg_multi.proofs.MemberLaws.{MayBeOffered, may_be_offered}
 use Rattle.sg_multi.proofs.Merging.{at_mapped, calls_at, calls_in, length_mapped, mapped_at, set_there, there_within}
 use Rattle.sg_multi.proofs.Stages.{its_interface, seat_now}
+use Rattle.sg_multi.proofs.Noting.{notes}
 use Rattle.sg_multi.proofs.Own.{call_literal, desc_literal, literal_call, values_literal}
+use Rattle.sg_multi.proofs.PastStop.{begins_turn}
+use Rattle.sg_multi.proofs.SettingUp.{sets_up_turn}
 
 -- ---- lists
 
@@ -242,7 +251,8 @@ module _ (members : List Member) (script : MultiScript) (lists : List (Roomy ℕ
         offered_keeps later changes =
             let now = happened (offered w client given_call) in
             let within : client ≤ length w.seats = (seats_there place m there).1 in
-            still members later script given order place m now changes is refl (offer_back members later script given order place m now changes is client given_call first within free refl)
+            still members later script given order place m now changes is refl refl refl
+            (hold_offered (setting_in m).iface.facts w client given_call first within) (offer_back members later script given order place m now changes is client given_call first within free refl)
             (offer_never members later script given order place m now changes is client given_call first within free refl) (offer_stays members later script given order place m now changes is client given_call first within free refl)
             (kept_offered members later script given order place m now changes is client first last free call next its_place given_call its refl may_offer.keeps)
 
@@ -255,7 +265,7 @@ module _ (members : List Member) (script : MultiScript) (lists : List (Roomy ℕ
             (ok m its_there) (err m its_there)
             (λ changes. offered_keeps later (subst (λ k. ChangesAt members (k - 1) m (happened (offered w client given_call)) later) same changes))
             (λ changes. let at = subst (λ k. ChangesAt members (k - 1) m (happened w) later) same changes in
-            still members later script given order place m (happened w) at is refl (happened_back members later script given order place m (happened w) at is refl)
+            still members later script given order place m (happened w) at is refl refl refl (λ hold. hold) (happened_back members later script given order place m (happened w) at is refl)
             (happened_never members later script given order place m (happened w) at is refl) (happened_stays members later script given order place m (happened w) at is refl)
             (kept_happened members later script given order place m (happened w) at is refl))
 
@@ -270,6 +280,15 @@ module _ (members : List Member) (script : MultiScript) (lists : List (Roomy ℕ
             (ok m (ap (λ k. slice_get members (k - 1)) same ∙ there))
 
 -- ---- a step
+
+-- where client 1 is at the setup, it was so before it was handed a reply
+was_setting_up : (script : MultiScript) (given : List (List ℕ)) → length given ≡ most_client script.clients → (client : ℕ) → 1 ≤ client → client ≤ most_client script.clients → (did : Did)
+    → is_multi_setting_up script (with_handed given client (handed_by did)) ≡ true → is_multi_setting_up script given ≡ true
+was_setting_up script given lists client first last did = by (handed_by did)
+  where
+    by : (o : Option ℕ) → is_multi_setting_up script (with_handed given client o) ≡ true → is_multi_setting_up script given ≡ true
+    by None on = on
+    by (Some id) on = handed_was script given client first (omega (arith, last, lists)) id on
 
 module _ (members : List Member) (script : MultiScript) (given : List (List ℕ)) (order : List ℕ) (is : KeepsMulti members script given order) (client : ℕ) (first : 1 ≤ client)
     (last : client ≤ most_client script.clients) (member n : ℕ) (some : 1 ≤ member) (its : n ≡ member) (m : Member) (there : slice_get members (member - 1) ≡ Some m) (later : List Member) where
@@ -335,13 +354,60 @@ module _ (members : List Member) (script : MultiScript) (given : List (List ℕ)
           (ap (λ k. cond (nat_lt (seat_of (view_in m) client).seq (seat_of now client).seq) (order ++ k ∷ []) order) number_is
           ∙ ap (λ v. cond (nat_lt (seat_of (view_in m) client).seq (seat_of v client).seq) (order ++ member ∷ []) order) (sym view)) kept passed latest taken turn follows none
 
+  -- the entries begin as the play without stops does, where it is the client's turn there while no member was stopped
+  pub stepped_begins : (written : MultiCall) → next_of script given client ≡ Some written → written.member ≡ member → is_free_phase (seat_of (view_in m) client).phase ≡ false → RecoversSoFar (setting_in m) (view_in m)
+      → (did : Did) (x : Member) → slice_get later (member - 1) ≡ Some x
+      → ((y : Member) → slice_get members (n - 1) ≡ Some y → (now : WorldView) × ChangesAt members (n - 1) y now later × HasStepped (setting_in y) (view_in y) client did now × AnswersLast now client did)
+      → (kept : KeepsMulti later script (with_handed given client (handed_by did)) (cond (nat_lt (seat_of (view_in m) client).seq (seat_of (view_in x) client).seq) (order ++ member ∷ []) order)) (passed latest taken : ℕ)
+      → IsNextMultiTurn script (stage_now members script given is.merged passed latest) client taken → (NoneStruck members → FollowsMulti members script given is.merged passed latest)
+      → Begins members script is.merged → Begins later script kept.merged
+  stepped_begins written next own busy before did x at came kept passed latest taken turn follows begins = by (came m place_there)
+    where
+      by : (now : WorldView) × ChangesAt members (n - 1) m now later × HasStepped (setting_in m) (view_in m) client did now × AnswersLast now client did → Begins later script kept.merged
+      by (now, changes, steps, answers) =
+          let both : Some x ≡ Some changes.new = sym at ∙ ap (λ k. slice_get later (k - 1)) (sym its) ∙ ap (λ l. slice_get l (n - 1)) changes.are ∙ set_there members (n - 1) m changes.new changes.there in
+          let new : x ≡ changes.new = cc both in
+          let view : view_in x ≡ now = ap (λ (y : Member). view_in y) new ∙ changes.view_is in
+          begins_turn members later script given order (n - 1) m now changes is client first last written next (number_is ∙ sym own) busy before did steps
+          (cond (nat_lt (seat_of (view_in m) client).seq (seat_of (view_in x) client).seq) (order ++ member ∷ []) order)
+          (ap (λ k. cond (nat_lt (seat_of (view_in m) client).seq (seat_of now client).seq) (order ++ k ∷ []) order) number_is
+          ∙ ap (λ v. cond (nat_lt (seat_of (view_in m) client).seq (seat_of v client).seq) (order ++ member ∷ []) order) (sym view)) kept passed latest taken turn follows begins
+
+  -- the member was asked no call before its client's earlier calls were answered
+  pub stepped_asked : RecoversSoFar (setting_in m) (view_in m) → (did : Did) (x : Member) → slice_get later (member - 1) ≡ Some x
+      → ((y : Member) → slice_get members (n - 1) ≡ Some y → (now : WorldView) × ChangesAt members (n - 1) y now later × HasStepped (setting_in y) (view_in y) client did now × AnswersLast now client did)
+      → (kept : KeepsMulti later script (with_handed given client (handed_by did)) (cond (nat_lt (seat_of (view_in m) client).seq (seat_of (view_in x) client).seq) (order ++ member ∷ []) order))
+      → AreAskedSoFar members script is.merged → AreAskedSoFar later script kept.merged
+  stepped_asked before did x at came kept all = by (came m place_there)
+    where
+      by : (now : WorldView) × ChangesAt members (n - 1) m now later × HasStepped (setting_in m) (view_in m) client did now × AnswersLast now client did → AreAskedSoFar later script kept.merged
+      by (now, changes, steps, answers) =
+          let both : Some x ≡ Some changes.new = sym at ∙ ap (λ k. slice_get later (k - 1)) (sym its) ∙ ap (λ l. slice_get l (n - 1)) changes.are ∙ set_there members (n - 1) m changes.new changes.there in
+          let new : x ≡ changes.new = cc both in
+          let view : view_in x ≡ now = ap (λ (y : Member). view_in y) new ∙ changes.view_is in
+          asked_turn members later script given order (n - 1) m now changes is client first last before (notes (setting_in m) (view_in m) client did now steps) kept.merged
+          (grows members later script given order (n - 1) m now changes is (with_handed given client (handed_by did))
+          (cond (nat_lt (seat_of (view_in m) client).seq (seat_of (view_in x) client).seq) (order ++ member ∷ []) order) kept client first last did steps
+          (ap (λ k. cond (nat_lt (seat_of (view_in m) client).seq (seat_of now client).seq) (order ++ k ∷ []) order) number_is
+          ∙ ap (λ v. cond (nat_lt (seat_of (view_in m) client).seq (seat_of v client).seq) (order ++ member ∷ []) order) (sym view))) all
+
+  -- the setup comes first still
+  pub stepped_sets_up : (turn : is_multi_setting_up script given ≡ true → client ≡ 1) → (did : Did)
+      → ((y : Member) → slice_get members (n - 1) ≡ Some y → (now : WorldView) × ChangesAt members (n - 1) y now later × HasStepped (setting_in y) (view_in y) client did now × AnswersLast now client did)
+      → AreSettingUp members script given → AreSettingUp later script (with_handed given client (handed_by did))
+  stepped_sets_up turn did came sets_up =
+      let k = came m place_there in
+      sets_up_turn members later script given order (n - 1) m k.0 k.1 is (first_client 0 script.clients is.playable.clients) (with_handed given client (handed_by did)) (was_setting_up script given is.lists client first last did) client turn
+      (notes (setting_in m) (view_in m) client did k.0 k.2) sets_up
+
   -- a step that wanted memory
   pub wanted_at : ((y : Member) → slice_get members (n - 1) ≡ Some y → (now : WorldView) × ChangesAt members (n - 1) y now later × LackedMemory (setting_in y) (view_in y) client now) → StillKeeps members later script given order is
   wanted_at came = by (came m place_there)
     where
       by : (now : WorldView) × ChangesAt members (n - 1) m now later × LackedMemory (setting_in m) (view_in m) client now → StillKeeps members later script given order is
       by (now, changes, wants) =
-          still members later script given order (n - 1) m now changes is (ap (λ (y : WorldView). y.history) wants.counted) (wanted_back members later script given order (n - 1) m now changes is client wants)
+          still members later script given order (n - 1) m now changes is (ap (λ (y : WorldView). y.history) wants.counted) (ap (λ (y : WorldView). y.run.boots) wants.counted)
+          (ap (λ (y : WorldView). y.running) wants.counted) (λ hold. subst (λ (y : WorldView). HoldAll (setting_in m).iface.facts y.seats) (sym wants.counted) hold) (wanted_back members later script given order (n - 1) m now changes is client wants)
           (wanted_never members later script given order (n - 1) m now changes is client wants) (wanted_stays members later script given order (n - 1) m now changes is client wants)
           (kept_wanted members later script given order (n - 1) m now changes is client wants)
 
@@ -352,8 +418,20 @@ as_many members later same = sym (length_mapped stubs_in later) ∙ ap (λ (l : 
 -- ---- all that changes
 
 -- what a play keeps of its parts
-abbrev pub KeepsParts : MultiScript → List Member → List (List ℕ) → List ℕ → ℕ → ℕ → Type 0
-KeepsParts script members given order passed last = (k : KeepsMulti members script given order) × (NoneStruck members → FollowsMulti members script given k.merged passed last)
+pub record KeepsParts (script : MultiScript) (members : List Member) (given : List (List ℕ)) (order : List ℕ) (passed last : ℕ) : Type 0 where
+  pub keeps : KeepsMulti members script given order
+  pub sets_up : AreSettingUp members script given
+  pub asked : AreAskedSoFar members script keeps.merged
+  pub begins : Begins members script keeps.merged
+  pub follows : NoneStruck members → FollowsMulti members script given keeps.merged passed last
+
+-- as they stand
+pub parts_of : (script : MultiScript) (r : Running) → KeepsRunning script r → KeepsParts script r.members (lists_of r.given) r.order.items r.passed r.last
+parts_of script r is = record { keeps = is.keeps; sets_up = is.sets_up; asked = is.asked; begins = is.begins; follows = is.follows }
+
+-- and with the client of the last turn one of the play's
+pub running_of : (script : MultiScript) (r : Running) → r.last ≤ most_client script.clients → KeepsParts script r.members (lists_of r.given) r.order.items r.passed r.last → KeepsRunning script r
+running_of script r last parts = record { keeps = parts.keeps; last_there = last; sets_up = parts.sets_up; asked = parts.asked; begins = parts.begins; follows = parts.follows }
 
 -- parts that are equal
 pub parts_same : (script : MultiScript) (members now : List Member) (given later : List (List ℕ)) (order noted : List ℕ) (passed last : ℕ) → now ≡ members → later ≡ given → noted ≡ order
@@ -364,9 +442,10 @@ parts_same script members now given later order noted passed last same lists ite
 -- memory was taken
 pub reserved_keeps : (script : MultiScript) (r q : Running) → q.members ≡ r.members → lists_of q.given ≡ lists_of r.given → q.order.items ≡ r.order.items → q.passed ≡ r.passed → q.last ≡ r.last → KeepsRunning script r → KeepsRunning script q
 reserved_keeps script r q members lists items passed last is =
-    let parts = parts_same script r.members q.members (lists_of r.given) (lists_of q.given) r.order.items q.order.items q.passed q.last members lists items
-    (subst (λ k. KeepsParts script r.members (lists_of r.given) r.order.items k q.last) (sym passed) (subst (KeepsParts script r.members (lists_of r.given) r.order.items r.passed) (sym last) (is.keeps, is.follows))) in
-    record { keeps = parts.0; last_there = subst (λ n. n ≤ most_client script.clients) (sym last) is.last_there; follows = parts.1 }
+    running_of script q (subst (λ n. n ≤ most_client script.clients) (sym last) is.last_there)
+    (parts_same script r.members q.members (lists_of r.given) (lists_of q.given) r.order.items q.order.items q.passed q.last members lists items
+    (subst (λ k. KeepsParts script r.members (lists_of r.given) r.order.items k q.last) (sym passed)
+    (subst (KeepsParts script r.members (lists_of r.given) r.order.items r.passed) (sym last) (parts_of script r is))))
 
 -- and the next turn is the same
 pub reserved_turn : (script : MultiScript) (r q : Running) (client taken : ℕ) → q.members ≡ r.members → lists_of q.given ≡ lists_of r.given → q.passed ≡ r.passed → q.last ≡ r.last → TakesNextTurn script r client taken → (merged : List MultiEntry)
@@ -393,9 +472,9 @@ noted_keeps script q later a b client member did handed made old new is_made is_
     = lists ∙ ap (λ (x : Running). with_handed (lists_of x.given) client handed) rest_a ∙ ap (with_handed (lists_of q.given) client) is_handed in
     let order : b.order.items ≡ cond (nat_lt old new) (q.order.items ++ member ∷ []) q.order.items
     = ap (λ (x : Running). x.order.items) rest_b ∙ items ∙ ap (λ t. cond t (q.order.items ++ member ∷ []) q.order.items) is_made in
-    let parts = parts_same script later b.members (with_handed (lists_of q.given) client (handed_by did)) (lists_of b.given)
-    (cond (nat_lt old new) (q.order.items ++ member ∷ []) q.order.items) b.order.items taken client members given order kept in
-    record { keeps = parts.0; last_there = within; follows = parts.1 }
+    running_of script (record b { passed = taken; last = client }) within
+    (parts_same script later b.members (with_handed (lists_of q.given) client (handed_by did)) (lists_of b.given)
+    (cond (nat_lt old new) (q.order.items ++ member ∷ []) q.order.items) b.order.items taken client members given order kept)
 
 -- a client's next call is of a member
 pub its_next : (o : Option MultiCall) (member : ℕ) → option_map (λ (c : MultiCall). c.member) o ≡ Some member → (written : MultiCall) × (o ≡ Some written) × (written.member ≡ member)
@@ -408,6 +487,9 @@ pub idle_turn : (script : MultiScript) (r : Running) (client taken : ℕ) → Ke
 idle_turn script r client taken is first last none turn = record {
   keeps = is.keeps;
   last_there = last;
+  sets_up = is.sets_up;
+  asked = is.asked;
+  begins = is.begins;
   follows = λ unstruck. follows_idle r.members script (lists_of r.given) is.keeps.merged r.passed r.last client taken first last none (turn is.keeps.merged) (is.follows unstruck);
 }
 

@@ -3,6 +3,7 @@ use Rattle.std.proofs.Common.{◌≡◌, ◌≢◌, ◌⊎◌, ℕ, ◌+◌, ◌
 use Rattle.std.specs.Option.{option_map_or}
 use Rattle.std.specs.declared.option.Option.{Option}
 use Rattle.sg_facts.specs.sg_base.Lists.{Each}
+use Rattle.sg_facts.specs.sg_base.Stops.{asked_after}
 use Rattle.sg_facts.specs.sg_base.declared.call.Call.{Call}
 use Rattle.sg_facts.specs.sg_base.declared.reply.Code.{Code}
 use Rattle.sg_facts.specs.sg_base.declared.reply.Good.{Good}
@@ -41,7 +42,7 @@ use Rattle.sg_multi.specs.sg_sim.sg_clients.declared.phase.Phase.{Phase}
 use Rattle.sg_multi.specs.sg_sim.sg_clients.declared.phase.Phase.TheVariants.{Idle, Asked, Held, Receipted, Blocked, Left}
 use Rattle.sg_multi.specs.sg_sim.sg_world.declared.did.Did.{Did}
 use Rattle.sg_multi.specs.sg_sim.sg_world.declared.did.Did.TheVariants.{Answered, Blocked as Waits, Booted, Loaded, Lost, Replayed, Served, Skipped, Struck}
-use Rattle.sg_multi.specs.sg_sim.sg_world.Steps.{Commits, HandsOver, HasStepped, Holds, Loads, Loses, Refuses, Replays, Returns, Skips, Steps, WaitsNow}
+use Rattle.sg_multi.specs.sg_sim.sg_world.Steps.{Commits, HandsOver, HasStepped, Holds, Loads, Loses, Refuses, Replays, Returns, Skips, Steps, StopsAfter, WaitsNow}
 use Rattle.sg_multi.specs.sg_sim.sg_world_laws.Setting.{Setting, stubs_of}
 use Rattle.sg_multi.specs.Inside.Following.{NeverStruck}
 use Rattle.sg_multi.specs.Inside.Member.{KeepsMember}
@@ -201,6 +202,15 @@ module _ (z : Setting) (w : WorldView) (c : ℕ) (did : Did) (later : WorldView)
   -- what a client's turn does that has a call under way
   abbrev pub TurnsAs : Type 0
   TurnsAs = StaysBlocked ⊎ TakesReceipt ⊎ TakesHeld ⊎ IsRefused ⊎ HasToWait ⊎ IsCommitted ⊎ IsHeld
+
+-- a step in which the service stopped for the first time: nothing was answered in it, or a call was committed as in a turn
+pub record StopsFirst (z : Setting) (w : WorldView) (c : ℕ) (did : Did) (now : WorldView) : Type 0 where
+  pub items : List Item
+  pub stop : ℕ
+  pub one : now.run.boots ≡ record { items = items; stop = Some stop } ∷ []
+  pub down : now.running ≡ None
+  pub hold : HoldAll z.iface.facts now.seats
+  pub done : ((now.history ≡ w.history) × (now.seats ≡ w.seats)) ⊎ TurnsAs z w c did now
 
 -- ---- no service stops
 
@@ -458,8 +468,8 @@ module _ (z : Setting) (w : WorldView) (c : ℕ) (first : 1 ≤ c) (last : c ≤
       (subst (λ (y : WorldView). Each (HasItem facts y.history y.run) y.history) l.now (served refl))
   comes Served later (inr l) none served = holds later l
 
-  counted_too : (did : Did) (later : WorldView) → Comes did later → Comes did (happened later)
-  counted_too did later (n, t) = (record { hold = n.hold; items = n.items; one = n.one; up = n.up; all_there = n.all_there; held = n.held }, by t)
+  turn_counted : (did : Did) (later : WorldView) → TurnsAs z w c did later → TurnsAs z w c did (happened later)
+  turn_counted did later t = by t
     where
       by : TurnsAs z w c did later → TurnsAs z w c did (happened later)
       by (inl t) = inl (record { phase = t.phase; history = t.history; seats = t.seats; quiet = t.quiet })
@@ -489,11 +499,96 @@ module _ (z : Setting) (w : WorldView) (c : ℕ) (first : 1 ≤ c) (last : c ≤
         quiet = t.quiet;
       }))))))
 
+  counted_too : (did : Did) (later : WorldView) → Comes did later → Comes did (happened later)
+  counted_too did later (n, t) = (record { hold = n.hold; items = n.items; one = n.one; up = n.up; all_there = n.all_there; held = n.held }, turn_counted did later t)
+
   -- a step that no stop struck is a turn of the play without stops
   pub unstopped : (did : Did) (now : WorldView) → HasStepped z w c did now → RecoversSoFar z now → struck_in now.run ≡ [] → NeverStruck z now × TurnsAs z w c did now
   unstopped did now stepped behind none =
       subst (Comes did) (sym stepped.counted) (counted_too did stepped.later (comes did stepped.later stepped.steps (ap (λ (y : WorldView). struck_in y.run) (sym stepped.counted) ∙ none)
       (λ is_served. subst (λ (y : WorldView). Each (HasItem facts y.history y.run) y.history) stepped.counted behind.recovering.served.items)))
+
+  -- ---- the service stops
+
+  abbrev Ends : Did → WorldView → Type 0
+  Ends did later = (stops_of later.run.boots ≡ []) ⊎ StopsFirst z w c did later
+
+  -- it stops before anything is answered
+  stops_before : (later : WorldView) (boots : List Boot) (items : List Item) (stop : ℕ) → later.run.boots ≡ struck boots stop → boots ≡ record { items = items; stop = None } ∷ [] → later.running ≡ None
+      → later.history ≡ w.history → later.seats ≡ w.seats → Ends Struck later
+  stops_before later boots items stop is one down history seats = inr (record {
+    items = items;
+    stop = stop;
+    one = is ∙ ap (λ l. struck l stop) one;
+    down = down;
+    hold = subst (HoldAll facts) (sym seats) a.hold;
+    done = inl (history, seats);
+  })
+
+  -- it stops right after a commit
+  stops_after : (later : WorldView) → StopsAfter z w c later → Ends Struck later
+  stops_after later l =
+      let k = l.commits in
+      let offers : is_offered s.phase ≡ true = offering l.between k in
+      let new = seat_after facts w c k.reply Receipted k.reply in
+      let enters : EntersAs z w c Receipted k.reply k.reply later = record {
+        history = ap (λ (y : WorldView). y.history) l.now ∙ history_now l.between k;
+        seats = ap (λ (y : WorldView). y.seats) l.now ∙ ap (λ (y : WorldView). y.seats) k.now ∙ given_seats facts w c k.reply (its offers);
+      } in
+      inr (record {
+        items = a.items ++ k.asks.item ∷ [];
+        stop = asked_after l.between.run.points 1;
+        one = ap (λ (y : WorldView). y.run.boots) l.now ∙ ap (λ b. struck b (asked_after l.between.run.points 1)) (boots_now l.between k);
+        down = ap (λ (y : WorldView). y.running) l.now;
+        hold = subst (HoldAll facts) (sym enters.seats)
+            (each_set (HoldsSo facts) (woken facts w c k.reply) c new first (within_woken k.reply) (each_woken (HoldsSo facts) (test k.reply) w.seats (asked_holds facts) a.hold)
+            (record { hidden = λ held. absurd (cc held); receipt = λ receipted. omega (arith, number offers) }));
+        done = inr (inr (inr (inr (inr (inr (inl (record {
+          phase = k.asks.reaches.uses.let_in.phase;
+          passes = passing l.between k;
+          reply = k.reply;
+          answers = answering l.between k;
+          visible = k.visible;
+          enters = enters;
+          quiet = refl;
+        })))))));
+      })
+
+  -- no stop struck it
+  goes_up : (did : Did) (later : WorldView) (items : List Item) → later.run.boots ≡ record { items = items; stop = None } ∷ [] → Ends did later
+  goes_up did later items one = inl (ap stops_of one)
+
+  ends_by : (did : Did) (later : WorldView) → Steps z w c did later → Ends did later
+  ends_by Skipped later l = goes_up Skipped later a.items (ap (λ (y : WorldView). y.run.boots) l.now ∙ a.one)
+  ends_by (Answered reply) later (inl l) = goes_up (Answered reply) later a.items (ap (λ (y : WorldView). y.run.boots) l.now ∙ a.one)
+  ends_by (Answered reply) later (inr (inl l)) = goes_up (Answered reply) later a.items (ap (λ (y : WorldView). y.run.boots) l.now ∙ a.one)
+  ends_by (Answered reply) later (inr (inr l)) = goes_up (Answered reply) later a.items (ap (λ (y : WorldView). y.run.boots) l.now ∙ a.one)
+  ends_by Lost later l = goes_up Lost later a.items (ap (λ (y : WorldView). y.run.boots) l.now ∙ a.one)
+  ends_by Booted later l = absurd (down_never l.failed)
+  ends_by Struck later (inl l) = stops_before later w.run.boots a.items _ (ap (λ y. y.run.boots) l.now) a.one (ap (λ y. y.running) l.now) (ap (λ y. y.history) l.now) (ap (λ y. y.seats) l.now)
+  ends_by Struck later (inr (inl l)) =
+      stops_before later (noted w.run.boots l.item) (a.items ++ l.item ∷ []) _ (ap (λ y. y.run.boots) l.now) (noted_is l.item) (ap (λ y. y.running) l.now) (ap (λ y. y.history) l.now) (ap (λ y. y.seats) l.now)
+  ends_by Struck later (inr (inr (inl l))) =
+      stops_before later (noted w.run.boots l.asks.item) (a.items ++ l.asks.item ∷ []) _ (ap (λ y. y.run.boots) l.now) (noted_is l.asks.item) (ap (λ y. y.running) l.now) (ap (λ y. y.history) l.now)
+      (ap (λ y. y.seats) l.now)
+  ends_by Struck later (inr (inr (inr l))) = stops_after later l
+  ends_by Replayed later l = goes_up Replayed later (a.items ++ l.item ∷ []) (ap (λ (y : WorldView). y.run.boots) l.now ∙ noted_is l.item)
+  ends_by Loaded later l = goes_up Loaded later (a.items ++ l.item ∷ []) (ap (λ (y : WorldView). y.run.boots) l.now ∙ noted_is l.item)
+  ends_by Waits later l = goes_up Waits later (a.items ++ l.asks.item ∷ []) (ap (λ (y : WorldView). y.run.boots) l.now ∙ noted_is l.asks.item)
+  ends_by Served later (inl l) = goes_up Served later (a.items ++ l.commits.asks.item ∷ []) (ap (λ (y : WorldView). y.run.boots) l.now ∙ boots_now l.between l.commits)
+  ends_by Served later (inr l) = goes_up Served later (a.items ++ l.asks.item ∷ []) (ap (λ (y : WorldView). y.run.boots) l.now ∙ noted_is l.asks.item)
+
+  ends_counted : (did : Did) (later : WorldView) → Ends did later → Ends did (happened later)
+  ends_counted did later (inl none) = inl none
+  ends_counted did later (inr f) = inr (record { items = f.items; stop = f.stop; one = f.one; down = f.down; hold = f.hold; done = by f.done })
+    where
+      by : ((later.history ≡ w.history) × (later.seats ≡ w.seats)) ⊎ TurnsAs z w c did later → ((later.history ≡ w.history) × (later.seats ≡ w.seats)) ⊎ TurnsAs z w c did (happened later)
+      by (inl same) = inl same
+      by (inr t) = inr (turn_counted did later t)
+
+  -- a step strikes the service nowhere, or for the first time
+  pub stops_or_not : (did : Did) (now : WorldView) → HasStepped z w c did now → (struck_in now.run ≡ []) ⊎ StopsFirst z w c did now
+  stops_or_not did now stepped = subst (Ends did) (sym stepped.counted) (ends_counted did stepped.later (ends_by did stepped.later stepped.steps))
 
 -- ---- changes that no call is done in
 

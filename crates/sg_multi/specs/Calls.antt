@@ -1,5 +1,5 @@
 -- The calls of a script's clients over several members.
-use Rattle.std.specs.Prelude.{ℕ, ◌≡◌, ◌-◌, ◌==◌, Bool, not, List, [], ◌∷◌, Some, filter, length, slice_get, take, true}
+use Rattle.std.specs.Prelude.{ℕ, ◌≡◌, ◌-◌, ◌==◌, Bool, not, List, [], ◌∷◌, Some, filter, length, map, slice_get, take, true}
 use Rattle.std.specs.List.{list_all, list_any}
 use Rattle.sg_facts.specs.sg_base.Lists.{Each}
 use Rattle.sg_facts.specs.sg_base.declared.call.Call.{Call}
@@ -7,6 +7,7 @@ use Rattle.sg_facts.specs.Interface.{Declared}
 use Rattle.sg_multi.specs.sg_sim.sg_plain.Calls.{ascending_from, calls_with_setup, most_client, resolved_by}
 use Rattle.sg_multi.specs.sg_sim.sg_script.declared.multi.MultiCall.{MultiCall}
 use Rattle.sg_multi.specs.sg_sim.sg_script.declared.multi.MultiScript.{MultiScript}
+use Rattle.sg_multi.specs.sg_sim.sg_script.declared.script.Script.{Script}
 use Rattle.sg_multi.specs.Merged.{MultiEntry, entries_in, own_in}
 
 -- ---- the calls of a client
@@ -14,6 +15,10 @@ use Rattle.sg_multi.specs.Merged.{MultiEntry, entries_in, own_in}
 -- all calls of a client, over all members: for client 1 those of the setup come first
 abbrev pub multi_calls : MultiScript → ℕ → List MultiCall
 multi_calls script client = calls_with_setup script.setup script.clients client
+
+-- the setup's calls of one member, as the setup of a script for it alone
+abbrev pub setup_at : ℕ → MultiScript → Script
+setup_at member script = record { setup = map (λ c. c.call) (filter (λ c. c.member == member) script.setup); clients = []; schedule = []; stops = [] }
 
 -- a call of a client is this one of the script: of its member, with the member's interface, where `$k` is the descriptor that the
 -- client's k-th call over all members was given. It has its own number, since a client's calls are numbered for each member apart

@@ -1,5 +1,5 @@
 -- The printed run of a play over several services.
-use Rattle.std.specs.Prelude.{ℕ, ◌+◌, ◌-◌, ◌==◌, Bool, ◌&&◌, not, if◌then◌else◌, List, [], ◌∷◌, ◌++◌, codes, length, map, slice_get, take_while, zip}
+use Rattle.std.specs.Prelude.{ℕ, ◌+◌, ◌-◌, Bool, if◌then◌else◌, List, [], ◌∷◌, ◌++◌, codes, length, map, slice_get, zip}
 use Rattle.std.specs.Fmt.{decimal}
 use Rattle.std.specs.List.{flat_map}
 use Rattle.std.specs.Option.{option_map_or}
@@ -12,7 +12,7 @@ use Rattle.sg_facts.specs.declared.trace.Tag.{Tag}
 use Rattle.sg_facts.specs.declared.trace.Tag.TheVariants.{Walk, Load, Client}
 use Rattle.sg_report.specs.Report.{boots_lines, call_text, counts_text, entry_line}
 use Rattle.sg_report.specs.sg_hist.declared.ended.Ended.{Ended}
-use Rattle.sg_multi.specs.Merged.{MultiEntry, own_in}
+use Rattle.sg_multi.specs.Merged.{MultiEntry, number_over_all, own_in}
 use Rattle.sg_multi.specs.Played.{MultiCame}
 use Rattle.sg_multi.specs.declared.ended.MultiEnd.{MultiEnd}
 use Rattle.sg_multi.specs.declared.ended.MultiEnd.TheVariants.{Done, Blocked}
@@ -21,22 +21,11 @@ use Rattle.sg_multi.specs.declared.ended.MultiEnd.TheVariants.{Done, Blocked}
 abbrev pub by_member : List Facts → ℕ → (Facts → List ℕ) → List ℕ
 by_member services member print = option_map_or print (slice_get services (member - 1)) []
 
--- ---- numbers over all members
+-- ---- the merged list, and how the clients ended
 
 -- an entry under another number of its call
 abbrev pub under_number : ℕ → Entry → Entry
 under_number number e = record e { call = record e.call { seq = number } }
-
--- whether an entry is that of a client's call, which has this number at its member
-abbrev pub is_of_call : ℕ → ℕ → ℕ → MultiEntry → Bool
-is_of_call member client seq e = (e.member == member) && (e.entry.call.client == client) && (e.entry.call.seq == seq)
-
--- the number over all members of a client's call, which has the number `seq` at its member: one more than the client's entries before that
--- of the call, and than all of the client's entries where the call has none
-abbrev pub number_over_all : List MultiEntry → ℕ → ℕ → ℕ → ℕ
-number_over_all merged member client seq = length (own_in client (take_while (λ e. not (is_of_call member client seq e)) merged)) + 1
-
--- ---- the merged list, and how the clients ended
 
 -- the line of an entry after others: its call is under its number over all members, one more than its client's entries before it
 abbrev pub merged_line : List Facts → List MultiEntry → MultiEntry → List ℕ

@@ -1,8 +1,7 @@
 // Numbers of calls over all members.
 ghost use Rattle.std.specs.Prelude.{◌≡◌, ℕ, ◌+◌, ◌++◌, ◌∷◌, [], List, Some, IfOk, OnOk, map};
 ghost use Rattle.sg_multi.specs.Inside.Numbers.{AddsNumber, AreKept, CountsOne, HasRead, counted, next_of, number_by};
-ghost use Rattle.sg_multi.specs.Merged.{Merges, MultiEntry};
-ghost use Rattle.sg_multi.specs.Report.{number_over_all};
+ghost use Rattle.sg_multi.specs.Merged.{Merges, MultiEntry, number_over_all};
 
 use crate::merged::Reader;
 use sg_facts::NoMemory;

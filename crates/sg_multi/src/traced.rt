@@ -7,8 +7,8 @@ ghost use Rattle.sg_facts.specs.Words.{line_end};
 ghost use Rattle.sg_report.specs.Inside.Pieces.{boot_lines};
 ghost use Rattle.sg_report.specs.Report.{boots_lines, item_text};
 ghost use Rattle.sg_multi.specs.Inside.Numbers.{number_by};
-ghost use Rattle.sg_multi.specs.Merged.{Merges, MultiEntry};
-ghost use Rattle.sg_multi.specs.Report.{number_over_all, renumbered, renumbered_boot, renumbered_item, trace_lines, traces_lines};
+ghost use Rattle.sg_multi.specs.Merged.{Merges, MultiEntry, number_over_all};
+ghost use Rattle.sg_multi.specs.Report.{renumbered, renumbered_boot, renumbered_item, trace_lines, traces_lines};
 
 use crate::numbers::{CallKey, Numbers};
 use crate::play::MemberTables;

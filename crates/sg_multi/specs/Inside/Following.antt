@@ -1,7 +1,14 @@
--- How a play over several services follows the play without stops, while no member is stopped.
-use Rattle.std.specs.Prelude.{ℕ, ◌≡◌, ◌-◌, ◌≤◌, List, [], ◌∷◌, None, Some, IsSome, drop, length, map, slice_get}
+-- How a play over several services follows the play without stops, while no member is stopped, and what it makes of its entries afterwards.
+use Rattle.std.specs.Prelude.{ℕ, ◌≡◌, ◌≢◌, ◌⊎◌, ◌+◌, ◌-◌, ◌≤◌, true, false, List, [], ◌∷◌, ◌++◌, None, Some, IsSome, drop, length, map, slice_get}
+use Rattle.std.specs.List.{list_any}
 use Rattle.std.specs.Option.{option_map_or}
+use Rattle.std.specs.declared.option.Option.{Option}
+use Rattle.sg_facts.specs.Facts.{Facts, is_visible}
+use Rattle.sg_facts.specs.Object.{Object}
+use Rattle.sg_facts.specs.Trace.{Boot}
+use Rattle.sg_facts.specs.declared.entry.Entry.{Entry}
 use Rattle.sg_facts.specs.declared.trace.Item.{Item}
+use Rattle.sg_facts.specs.sg_base.Lists.{Each}
 use Rattle.sg_multi.specs.Members.{setting_in, view_in}
 use Rattle.sg_multi.specs.declared.member.Member.{Member}
 use Rattle.sg_multi.specs.sg_sim.sg_plain.Calls.{ascending_from, most_client}
@@ -9,13 +16,14 @@ use Rattle.sg_multi.specs.sg_sim.sg_plain.Plain.{PlainPhase, Player, Stage, firs
 use Rattle.sg_multi.specs.sg_sim.sg_plain.Playing.Given.{given_in}
 use Rattle.sg_multi.specs.sg_sim.sg_play.Following.Follows.{HoldAll, IsAllThere}
 use Rattle.sg_multi.specs.sg_sim.sg_play.Following.Stages.{phase_by}
+use Rattle.sg_multi.specs.sg_sim.sg_play.sg_hist.Reading.{is_by_guard, is_item_of, items_of}
 use Rattle.sg_multi.specs.sg_sim.sg_play.sg_hist.Recovered.{struck_in}
 use Rattle.sg_multi.specs.sg_sim.sg_script.declared.multi.MultiScript.{MultiScript}
 use Rattle.sg_multi.specs.sg_sim.sg_clients.WorldView.{Seat, WorldView, seat_of}
 use Rattle.sg_multi.specs.sg_sim.sg_clients.declared.phase.Phase.TheVariants.{Held}
 use Rattle.sg_multi.specs.sg_sim.sg_world_laws.Setting.{Setting}
 use Rattle.sg_multi.specs.Inside.Whose.{next_of, seat_at}
-use Rattle.sg_multi.specs.Merged.{MultiEntry}
+use Rattle.sg_multi.specs.Merged.{MultiEntry, entries_at}
 use Rattle.sg_multi.specs.Played.{stubs_in}
 use Rattle.sg_multi.specs.SeveralServices.{multi_workload, several_services}
 
@@ -72,3 +80,34 @@ pub record FollowsMulti (members : List Member) (script : MultiScript) (given : 
   pub up : (place : ℕ) (m : Member) → slice_get members place ≡ Some m → NeverStruck (setting_in m) (view_in m)
   pub turns : ℕ
   pub at : stage_now members script given merged passed last ≡ stage_from (several_services (map stubs_in members) script) (multi_workload script) (first_stage (multi_workload script)) turns
+
+-- ---- once a member was stopped
+
+-- an entry isn't visible, or a refusal by the guard, or it has one of these items
+abbrev pub IsNotBefore : Facts → List Item → Entry → Type 0
+IsNotBefore facts items e = (is_visible facts e.call.fun ≡ false) ⊎ (is_by_guard e.reply ≡ true) ⊎ (list_any (is_item_of e) items ≡ true)
+
+-- a service stopped in its first boot, and each visible entry that was made since has its item in a later one
+pub record HasStopped (facts : Facts) (since : List Entry) (boots : List Boot) (running : Option Object) : Type 0 where
+  pub first : Boot
+  pub newer : List Boot
+  pub are : boots ≡ first ∷ newer
+  pub stopped : IsSome first.stop
+  pub again : IsSome running → newer ≢ []
+  pub later : Each (IsNotBefore facts (items_of newer)) since
+
+-- a member was stopped: up to then the entries were those of a stage of the play without stops, and each visible one that it made since has
+-- its item in a later boot than the first; and a reply that a client of it holds is of a call that isn't visible
+pub record IsPastFirstStop (members : List Member) (script : MultiScript) (merged : List MultiEntry) : Type 0 where
+  pub place : ℕ
+  pub member : Member
+  pub there : slice_get members place ≡ Some member
+  pub turns : ℕ
+  pub more : List MultiEntry
+  pub entries : merged ≡ (stage_from (several_services (map stubs_in members) script) (multi_workload script) (first_stage (multi_workload script)) turns).history ++ more
+  pub past : HasStopped (setting_in member).iface.facts (entries_at (place + 1) more) (view_in member).run.boots (view_in member).running
+  pub hold : HoldAll (setting_in member).iface.facts (view_in member).seats
+
+-- no member was stopped so far, or one was
+abbrev pub Begins : List Member → MultiScript → List MultiEntry → Type 0
+Begins members script merged = NoneStruck members ⊎ IsPastFirstStop members script merged

@@ -7,8 +7,7 @@ use Rattle.std.specs.List.{list_any}
 use Rattle.std.specs.Option.{option_and_then, unwrap_or}
 use Rattle.std.specs.Ordering.{nat_cmp, ordering_then}
 use Rattle.sg_facts.specs.declared.entry.Entry.{Entry}
-use Rattle.sg_multi.specs.Merged.{MultiEntry, entries_at, own_in}
-use Rattle.sg_multi.specs.Report.{is_of_call, number_over_all}
+use Rattle.sg_multi.specs.Merged.{MultiEntry, entries_at, is_of_call, number_over_all, own_in}
 use Rattle.sg_multi.specs.declared.merged.Reader.{Reader}
 use Rattle.sg_multi.specs.declared.numbers.CallKey.{CallKey}
 use Rattle.sg_multi.specs.declared.numbers.Numbers.{Numbers}

@@ -6,8 +6,10 @@ use Rattle.sg_multi.specs.sg_sim.Inside.Givens.{lists_of}
 use Rattle.sg_multi.specs.sg_sim.sg_plain.Calls.{ascending_from, most_client}
 use Rattle.sg_multi.specs.sg_sim.sg_script.declared.multi.MultiScript.{MultiScript}
 use Rattle.sg_multi.specs.Calls.{has_multi_calls}
-use Rattle.sg_multi.specs.Inside.Following.{FollowsMulti, IsNextMultiTurn, NoneStruck, stage_now}
+use Rattle.sg_multi.specs.Inside.Asked.{AreAskedSoFar}
+use Rattle.sg_multi.specs.Inside.Following.{Begins, FollowsMulti, IsNextMultiTurn, NoneStruck, stage_now}
 use Rattle.sg_multi.specs.Inside.Keeps.{KeepsMulti, is_multi_setting_up}
+use Rattle.sg_multi.specs.Inside.SettingUp.{AreSettingUp}
 use Rattle.sg_multi.specs.Inside.Whose.{NobodyGoesOn, may_go_on, next_of, seat_at}
 use Rattle.sg_multi.specs.Merged.{MultiEntry}
 use Rattle.sg_multi.specs.Played.{stubs_in}
@@ -31,12 +33,16 @@ ends_up_to members script given last = map (λ c. (c, end_of_client members scri
 
 -- ---- the parts of a play that change
 
--- they keep what a play keeps, the client of the last turn is one of the play's, and where no member was stopped so far the play follows the
--- play without stops
+-- they keep what a play keeps, the client of the last turn is one of the play's, the setup comes first in each member's run, which was asked a
+-- client's call once its earlier calls were answered; and where no member was stopped so far the play follows the play without stops, whose
+-- first entries it has in any case
 pub record KeepsRunning (script : MultiScript) (r : Running) : Type 0 where
   pub keeps : KeepsMulti r.members script (lists_of r.given) r.order.items
   pub last_there : r.last ≤ most_client script.clients
+  pub sets_up : AreSettingUp r.members script (lists_of r.given)
+  pub asked : AreAskedSoFar r.members script keeps.merged
   pub follows : NoneStruck r.members → FollowsMulti r.members script (lists_of r.given) keeps.merged r.passed r.last
+  pub begins : Begins r.members script keeps.merged
 
 -- the members are of the services that they were of, with their tables
 abbrev pub SameMembers : List Member → List Member → Type 0

@@ -8,7 +8,8 @@ use Rattle.sg_multi.specs.Inside.Turns.{ends_up_to}
 use Rattle.sg_multi.specs.Played.{AreOfMembers, IsMultiPlayed, MultiCame, stubs_in}
 use Rattle.sg_multi.proofs.Ending.{multi_played}
 use Rattle.sg_multi.proofs.Following.{follows_over}
-use Rattle.sg_multi.proofs.Turning.{few_members, of_members}
+use Rattle.sg_multi.proofs.PastStop.{begins_over}
+use Rattle.sg_multi.proofs.Turning.{few_members, first_there, of_members}
 use Rattle.sg_multi.proofs.play.ended.Goals as goal
 
 pub ended_members-requires : goal.ended_members-requires
@@ -26,8 +27,9 @@ returns-clause-played c =
     = subst (λ e. AreEndedMembers r.members e eds) (c.as_slice-2.ensures ∙ c.in_ok-ends.ensures) (subst (λ (ms : List Member). AreEndedMembers ms c.as_slice-2.result.now eds) c.as_slice.ensures c.in_ok-members.ensures) in
     let order = c.in_ok-order.ensures ∙ c.as_slice-3.ensures in
     subst (IsMultiPlayed (map stubs_in r.members) s) (sym (c.new.ensures ∙ ap (λ o. record { order = o; members = eds; ends = c.in_ok-ends.ends }) order ∙ ap (λ e. record { order = r.order.items; members = eds; ends = e }) c.in_ok-ends.ensures))
-    (multi_played r.members s (lists_of r.given) r.order.items c.requires.keeps.keeps c.requires.over.nobody eds are
-    (follows_over r.members s (lists_of r.given) r.order.items c.requires.keeps.keeps r.passed r.last c.requires.over.nobody c.requires.over.settled c.requires.keeps.follows ends eds are))
+    (multi_played r.members s (lists_of r.given) r.order.items c.requires.keeps.keeps c.requires.over.nobody (first_there s r c.requires.keeps) c.requires.over.settled c.requires.keeps.sets_up c.requires.keeps.asked eds are
+    (follows_over r.members s (lists_of r.given) r.order.items c.requires.keeps.keeps r.passed r.last c.requires.over.nobody c.requires.over.settled c.requires.keeps.follows ends eds are)
+    (begins_over r.members s (lists_of r.given) c.requires.keeps.keeps.merged r.passed r.last c.requires.keeps.follows c.requires.keeps.begins ends eds are))
 
 pub returns-clause-worlds : goal.returns-clause-worlds
 returns-clause-worlds c =

@@ -2,7 +2,8 @@
 use Rattle.std.proofs.Common.{◌≡◌, ◌++◌, OnOk, map, subst}
 use Rattle.std.proofs.Math.Path.{fun_ext}
 use Rattle.sg_multi.specs.Inside.Numbers.{number_by}
-use Rattle.sg_multi.specs.Report.{number_over_all, traces_lines}
+use Rattle.sg_multi.specs.Merged.{number_over_all}
+use Rattle.sg_multi.specs.Report.{traces_lines}
 use Rattle.sg_multi.proofs.traced.push_all_traces.Goals as goal
 
 pub returns : goal.returns

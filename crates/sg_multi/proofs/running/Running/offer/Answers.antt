@@ -125,7 +125,7 @@ returns-clause-keeps c =
     = subst (λ (i : Declared). IsResolved i.facts own c.args.call.now.call made) c.interface-used.ensures
     (c.in_ok-next.ensures.call own (subst (GaveIds own) (sym c.of.ensures) (gave_own r.members c.args.script.now r.given r.order.items c.requires.keeps.keeps c.args.client c.requires.first c.requires.last c.args.call.now c.requires.next m there free))) in
     let still = offered_at r.members c.args.script.now r.given r.order.items c.requires.keeps.keeps c.args.client c.requires.first c.requires.last c.args.call.now c.requires.next m there free made resolved c.in_ok-next.ensures.words c.from-place.result c.from-place.ensures c.offer.new.self c.offer.result c.offer.ensures.ok c.offer.ensures.err in
-    record { keeps = still.kept; last_there = c.requires.keeps.last_there; follows = still.follows r.passed r.last c.requires.keeps.follows }
+    record { keeps = still.kept; last_there = c.requires.keeps.last_there; sets_up = still.sets_up c.requires.keeps.sets_up; asked = still.asked c.requires.keeps.asked; begins = still.begins c.requires.keeps.begins; follows = still.follows r.passed r.last c.requires.keeps.follows }
 
 pub returns-clause-same : goal.returns-clause-same
 returns-clause-same c =

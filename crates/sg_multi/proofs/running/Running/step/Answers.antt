@@ -13,7 +13,7 @@ use Rattle.sg_multi.specs.Inside.Turns.{KeepsRunning}
 use Rattle.sg_multi.specs.Inside.Whose.{next_of, seat_at}
 use Rattle.sg_multi.specs.Played.{stubs_in}
 use Rattle.sg_multi.specs.declared.running.Running.{Running}
-use Rattle.sg_multi.proofs.Turning.{as_many, client_there, its_next, noted_keeps, on_err, reserved_keeps, reserved_turn, seat_is, seats_there, stepped_at, stepped_follows, stepped_same, stepped_seats, wanted_at}
+use Rattle.sg_multi.proofs.Turning.{as_many, client_there, its_next, noted_keeps, on_err, reserved_keeps, reserved_turn, seat_is, seats_there, stepped_asked, stepped_at, stepped_begins, stepped_follows, stepped_same, stepped_seats, stepped_sets_up, wanted_at}
 use Rattle.sg_multi.proofs.running.Running.step.Goals as goal
 
 pub reserve-requires : goal.reserve-requires
@@ -71,7 +71,7 @@ returns-in_err-did-clause-keeps c =
     let lists = lists_of q.given in
     let later = c.step.new.self in
     let still = wanted_at q.members s (lists_of q.given) q.order.items keeps.keeps c.args.client c.requires.first c.requires.last c.args.member c.from-place.result c.requires.some c.from-place.ensures m c.member_of.ensures later c.in_err-did.ensures.err in
-    on_err (KeepsRunning s (record q { members = later })) c.from_residual-in_err-did.result (record { keeps = still.kept; last_there = keeps.last_there; follows = still.follows q.passed q.last keeps.follows })
+    on_err (KeepsRunning s (record q { members = later })) c.from_residual-in_err-did.result (record { keeps = still.kept; last_there = keeps.last_there; sets_up = still.sets_up keeps.sets_up; asked = still.asked keeps.asked; begins = still.begins keeps.begins; follows = still.follows q.passed q.last keeps.follows })
 
 pub returns-in_err-did-clause-same : goal.returns-in_err-did-clause-same
 returns-in_err-did-clause-same c =
@@ -140,10 +140,17 @@ returns-clause-turned c = λ taken turn.
     let follows = stepped_follows q.members s lists q.order.items keeps.keeps c.args.client c.requires.first c.requires.last c.args.member c.from-place.result c.requires.some c.from-place.ensures m c.member_of.ensures later
     written.0 written.1 written.2 busy c.entries_of-before.ensures.told c.in_ok-did.did x c.member_of-2.ensures c.entries_of-after.ensures.told c.in_ok-did.ensures.did kept q.passed q.last taken
     (reserved_turn s r q c.args.client taken c.reserve.ensures.members c.reserve.ensures.lists c.reserve.ensures.passed c.reserve.ensures.last turn keeps.keeps.merged) keeps.follows in
+    let sets_up = stepped_sets_up q.members s lists q.order.items keeps.keeps c.args.client c.requires.first c.requires.last c.args.member c.from-place.result c.requires.some c.from-place.ensures m c.member_of.ensures later
+    setup c.in_ok-did.did c.in_ok-did.ensures.did keeps.sets_up in
+    let begins = stepped_begins q.members s lists q.order.items keeps.keeps c.args.client c.requires.first c.requires.last c.args.member c.from-place.result c.requires.some c.from-place.ensures m c.member_of.ensures later
+    written.0 written.1 written.2 busy c.entries_of-before.ensures.told c.in_ok-did.did x c.member_of-2.ensures c.in_ok-did.ensures.did kept q.passed q.last taken
+    (reserved_turn s r q c.args.client taken c.reserve.ensures.members c.reserve.ensures.lists c.reserve.ensures.passed c.reserve.ensures.last turn keeps.keeps.merged) keeps.follows keeps.begins in
+    let asked = stepped_asked q.members s lists q.order.items keeps.keeps c.args.client c.requires.first c.requires.last c.args.member c.from-place.result c.requires.some c.from-place.ensures m c.member_of.ensures later
+    c.entries_of-before.ensures.told c.in_ok-did.did x c.member_of-2.ensures c.in_ok-did.ensures.did kept keeps.asked in
     noted_keeps s q later c.note_entry.new.self c.note_reply.new.self c.args.client c.args.member c.in_ok-did.did c.handed.result (nat_lt c.entries_of-before.result c.entries_of-after.result)
     (seat_of (view_in m) c.args.client).seq (seat_of (view_in x) c.args.client).seq
     (ap (λ n. nat_lt n c.entries_of-after.result) c.entries_of-before.ensures.seq ∙ ap (nat_lt (seat_of (view_in m) c.args.client).seq) c.entries_of-after.ensures.seq)
-    c.handed.ensures c.note_entry.ensures.items c.note_entry.ensures.rest c.note_reply.ensures.lists c.note_reply.ensures.rest c.requires.last taken (kept, follows)
+    c.handed.ensures c.note_entry.ensures.items c.note_entry.ensures.rest c.note_reply.ensures.lists c.note_reply.ensures.rest c.requires.last taken (record { keeps = kept; sets_up = sets_up; asked = asked; begins = begins; follows = follows })
 
 pub returns-clause-same : goal.returns-clause-same
 returns-clause-same c =
