@@ -1,0 +1,3 @@
+pub mod ByToken
+pub mod Grammar
+pub use Rattle.sg_lex.proofs as sg_lex

@@ -1,0 +1,2 @@
+-- The automaton that the proofs rest on, and no public clause cites.
+pub mod States
