@@ -1,15 +1,17 @@
 -- What is read from a state, by the token that comes next.
-use Rattle.std.proofs.Common.{◌≡◌, ℕ, zero, suc, ◌+◌, ◌==◌, if◌then◌else◌, length, true, false, List, [], ◌∷◌, ◌++◌, refl, sym, ap, subst, ◌∙◌}
+use Rattle.std.proofs.Common.{◌≡◌, ℕ, zero, suc, ◌+◌, ◌==◌, ◌&&◌, if◌then◌else◌, length, true, false, nat_eq, List, [], ◌∷◌, ◌++◌, refl, sym, ap, subst, ◌∙◌}
 use Rattle.std.specs.Prelude.{None, Some, Ok, Err, codes, IfErr, IsErrAnd, MatchResult}
+use Rattle.std.specs.declared.option.Option.{Option}
 use Rattle.std.specs.declared.result.Result.{Result}
+use Rattle.std.specs.Cmp.Lexicographic.{pointwise}
 use Rattle.sg_lex.specs.declared.token.LexFault.{LexFault}
 use Rattle.sg_lex.specs.Lexeme.{Lexeme, Spelling as Named}
 use Rattle.sg_lex.specs.Tokens.{Answer}
-use Rattle.sg_parse.specs.declared.error.ParseError.{ParseError}
-use Rattle.sg_parse.specs.declared.error.ParseError.TheVariants.{Lex, Syntax}
-use Rattle.sg_parse.specs.Grammar.Inside.States.{State, dead, due, fork, want, names, stars, either, listed, statements, param, declared, type_of, with_statement, statement_after, one_rest, two_rest, plain_rest, returned_rest, has_sort, fits, named_by, step, tree_at, trees}
+use Rattle.sg_rules.specs.declared.error.ParseError.{ParseError}
+use Rattle.sg_rules.specs.declared.error.ParseError.TheVariants.{Lex, Syntax}
+use Rattle.sg_parse.specs.Grammar.Inside.States.{State, dead, due, fork, want, want_number, versioned, names, stars, either, listed, fielded, statements, param, declared, type_of, with_statement, statement_after, kept_after, one_rest, two_rest, plain_rest, returned_rest, external_rest, most_rest, unique_rest, answer_rest, has_sort, fits, named_by, step, tree_at, trees}
 use Rattle.sg_lex.specs.Inside.Automata.{Reading, read, read_on}
-use Rattle.sg_parse.proofs.Grammar.Basics.{if_then, if_else}
+use Rattle.sg_parse.proofs.Grammar.Basics.{if_then, if_else, mark-has_sort}
 use Rattle.sg_lex.proofs.Automata.{read_failed, read_next, read_end, alike}
 use Rattle.std.proofs.Math.Dec.{eqb-suc-zero}
 use Rattle.sg_parse.specs.declared.tree.Facts.{Facts}
@@ -21,8 +23,12 @@ use Rattle.sg_parse.specs.declared.words.Sort.{Sort}
 use Rattle.sg_parse.specs.declared.words.Sort.TheVariants.{Name, Form, One as one_word, Two as two_word}
 use Rattle.sg_parse.specs.Grammar.Inside.Forms.{star, comma, close_bracket}
 use Rattle.sg_parse.specs.Grammar.Words.{is_of}
-use Rattle.sg_parse.specs.Grammar.Pieces.{Piece, word, kept}
-use Rattle.sg_parse.specs.Inside.{named_token}
+use Rattle.sg_lex.specs.declared.token.TokenKind.TheVariants.{Number, Mark}
+use Rattle.sg_lex.specs.Inside.Tests.{has_kind}
+use Rattle.sg_lex.proofs.SameKinds.{kind_is}
+use Rattle.sg_rules.specs.declared.version.Newer.TheVariants.{Second, Third}
+use Rattle.sg_parse.specs.Grammar.Pieces.{Piece, word, version_number, kept}
+use Rattle.sg_parse.specs.Inside.{named_token, number_token}
 use Rattle.sg_lex.specs.Inside.Ahead.{Off, Came}
 
 -- ---- no token comes
@@ -82,6 +88,37 @@ pub word_missing : (sort : Sort) (k : Named → State) (old : Reading) → Off (
 unfolding step tree_at
 word_missing sort k old o = alike trees (want sort k) dead (has_sort sort) old (λ token h. if_else (has_sort sort token) (Some (k (named_by token))) None h) refl o
 
+pub number_came : (k : Named → State) (n : Named) (old new : Reading) → old.rest ≡ Ok (number_token n) ∷ new.rest → new.end ≡ old.end
+    → read trees (want_number k) old ≡ read trees (k n) new
+unfolding step
+number_came k n old new e g = read_next trees (want_number k) old new (number_token n) e g
+
+pub number_missing : (k : Named → State) (old : Reading) → Off (has_kind Number) old.rest → read trees (want_number k) old ≡ read trees dead old
+unfolding step tree_at
+number_missing k old o = alike trees (want_number k) dead (has_kind Number) old (λ token h. if_else (has_kind Number token) (Some (k (named_by token))) None h) refl o
+
+pub second_came : (two three : State) (old new : Reading) → Came (fits (version_number Second)) old.rest new.rest → new.end ≡ old.end
+    → read trees (versioned two three) old ≡ read trees two new
+unfolding step
+second_came two three old new m g =
+    read_next trees (versioned two three) old new m.token m.all g
+    ∙ ap (λ v. read_on trees v m.token new) (if_then (fits (version_number Second) m.token) (Some two) _ m.is)
+
+-- another number than 2
+third_due : (two three : State) (old : Reading) → Off (fits (version_number Second)) old.rest → read trees (versioned two three) old ≡ read trees (due (version_number Third) three) old
+unfolding step tree_at
+third_due two three old o =
+    alike trees (versioned two three) (due (version_number Third) three) (fits (version_number Second)) old
+    (λ token h. if_else (fits (version_number Second) token) (Some two) (if fits (version_number Third) token then Some three else None) h) refl o
+
+pub third_came : (two three : State) (old new : Reading) → Off (fits (version_number Second)) old.rest → Came (fits (version_number Third)) old.rest new.rest → new.end ≡ old.end
+    → read trees (versioned two three) old ≡ read trees three new
+third_came two three old new o m g = third_due two three old o ∙ due_came three (version_number Third) old new m g
+
+pub no_version : (two three : State) (old : Reading) → Off (fits (version_number Second)) old.rest → Off (fits (version_number Third)) old.rest
+    → read trees (versioned two three) old ≡ read trees dead old
+no_version two three old o p = third_due two three old o ∙ due_missing three (version_number Third) old p
+
 -- ---- states that go on where a test fails
 
 pub name_came : (front : List Named) (last : Named) (k : List Named → Named → ℕ → State) (n : Named) (old new : Reading)
@@ -139,6 +176,20 @@ unfolding step tree_at
 comma_missing params k old o =
     alike trees (listed params k) (due close_bracket (k params)) (fits comma) old
     (λ token h. if_else (fits comma token) (Some (param k params)) (if fits close_bracket token then Some (k params) else None) h) refl o
+
+pub field_came : (fields : List Named) (k : List Named → State) (old new : Reading) → Came (fits comma) old.rest new.rest → new.end ≡ old.end
+    → read trees (fielded fields k) old ≡ read trees (want Name (λ n. fielded (fields ++ n ∷ []) k)) new
+unfolding step
+field_came fields k old new m g =
+    read_next trees (fielded fields k) old new m.token m.all g
+    ∙ ap (λ v. read_on trees v m.token new) (if_then (fits comma m.token) (Some (want Name (λ n. fielded (fields ++ n ∷ []) k))) _ m.is)
+
+pub fields_over : (fields : List Named) (k : List Named → State) (old : Reading) → Off (fits comma) old.rest
+    → read trees (fielded fields k) old ≡ read trees (due close_bracket (k fields)) old
+unfolding step tree_at
+fields_over fields k old o =
+    alike trees (fielded fields k) (due close_bracket (k fields)) (fits comma) old
+    (λ token h. if_else (fits comma token) (Some (want Name (λ n. fielded (fields ++ n ∷ []) k))) (if fits close_bracket token then Some (k fields) else None) h) refl o
 
 -- ---- a type and a name
 
@@ -202,33 +253,89 @@ is_add go token r a b c h =
     ∙ if_else (fits (word (codes "desc_data_retval")) token) _ _ c
     ∙ if_then (fits (word (codes "desc_data_retval_add")) token) _ _ h)
 
-pub is_sub : (go : Statement → State) (token : Lexeme) (r : Reading) → has_sort one_word token ≡ false → has_sort two_word token ≡ false
-    → fits (word (codes "desc_data_retval")) token ≡ false → fits (word (codes "desc_data_retval_add")) token ≡ false → fits kept token ≡ true
-    → read_on trees (statement_after go token) token r ≡ read trees (returned_rest go Sub) r
-is_sub go token r a b c d h =
+-- another kind of token is no word that a version keeps for itself
+no_kept : (go : Statement → State) (token : Lexeme) (other : Option State) → has_kind Mark token ≡ false → kept_after go token other ≡ other
+no_kept go token other h =
+    if_else (fits (kept (codes "desc_data_retval_sub")) token) _ _ (off (codes "desc_data_retval_sub"))
+    ∙ if_else (fits (kept (codes "sm_external")) token) _ _ (off (codes "sm_external"))
+    ∙ if_else (fits (kept (codes "desc_data_most")) token) _ _ (off (codes "desc_data_most"))
+    ∙ if_else (fits (kept (codes "desc_data_unique")) token) _ _ (off (codes "desc_data_unique"))
+    ∙ if_else (fits (kept (codes "sm_answer")) token) _ _ (off (codes "sm_answer"))
+  where
+    off : (bytes : List ℕ) → fits (kept bytes) token ≡ false
+    off bytes = ap (λ b. b && pointwise nat_eq token.bytes bytes) h
+
+pub is_kept : (go : Statement → State) (token : Lexeme) (r : Reading) → has_sort one_word token ≡ false → has_sort two_word token ≡ false
+    → fits (word (codes "desc_data_retval")) token ≡ false → fits (word (codes "desc_data_retval_add")) token ≡ false → has_kind Mark token ≡ true
+    → read_on trees (statement_after go token) token r ≡ read_on trees (kept_after go token None) token r
+is_kept go token r a b c d h =
     ap (λ v. read_on trees v token r) (if_else (has_sort one_word token) _ _ a ∙ if_else (has_sort two_word token) _ _ b
     ∙ if_else (fits (word (codes "desc_data_retval")) token) _ _ c
     ∙ if_else (fits (word (codes "desc_data_retval_add")) token) _ _ d
-    ∙ if_then (fits kept token) _ _ h)
+    ∙ ap (kept_after go token) (if_else (has_sort Name token) (Some (plain_rest go (named_by token))) None (mark-has_sort Name token (kind_is token.kind Mark h))))
 
 pub is_plain : (go : Statement → State) (token : Lexeme) (r : Reading) → has_sort one_word token ≡ false → has_sort two_word token ≡ false
-    → fits (word (codes "desc_data_retval")) token ≡ false → fits (word (codes "desc_data_retval_add")) token ≡ false → fits kept token ≡ false
+    → fits (word (codes "desc_data_retval")) token ≡ false → fits (word (codes "desc_data_retval_add")) token ≡ false → has_kind Mark token ≡ false
     → has_sort Name token ≡ true
     → read_on trees (statement_after go token) token r ≡ read trees (plain_rest go (named_by token)) r
 is_plain go token r a b c d e h =
     ap (λ v. read_on trees v token r) (if_else (has_sort one_word token) _ _ a ∙ if_else (has_sort two_word token) _ _ b
     ∙ if_else (fits (word (codes "desc_data_retval")) token) _ _ c
     ∙ if_else (fits (word (codes "desc_data_retval_add")) token) _ _ d
-    ∙ if_else (fits kept token) _ _ e
+    ∙ no_kept go token (if has_sort Name token then Some (plain_rest go (named_by token)) else None) e
     ∙ if_then (has_sort Name token) _ _ h)
 
 pub is_none : (go : Statement → State) (token : Lexeme) (r : Reading) → has_sort one_word token ≡ false → has_sort two_word token ≡ false
-    → fits (word (codes "desc_data_retval")) token ≡ false → fits (word (codes "desc_data_retval_add")) token ≡ false → fits kept token ≡ false
+    → fits (word (codes "desc_data_retval")) token ≡ false → fits (word (codes "desc_data_retval_add")) token ≡ false → has_kind Mark token ≡ false
     → has_sort Name token ≡ false
     → read_on trees (statement_after go token) token r ≡ Err (Syntax token.at)
 is_none go token r a b c d e h =
     ap (λ v. read_on trees v token r) (if_else (has_sort one_word token) _ _ a ∙ if_else (has_sort two_word token) _ _ b
     ∙ if_else (fits (word (codes "desc_data_retval")) token) _ _ c
     ∙ if_else (fits (word (codes "desc_data_retval_add")) token) _ _ d
-    ∙ if_else (fits kept token) _ _ e
+    ∙ no_kept go token (if has_sort Name token then Some (plain_rest go (named_by token)) else None) e
     ∙ if_else (has_sort Name token) (Some (plain_rest go (named_by token))) None h)
+
+-- after a word that a version keeps for itself, by the tests that fail and the one that holds
+
+pub is_sub : (go : Statement → State) (token : Lexeme) (r : Reading) → fits (kept (codes "desc_data_retval_sub")) token ≡ true
+    → read_on trees (kept_after go token None) token r ≡ read trees (returned_rest go Sub) r
+is_sub go token r h = ap (λ v. read_on trees v token r) (if_then (fits (kept (codes "desc_data_retval_sub")) token) _ _ h)
+
+pub is_external : (go : Statement → State) (token : Lexeme) (r : Reading) → fits (kept (codes "desc_data_retval_sub")) token ≡ false → fits (kept (codes "sm_external")) token ≡ true
+    → read_on trees (kept_after go token None) token r ≡ read trees (external_rest go) r
+is_external go token r a h =
+    ap (λ v. read_on trees v token r) (if_else (fits (kept (codes "desc_data_retval_sub")) token) _ _ a ∙ if_then (fits (kept (codes "sm_external")) token) _ _ h)
+
+pub is_most : (go : Statement → State) (token : Lexeme) (r : Reading) → fits (kept (codes "desc_data_retval_sub")) token ≡ false → fits (kept (codes "sm_external")) token ≡ false
+    → fits (kept (codes "desc_data_most")) token ≡ true
+    → read_on trees (kept_after go token None) token r ≡ read trees (most_rest go) r
+is_most go token r a b h =
+    ap (λ v. read_on trees v token r) (if_else (fits (kept (codes "desc_data_retval_sub")) token) _ _ a ∙ if_else (fits (kept (codes "sm_external")) token) _ _ b
+    ∙ if_then (fits (kept (codes "desc_data_most")) token) _ _ h)
+
+pub is_unique : (go : Statement → State) (token : Lexeme) (r : Reading) → fits (kept (codes "desc_data_retval_sub")) token ≡ false → fits (kept (codes "sm_external")) token ≡ false
+    → fits (kept (codes "desc_data_most")) token ≡ false → fits (kept (codes "desc_data_unique")) token ≡ true
+    → read_on trees (kept_after go token None) token r ≡ read trees (unique_rest go) r
+is_unique go token r a b c h =
+    ap (λ v. read_on trees v token r) (if_else (fits (kept (codes "desc_data_retval_sub")) token) _ _ a ∙ if_else (fits (kept (codes "sm_external")) token) _ _ b
+    ∙ if_else (fits (kept (codes "desc_data_most")) token) _ _ c
+    ∙ if_then (fits (kept (codes "desc_data_unique")) token) _ _ h)
+
+pub is_answer : (go : Statement → State) (token : Lexeme) (r : Reading) → fits (kept (codes "desc_data_retval_sub")) token ≡ false → fits (kept (codes "sm_external")) token ≡ false
+    → fits (kept (codes "desc_data_most")) token ≡ false → fits (kept (codes "desc_data_unique")) token ≡ false → fits (kept (codes "sm_answer")) token ≡ true
+    → read_on trees (kept_after go token None) token r ≡ read trees (answer_rest go) r
+is_answer go token r a b c d h =
+    ap (λ v. read_on trees v token r) (if_else (fits (kept (codes "desc_data_retval_sub")) token) _ _ a ∙ if_else (fits (kept (codes "sm_external")) token) _ _ b
+    ∙ if_else (fits (kept (codes "desc_data_most")) token) _ _ c
+    ∙ if_else (fits (kept (codes "desc_data_unique")) token) _ _ d
+    ∙ if_then (fits (kept (codes "sm_answer")) token) _ _ h)
+
+pub is_no_statement : (go : Statement → State) (token : Lexeme) (r : Reading) → fits (kept (codes "desc_data_retval_sub")) token ≡ false → fits (kept (codes "sm_external")) token ≡ false
+    → fits (kept (codes "desc_data_most")) token ≡ false → fits (kept (codes "desc_data_unique")) token ≡ false → fits (kept (codes "sm_answer")) token ≡ false
+    → read_on trees (kept_after go token None) token r ≡ Err (Syntax token.at)
+is_no_statement go token r a b c d h =
+    ap (λ v. read_on trees v token r) (if_else (fits (kept (codes "desc_data_retval_sub")) token) _ _ a ∙ if_else (fits (kept (codes "sm_external")) token) _ _ b
+    ∙ if_else (fits (kept (codes "desc_data_most")) token) _ _ c
+    ∙ if_else (fits (kept (codes "desc_data_unique")) token) _ _ d
+    ∙ if_else (fits (kept (codes "sm_answer")) token) _ _ h)

@@ -3,8 +3,8 @@ use Rattle.std.proofs.Common.{◌≡◌, ◌≢◌, ◌⊎◌, inl, inr, ℕ, Li
 use Rattle.std.specs.Prelude.{Ok, Err}
 use Rattle.std.specs.declared.result.Result.{Result}
 use Rattle.sg_lex.specs.Tokens.{answers_of}
-use Rattle.sg_parse.specs.declared.error.ParseError.{ParseError}
-use Rattle.sg_parse.specs.declared.error.ParseError.TheVariants.{NoMemory, Lex, Syntax}
+use Rattle.sg_rules.specs.declared.error.ParseError.{ParseError}
+use Rattle.sg_rules.specs.declared.error.ParseError.TheVariants.{NoMemory, Lex, Syntax}
 use Rattle.sg_parse.specs.declared.tree.Tree.{Tree}
 use Rattle.sg_parse.specs.Grammar.Parses.{Parses}
 use Rattle.sg_parse.specs.Grammar.Inside.States.{start, trees}

@@ -1,17 +1,17 @@
 // The facts at the head of a text.
-ghost use Rattle.std.specs.Prelude.{Bool, List, [], codes, true, false};
+ghost use Rattle.std.specs.Prelude.{◌≡◌, Bool, List, [], codes, true, false};
 ghost use Rattle.sg_lex.specs.Lexeme.{Spelling as Named};
-ghost use Rattle.sg_parse.specs.Grammar.Pieces.{mark, two, word};
+ghost use Rattle.sg_parse.specs.Grammar.Pieces.{mark, word};
 ghost use Rattle.sg_parse.specs.Grammar.Inside.Forms.{comma, equals, open_brace, semicolon};
-ghost use Rattle.sg_parse.specs.Grammar.Inside.States.{State, due, fact, first_end, fork, head0, in_newer, second_end, start, statements, trees, want};
+ghost use Rattle.sg_parse.specs.Grammar.Inside.States.{State, due, fact, first_end, fork, head0, in_newer, newer_end, newer_rest, start, statements, trees, want};
+ghost use Rattle.sg_parse.specs.Inside.{number_of, version_of};
 ghost use Rattle.sg_lex.specs.Inside.Automata.{read, Leads};
 
-use crate::error::ParseError;
-use crate::reader::{fixed, forked, mark, two, word_of};
-use crate::tokens::Reader;
+use crate::reader::{fixed, forked, mark, version, word_of};
 use crate::tree::Facts;
 use crate::words::Sort;
 use sg_lex::Spelled;
+use sg_rules::{Newer, ParseError, Reader};
 
 /// The facts at the head of a text, of whichever version the text is.
 pub fn facts<'a>(reader: &mut Reader<'a>) -> Result<Facts<'a>, ParseError>
@@ -19,7 +19,7 @@ pub fn facts<'a>(reader: &mut Reader<'a>) -> Result<Facts<'a>, ParseError>
 {
     opening(reader)?;
     if forked(reader, b"version")? {
-        second_facts(reader)
+        newer_facts(reader)
     } else {
         first_facts(reader)
     }
@@ -53,16 +53,16 @@ fn first_facts<'a>(reader: &mut Reader<'a>) -> Result<Facts<'a>, ParseError>
     })
 }
 
-// The number of version 2 after its word, the facts of a text of that version, and the end of its head.
-fn second_facts<'a>(reader: &mut Reader<'a>) -> Result<Facts<'a>, ParseError>
-    ensures { Leads trees (read trees (due equals (due two (due comma (in_newer (head0 second_end))))) reader.old) result (λ facts. statements facts []) reader.new }
+// The number of a version after its word, the facts of a text of that version, and the end of its head.
+fn newer_facts<'a>(reader: &mut Reader<'a>) -> Result<Facts<'a>, ParseError>
+    ensures { Leads trees (read trees (newer_rest (head0 (newer_end 2)) (head0 (newer_end 3))) reader.old) result (λ facts. statements facts []) reader.new }
 {
-    version_2(reader)?;
+    let version = newer_version(reader)?;
     let shared = shared_facts(reader)?;
     let eager = recovery(reader)?;
     end(reader)?;
     Ok(Facts {
-        version: 2,
+        version: number_of(version),
         service: shared.service,
         parent: shared.parent,
         close: shared.close,
@@ -74,18 +74,40 @@ fn second_facts<'a>(reader: &mut Reader<'a>) -> Result<Facts<'a>, ParseError>
     })
 }
 
-// The number of version 2 after its word. What comes then is read as a text of that version has it.
-fn version_2(reader: &mut Reader<'_>) -> Result<(), ParseError>
-    ensures { (s : State) → Leads trees (read trees (due equals (due two (due comma (in_newer s)))) reader.old) result (λ _. s) reader.new }
+// The number of a version after its word. What comes then is read as a text of that version has it.
+fn newer_version(reader: &mut Reader<'_>) -> Result<Newer, ParseError>
+    ensures { (two three : State) → Leads trees (read trees (newer_rest two three) reader.old) result (version_of two three) reader.new }
 {
     mark(reader, b'=')?;
-    two(reader)?;
+    let version = version(reader)?;
     mark(reader, b',')?;
-    reader.go_on_as_version_2();
-    Ok(())
+    go_on_as(reader, version);
+    Ok(version)
 }
 
-// The facts that texts of both versions have, as in `Facts`.
+// Has what is to come as a text of this version has it, with the words that it and those before it keep.
+fn go_on_as(reader: &mut Reader<'_>, version: Newer)
+    ensures { (two three : State) → read trees (version_of (in_newer Newer.Second two) (in_newer Newer.Second (in_newer Newer.Third three)) version) reader.old
+        ≡ read trees (version_of two three version) reader.new }
+{
+    reader.go_on_as(Newer::Second);
+    match version {
+        Newer::Second => {}
+        Newer::Third => reader.go_on_as(Newer::Third),
+    }
+}
+
+// The number of a version after the first.
+fn number_of(version: Newer) -> u8
+    ensures { result ≡ number_of version }
+{
+    match version {
+        Newer::Second => 2,
+        Newer::Third => 3,
+    }
+}
+
+// The facts that texts of all versions have, as in `Facts`.
 #[derive(Drop)]
 struct SharedFacts<'a> {
     service: Spelled<'a>,
@@ -97,7 +119,7 @@ struct SharedFacts<'a> {
     resc_data: Spelled<'a>,
 }
 
-// The facts that texts of both versions have.
+// The facts that texts of all versions have.
 fn shared_facts<'a>(reader: &mut Reader<'a>) -> Result<SharedFacts<'a>, ParseError>
     ensures { (end : (a b c d e f g : Named) → State) → Leads trees (read trees (head0 end) reader.old) result
         (λ s. end s.service s.parent s.close s.global s.block s.has_data s.resc_data) reader.new }
@@ -138,7 +160,7 @@ fn value<'a>(reader: &mut Reader<'a>, what: &[u8], sort: Sort) -> Result<Spelled
     word_of(reader, sort)
 }
 
-// The last fact of a text of version 2: whether every live descriptor is rebuilt before any call is served.
+// The last fact of a text of a version after the first: whether every live descriptor is rebuilt before any call is served.
 fn recovery(reader: &mut Reader<'_>) -> Result<bool, ParseError>
     ensures { (s : Bool → State) → Leads trees
         (read trees (due comma (due (word (codes "desc_recover")) (due equals (fork (codes "eager") (s true) (due (word (codes "demand")) (s false)))))) reader.old)

@@ -3,29 +3,28 @@
 //!
 //! - `tree`: a text's tree (`Tree`), whose names are lent from the text (`Spelled`)
 //! - `words`: the words that the grammar keeps for itself
-//! - `error`: why a text has no tree (`ParseError`)
 //! - `laws`: a sentence has one tree, and a text one answer
-//! - `tokens`: the tokens of a text, as a text of its version has them
 //! - `reader`: tokens taken from a text, and the error where another comes than may
 //! - `head`, `types`, `params`, `statements`: the parts of the grammar, as they are read
 //! - `parser`: the whole (`parse`)
 #![tactic(auto)]
 
-mod error;
 mod head;
 mod laws;
 mod params;
 mod parser;
 mod reader;
 mod statements;
-mod tokens;
 mod tree;
 mod types;
 mod words;
 
-pub use error::ParseError;
 pub use laws::{one_answer, one_tree};
 pub use parser::parse;
 pub use sg_lex::{LexFault, Lexer, Spelled, SpelledList, TokenKind, first_token};
+pub use sg_rules::{
+    Operand, Operator, ParseError, Pick, PickList, Relation, RowTest, Rule, RuleList, Term, TermList,
+    Test, TestList, Tests, What,
+};
 pub use tree::{Facts, Param, ParamList, Ret, Statement, StatementList, Tree, TypeName};
 pub use words::Sort;

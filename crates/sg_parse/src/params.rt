@@ -8,13 +8,12 @@ ghost use Rattle.sg_parse.specs.Grammar.Inside.States.{State, due, want, either,
 ghost use Rattle.sg_lex.specs.Inside.Automata.{read, Leads};
 ghost use Rattle.sg_parse.specs.Inside.{either_of};
 
-use crate::error::ParseError;
 use crate::reader::{mark, take_mark, take_word, word_of};
-use crate::tokens::Reader;
 use crate::tree::{Param, ParamList};
 use crate::types::{SpelledType, declared, spelling};
 use crate::words::Sort;
 use sg_lex::Spelled;
+use sg_rules::{ParseError, Reader};
 use std::alloc::Global;
 
 /// The parameters after the bracket that opens them, at least one, and the bracket that closes them.

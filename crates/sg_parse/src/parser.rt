@@ -2,17 +2,16 @@
 ghost use Rattle.std.specs.Prelude.{◌≡◌, ◌≢◌, ◌⊎◌, length, Err as failed};
 ghost use Rattle.std.specs.declared.result.Result.{Result as Answered};
 ghost use Rattle.sg_lex.specs.Tokens.{answers_of};
-ghost use Rattle.sg_parse.specs.declared.error.ParseError.{ParseError as Fault};
+ghost use Rattle.sg_rules.specs.declared.error.ParseError.{ParseError as Fault};
 ghost use Rattle.sg_parse.specs.declared.tree.Tree.{Tree as Whole};
 ghost use Rattle.sg_parse.specs.Grammar.Parses.{Parses};
 ghost use Rattle.sg_parse.specs.Grammar.Inside.States.{start, trees};
 ghost use Rattle.sg_lex.specs.Inside.Automata.{read, Answers};
 
-use crate::error::ParseError;
 use crate::head::facts;
 use crate::statements::statements;
-use crate::tokens::Reader;
 use crate::tree::Tree;
+use sg_rules::{ParseError, Reader};
 use std::alloc::Global;
 
 /// The tree of a text, of whichever version the text is. Its names are lent from the text.

@@ -1,17 +1,18 @@
 // What a tree is read by: the tokens of a text, and the errors where they don't come.
-ghost use Rattle.std.specs.Prelude.{◌≡◌, ◌≤◌, [], ◌∷◌, length, true, IfOk, IfErr, OnOk, MatchOption, MatchBool, Ok as answered};
+ghost use Rattle.std.specs.Prelude.{◌≡◌, ◌≤◌, ◌<◌, [], ◌∷◌, length, true, IfOk, IfErr, OnOk, MatchOption, MatchBool, Ok as answered};
 ghost use Rattle.sg_parse.specs.Grammar.Words.{is_of};
 ghost use Rattle.sg_lex.specs.Lexeme.{Spelling as Named};
-ghost use Rattle.sg_parse.specs.Grammar.Inside.States.{State, dead, due, fork, want, has_sort, fits, named_by, trees};
-ghost use Rattle.sg_parse.specs.Grammar.Pieces.{mark, word, two, kept, are_two};
+ghost use Rattle.sg_parse.specs.Grammar.Inside.States.{State, dead, due, fork, want, want_number, versioned, has_sort, fits, named_by, trees};
+ghost use Rattle.sg_parse.specs.Grammar.Pieces.{mark, word, version_number, kept, are_digit, are_of};
 ghost use Rattle.sg_lex.specs.Inside.Automata.{read, Leads};
 ghost use Rattle.sg_lex.specs.Inside.Ahead.{Off, Came};
-ghost use Rattle.sg_parse.specs.Inside.{named_token, one_of};
+ghost use Rattle.sg_lex.specs.Inside.Tests.{has_kind};
+ghost use Rattle.sg_lex.specs.declared.token.TokenKind.TheVariants.{Number as a_number};
+ghost use Rattle.sg_parse.specs.Inside.{named_token, number_token, one_of, version_of};
 
-use crate::error::ParseError;
-use crate::tokens::{Reader, is_kept_word};
 use crate::words::Sort;
-use sg_lex::{IsMark, IsWord, LexFault, Spelled, Token, TokenKind, TokenTest};
+use sg_lex::{IsKind, IsMark, IsWord, LexFault, Spelled, Token, TokenKind, TokenTest};
+use sg_rules::{Newer, ParseError, Reader};
 
 /// Takes the next token; None at the end of the text. A byte that begins none is a `Lex` error.
 pub fn next_token<'a>(reader: &mut Reader<'a>) -> Result<Option<Token<'a>>, ParseError>
@@ -84,16 +85,30 @@ pub fn forked(reader: &mut Reader<'_>, bytes: &[u8]) -> Result<bool, ParseError>
     take_fixed(reader, bytes)
 }
 
-/// Takes the number 2. Zeros may come first in it.
-#[tactic(auto, using(crate::proofs::ByToken::due_came, crate::proofs::ByToken::due_missing))]
-pub fn two(reader: &mut Reader<'_>) -> Result<(), ParseError>
-    ensures leads { (k : State) → Leads trees (read trees (due two k) reader.old) result (λ _. k) reader.new }
+/// Takes the number of a version after the first. Zeros may come first in it.
+#[tactic(auto, using(crate::proofs::ByToken::second_came, crate::proofs::ByToken::third_came, crate::proofs::ByToken::no_version))]
+pub fn version(reader: &mut Reader<'_>) -> Result<Newer, ParseError>
+    ensures leads { (two three : State) → Leads trees (read trees (versioned two three) reader.old) result (version_of two three) reader.new }
     ensures fewer { OnOk result (length reader.new.rest ≤ length reader.old.rest) }
 {
-    if take_two(reader)? {
-        Ok(())
-    } else {
-        Err(unexpected(reader))
+    if take_version(reader, Newer::Second)? {
+        return Ok(Newer::Second);
+    }
+    if take_version(reader, Newer::Third)? {
+        return Ok(Newer::Third);
+    }
+    Err(unexpected(reader))
+}
+
+/// Takes a number.
+#[tactic(auto, using(crate::proofs::ByToken::number_came, crate::proofs::ByToken::number_missing))]
+pub fn number<'a>(reader: &mut Reader<'a>) -> Result<Spelled<'a>, ParseError>
+    ensures leads { (k : Named → State) → Leads trees (read trees (want_number k) reader.old) result k reader.new }
+    ensures fewer { OnOk result (length reader.new.rest ≤ length reader.old.rest) }
+{
+    match take_number(reader)? {
+        Some(number) => Ok(number),
+        None => Err(unexpected(reader)),
     }
 }
 
@@ -134,14 +149,27 @@ fn take_fixed(reader: &mut Reader<'_>, bytes: &[u8]) -> Result<bool, ParseError>
     }
 }
 
-// Takes the next token where it is the number 2, and says whether it was; else nothing is taken.
-fn take_two(reader: &mut Reader<'_>) -> Result<bool, ParseError>
-    ensures number { IfOk result (λ taken. MatchBool taken (Came (fits two) reader.old.rest reader.new.rest)
-        ((reader.new ≡ reader.old) × Off (fits two) reader.old.rest)) }
+// Takes the next token where it is a number; None, and nothing is taken, where it isn't or the text ends.
+fn take_number<'a>(reader: &mut Reader<'a>) -> Result<Option<Spelled<'a>>, ParseError>
+    ensures number { IfOk result (λ number. MatchOption number ((reader.new ≡ reader.old) × Off (has_kind a_number) reader.old.rest)
+        (λ n. reader.old.rest ≡ answered (number_token n) ∷ reader.new.rest)) }
     ensures fault { IfErr result (λ error. (s : State) → read trees s reader.old ≡ Err error) }
     ensures end { reader.new.end ≡ reader.old.end }
 {
-    match reader.take(IsTwo) {
+    match reader.take(IsKind(TokenKind::Number)) {
+        Ok(taken) => Ok(taken.map(name_of)),
+        Err(fault) => Err(fault_error(fault)),
+    }
+}
+
+// Takes the next token where it is the number of this version, and says whether it was; else nothing is taken.
+fn take_version(reader: &mut Reader<'_>, version: Newer) -> Result<bool, ParseError>
+    ensures number { IfOk result (λ taken. MatchBool taken (Came (fits (version_number version)) reader.old.rest reader.new.rest)
+        ((reader.new ≡ reader.old) × Off (fits (version_number version)) reader.old.rest)) }
+    ensures fault { IfErr result (λ error. (s : State) → read trees s reader.old ≡ Err error) }
+    ensures end { reader.new.end ≡ reader.old.end }
+{
+    match reader.take(IsVersion(version)) {
         Ok(taken) => Ok(taken.is_some()),
         Err(fault) => Err(fault_error(fault)),
     }
@@ -154,7 +182,7 @@ fn fault_error(fault: LexFault) -> ParseError
     ParseError::Lex { at: fault.at }
 }
 
-/// The name that a token is.
+/// The name, or the number, that a token is.
 pub fn name_of(token: Token<'_>) -> Spelled<'_>
     ensures { result ≡ named_by token.entry }
 {
@@ -171,33 +199,44 @@ pub fn has_sort(token: &Token<'_>, sort: Sort) -> bool
     token.has_kind(TokenKind::Word) && sort.has(token.slice)
 }
 
-/// Whether a token is the word that version 2 keeps for itself, in a text of that version.
-pub fn is_kept(token: &Token<'_>) -> bool
-    ensures { result ≡ fits kept token.now }
+/// Whether a token is a word that a version keeps for itself, in a text of that version.
+pub fn is_kept(token: &Token<'_>, word: &[u8]) -> bool
+    ensures { result ≡ fits (kept word.now) token.now }
 {
-    token.has_kind(TokenKind::Mark) && is_kept_word(token.slice)
+    token.has_kind(TokenKind::Mark) && token.slice == word
 }
 
-// Whether digits are those of 2; zeros may come first.
-fn are_two(digits: &[u8]) -> bool
-    ensures { result ≡ are_two digits.now }
+// Whether digits are the number of a version.
+fn are_of(version: Newer, digits: &[u8]) -> bool
+    ensures { result ≡ are_of version digits.now }
+{
+    match version {
+        Newer::Second => are_digit(b'2', digits),
+        Newer::Third => are_digit(b'3', digits),
+    }
+}
+
+// Whether digits are those of this one; zeros may come first.
+fn are_digit(byte: u8, digits: &[u8]) -> bool
+    requires { 0x30 < byte }
+    ensures { result ≡ are_digit byte digits.now }
 {
     let mut left = digits;
     'zeros: while let [b'0', more @ ..] = left {
         left = more;
     }
-    left == b"2".as_slice()
+    left == [byte].as_slice()
 }
 
-// A token is the number 2.
+// A token is the number of this version.
 #[derive(Drop)]
-struct IsTwo;
+struct IsVersion(Newer);
 
-impl TokenTest for IsTwo {
-    ghost holds_of = { λ _. fits two };
+impl TokenTest for IsVersion {
+    ghost holds_of = { λ test. fits (version_number test.0) };
 
     fn holds(&self, token: &Token<'_>) -> bool {
-        token.has_kind(TokenKind::Number) && are_two(token.slice)
+        token.has_kind(TokenKind::Number) && are_of(self.0, token.slice)
     }
 }
 

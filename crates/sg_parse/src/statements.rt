@@ -1,21 +1,22 @@
 // Statements.
-ghost use Rattle.std.specs.Prelude.{◌≡◌, ◌≤◌, List, [], ◌∷◌, ◌++◌, length, OnOk};
+ghost use Rattle.std.specs.Prelude.{◌≡◌, ◌≤◌, List, [], ◌∷◌, ◌++◌, length, OnOk, None as without};
+ghost use Rattle.sg_rules.specs.declared.tree.Rule.{Rule as ARule};
+ghost use Rattle.sg_rules.specs.Grammar.Inside.States.{ruled};
 ghost use Rattle.sg_parse.specs.declared.tree.Ret.{Ret as Returned};
 ghost use Rattle.sg_parse.specs.declared.tree.Statement.{Statement as Stated};
 ghost use Rattle.sg_parse.specs.declared.tree.TypeName.{TypeName as Typed};
 ghost use Rattle.sg_parse.specs.declared.words.Sort.TheVariants.{Name as a_name};
 ghost use Rattle.sg_lex.specs.Lexeme.{Spelling as Named};
-ghost use Rattle.sg_parse.specs.Grammar.Inside.States.{State, want, statements, statement_after, one_rest, two_rest, proto_rest, plain_rest, returned_rest, trees};
+ghost use Rattle.sg_parse.specs.Grammar.Inside.States.{State, want, statements, statement_after, one_rest, two_rest, proto_rest, plain_rest, returned_rest, kept_after, external_rest, most_rest, unique_rest, answer_rest, answering, fielded, trees};
 ghost use Rattle.sg_lex.specs.Inside.Automata.{read, Leads, Answers, read_on};
 
-use crate::error::ParseError;
 use crate::params::params;
-use crate::reader::{has_sort, is_kept, mark, name_of, next_token, word_of};
-use crate::tokens::Reader;
+use crate::reader::{has_sort, is_kept, mark, name_of, next_token, number, take_mark, word_of};
 use crate::tree::{Facts, Ret, Statement, StatementList, Tree, TypeName};
 use crate::types::{declared, spelling};
 use crate::words::Sort;
-use sg_lex::{Spelled, Token};
+use sg_lex::{Spelled, SpelledList, Token, TokenKind};
+use sg_rules::{ParseError, Reader, RuleList, parse_rules};
 use std::alloc::Global;
 
 /// The statements after the facts, up to the end of the text.
@@ -35,7 +36,7 @@ pub fn statements<'a>(
 }
 
 /// A statement whose first token was taken.
-#[tactic(auto, using(crate::proofs::ByToken::is_one, crate::proofs::ByToken::is_two, crate::proofs::ByToken::is_set, crate::proofs::ByToken::is_add, crate::proofs::ByToken::is_sub, crate::proofs::ByToken::is_plain, crate::proofs::ByToken::is_none))]
+#[tactic(auto, using(crate::proofs::ByToken::is_one, crate::proofs::ByToken::is_two, crate::proofs::ByToken::is_set, crate::proofs::ByToken::is_add, crate::proofs::ByToken::is_kept, crate::proofs::ByToken::is_plain, crate::proofs::ByToken::is_none))]
 fn statement<'a>(
     reader: &mut Reader<'a>,
     alloc: Global,
@@ -57,13 +58,118 @@ fn statement<'a>(
     if token.is_word(b"desc_data_retval_add") {
         return add(reader, alloc);
     }
-    if is_kept(&token) {
-        return sub(reader, alloc);
+    if token.has_kind(TokenKind::Mark) {
+        return kept(reader, alloc, token);
     }
     if has_sort(&token, Sort::Name) {
         return plain(reader, alloc, name_of(token));
     }
     Err(ParseError::Syntax { at: token.at })
+}
+
+/// A statement whose first token was taken, which is a mark: a word that a version keeps for itself.
+#[tactic(auto, using(crate::proofs::ByToken::is_sub, crate::proofs::ByToken::is_external, crate::proofs::ByToken::is_most, crate::proofs::ByToken::is_unique, crate::proofs::ByToken::is_answer, crate::proofs::ByToken::is_no_statement))]
+fn kept<'a>(
+    reader: &mut Reader<'a>,
+    alloc: Global,
+    token: Token<'a>,
+) -> Result<Statement<'a>, ParseError>
+    ensures leads { (go : Stated → State) →
+        Leads trees (read_on trees (kept_after go token.entry without) token.entry reader.old) result go reader.new }
+    ensures fewer { OnOk result (length reader.new.rest ≤ length reader.old.rest) }
+{
+    if is_kept(&token, b"desc_data_retval_sub") {
+        return sub(reader, alloc);
+    }
+    if is_kept(&token, b"sm_external") {
+        return external(reader);
+    }
+    if is_kept(&token, b"desc_data_most") {
+        return most(reader);
+    }
+    if is_kept(&token, b"desc_data_unique") {
+        return unique(reader, alloc);
+    }
+    if is_kept(&token, b"sm_answer") {
+        return answer(reader, alloc);
+    }
+    Err(ParseError::Syntax { at: token.at })
+}
+
+/// A creation that can't be done again, after the word that says so.
+fn external<'a>(reader: &mut Reader<'a>) -> Result<Statement<'a>, ParseError>
+    ensures leads { (go : Stated → State) → Leads trees (read trees (external_rest go) reader.old) result go reader.new }
+    ensures fewer { OnOk result (length reader.new.rest ≤ length reader.old.rest) }
+{
+    mark(reader, b'(')?;
+    let fun = word_of(reader, Sort::Name)?;
+    mark(reader, b')')?;
+    mark(reader, b';')?;
+    Ok(Statement::External { fun })
+}
+
+/// The greatest number of a field, after the word that says it.
+fn most<'a>(reader: &mut Reader<'a>) -> Result<Statement<'a>, ParseError>
+    ensures leads { (go : Stated → State) → Leads trees (read trees (most_rest go) reader.old) result go reader.new }
+    ensures fewer { OnOk result (length reader.new.rest ≤ length reader.old.rest) }
+{
+    mark(reader, b'(')?;
+    let field = word_of(reader, Sort::Name)?;
+    mark(reader, b',')?;
+    let most = number(reader)?;
+    mark(reader, b')')?;
+    mark(reader, b';')?;
+    Ok(Statement::Most { field, most })
+}
+
+/// Fields in all of which no two descriptors agree, after the word that says so.
+fn unique<'a>(reader: &mut Reader<'a>, alloc: Global) -> Result<Statement<'a>, ParseError>
+    ensures leads { (go : Stated → State) → Leads trees (read trees (unique_rest go) reader.old) result go reader.new }
+    ensures fewer { OnOk result (length reader.new.rest ≤ length reader.old.rest) }
+{
+    mark(reader, b'(')?;
+    let fields = fields(reader, alloc)?;
+    mark(reader, b';')?;
+    Ok(Statement::Unique { fields })
+}
+
+/// The fields after the bracket that opens them, at least one, and the bracket that closes them.
+#[tactic(auto, using(crate::proofs::ByToken::field_came, crate::proofs::ByToken::fields_over))]
+fn fields<'a>(reader: &mut Reader<'a>, alloc: Global) -> Result<SpelledList<'a>, ParseError>
+    ensures leads { (k : List Named → State) →
+        Leads trees (read trees (want a_name (λ first. fielded (first ∷ []) k)) reader.old) result k reader.new }
+    ensures fewer { OnOk result (length reader.new.rest ≤ length reader.old.rest) }
+{
+    let mut fields = SpelledList::new(alloc);
+    fields.push(word_of(reader, Sort::Name)?)?;
+    'fields: while take_mark(reader, b',')? {
+        fields.push(word_of(reader, Sort::Name)?)?;
+    }
+    mark(reader, b')')?;
+    Ok(fields)
+}
+
+/// The rules of a function, after the word that begins them.
+fn answer<'a>(reader: &mut Reader<'a>, alloc: Global) -> Result<Statement<'a>, ParseError>
+    ensures leads { (go : Stated → State) → Leads trees (read trees (answer_rest go) reader.old) result go reader.new }
+    ensures fewer { OnOk result (length reader.new.rest ≤ length reader.old.rest) }
+{
+    mark(reader, b'(')?;
+    let fun = word_of(reader, Sort::Name)?;
+    mark(reader, b')')?;
+    mark(reader, b'{')?;
+    let rules = answers(reader, alloc)?;
+    Ok(Statement::Answer { fun, rules })
+}
+
+/// The rules after the brace that opens them, and the brace that closes them.
+fn answers<'a>(reader: &mut Reader<'a>, alloc: Global) -> Result<RuleList<'a>, ParseError>
+    ensures leads { (k : List ARule → State) → Leads trees (read trees (answering (ruled []) k) reader.old) result k reader.new }
+    ensures fewer { OnOk result (length reader.new.rest ≤ length reader.old.rest) }
+{
+    let rules = parse_rules(reader, alloc)?;
+    mark(reader, b'}')?;
+    Ok(rules)
 }
 
 /// A statement over one function, after its word.

@@ -1,6 +1,7 @@
 // The tree of a text of the interface language.
 use sg_base::ListOf;
 use sg_lex::{Spelled, SpelledList};
+use sg_rules::RuleList;
 use std::marker::Model;
 
 /// The parameters of a prototype.
@@ -11,7 +12,7 @@ pub type StatementList<'a> = ListOf<Statement<'a>>;
 /// The facts at the head of a text: the value of each, in their order.
 #[derive(Debug, Drop)]
 pub struct Facts<'a> {
-    /// The version of the language: 1 or 2.
+    /// The version of the language: 1, 2 or 3.
     pub version: u8,
     /// The service's name.
     pub service: Spelled<'a>,
@@ -47,6 +48,20 @@ pub enum Statement<'a> {
         ret: Ret<'a>,
         name: Spelled<'a>,
         params: ParamList<'a>,
+    },
+    /// A creation that can't be done again, in a text of version 3: `sm_external(f);`.
+    External { fun: Spelled<'a> },
+    /// The greatest number of a field, in a text of version 3: `desc_data_most(field, 9);`.
+    Most {
+        field: Spelled<'a>,
+        most: Spelled<'a>,
+    },
+    /// Fields in all of which no two descriptors agree, in a text of version 3: `desc_data_unique(field, other);`.
+    Unique { fields: SpelledList<'a> },
+    /// The rules by which a function answers, in a text of version 3: `sm_answer(f) { .. }`.
+    Answer {
+        fun: Spelled<'a>,
+        rules: RuleList<'a>,
     },
 }
 

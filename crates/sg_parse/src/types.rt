@@ -5,13 +5,12 @@ ghost use Rattle.sg_lex.specs.Lexeme.{Spelling as Named};
 ghost use Rattle.sg_parse.specs.Grammar.Inside.States.{State, names, stars, declared, type_of, trees};
 ghost use Rattle.sg_lex.specs.Inside.Automata.{read, Leads};
 
-use crate::error::ParseError;
 use crate::reader::{take_mark, take_word, unexpected, word_of};
-use crate::tokens::Reader;
 use crate::tree::TypeName;
 use crate::words::Sort;
 use sg_base::NoMemory;
 use sg_lex::{Spelled, SpelledList};
+use sg_rules::{ParseError, Reader};
 use std::alloc::Global;
 
 /// The names of a type, the last apart, and the number of its stars. Without stars the last name may be the one that is

@@ -9,7 +9,7 @@
 //! - `laws`: rules have one tree
 //! - `reader`: tokens taken from a text, and the error where another comes than may
 //! - `terms`, `conditions`: numbers, tests and what is asked of rows, as they are read
-//! - `rules`: the rules of a function (`rules`)
+//! - `rules`: the rules of a function (`parse_rules`)
 #![tactic(auto)]
 
 mod conditions;
@@ -25,7 +25,7 @@ mod words;
 
 pub use error::ParseError;
 pub use laws::rules_have_one_tree;
-pub use rules::rules;
+pub use rules::parse_rules;
 pub use tokens::Reader;
 pub use tree::{
     Operand, Operator, Pick, PickList, Relation, RowTest, Rule, RuleList, Term, TermList, Test,

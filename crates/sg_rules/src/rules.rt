@@ -22,7 +22,7 @@ use std::alloc::Global;
 ///
 /// `Lex` and `Syntax` as for a whole text, at the first place where the tokens cease to be the front of rules; `NoMemory`
 /// where there was no memory for the rules.
-pub fn rules<'a>(reader: &mut Reader<'a>, alloc: Global) -> Result<RuleList<'a>, ParseError>
+pub fn parse_rules<'a>(reader: &mut Reader<'a>, alloc: Global) -> Result<RuleList<'a>, ParseError>
     ensures ends { EndsPart rule_reader (part rule_reader (ruled []) reader.old) result reader.new }
     ensures fewer { OnOk result (length reader.new.rest ≤ length reader.old.rest) }
 {

@@ -10,13 +10,22 @@ use Rattle.sg_lex.specs.declared.token.TokenKind.TheVariants.{Word, Number, Text
 use Rattle.sg_lex.specs.Lexeme.{Lexeme, Spelling as Named}
 use Rattle.sg_lex.specs.Inside.Tests.{same_kind, has_kind}
 use Rattle.sg_lex.proofs.SameKinds.{kind_is}
+use Rattle.sg_rules.specs.declared.version.Newer.{Newer}
+use Rattle.sg_rules.specs.declared.version.Newer.TheVariants.{Second, Third}
+use Rattle.sg_rules.specs.declared.words.Wanted.TheVariants.{Name as rule_name}
+use Rattle.sg_rules.specs.Versions.{is_kept, seen}
+use Rattle.sg_rules.specs.Inside.Seen.{turned, kind_seen}
+use Rattle.sg_rules.specs.Grammar.Words.{word_of, is_name}
+use Rattle.sg_rules.specs.Grammar.Pieces.{RulePiece, fixed, word_at, name as name_in_rule, number as number_in_rule, IsRulePiece}
+use Rattle.sg_rules.specs.Grammar.Inside.States.{wants}
+use Rattle.sg_rules.proofs.Seen.{kind_back}
+use Rattle.sg_rules.proofs.Grammar.Basics.{fits-is as fixed-is, is-fits as is-fixed, wants-is, is-wants, kind_alike, bytes_alike}
 use Rattle.sg_parse.specs.declared.words.Sort.{Sort}
 use Rattle.sg_parse.specs.declared.words.Sort.TheVariants.{Name}
 use Rattle.sg_parse.specs.Grammar.Words.{is_of}
 use Rattle.sg_parse.specs.Grammar.Inside.Words.{is_in, reserved_words}
-use Rattle.sg_parse.specs.Grammar.Pieces.{Piece, word, mark, name, two, kept, newer, are_two, kept_word, seen, IsPiece}
-use Rattle.sg_parse.specs.Inside.{turned, kind_seen}
-use Rattle.sg_parse.specs.Grammar.Inside.States.{has_sort, fits, named_by}
+use Rattle.sg_parse.specs.Grammar.Pieces.{Piece, word, mark, name, number, version_number, kept, newer, rule, are_digit, are_of, IsPiece}
+use Rattle.sg_parse.specs.Grammar.Inside.States.{has_sort, is_spelt, is_of_rule, fits, named_by}
 
 -- ---- tests
 
@@ -92,25 +101,6 @@ name_apart these w h g =
 pub reserved_apart : (these : List (List ℕ)) (w : List ℕ) → list_all (is_in reserved_words) these ≡ true → is_in these w ≡ true → is_of Name w ≡ false
 reserved_apart these w h g = ap not (carried (is_in reserved_words) these w h g)
 
--- ---- texts of version 2
-
-turned_back : (kind : TokenKind) → turned (turned kind) ≡ kind
-turned_back Word = refl
-turned_back Number = refl
-turned_back Text = refl
-turned_back Mark = refl
-
-kind_back : (bytes : List ℕ) (kind : TokenKind) → kind_seen bytes (kind_seen bytes kind) ≡ kind
-kind_back bytes kind = at (pointwise nat_eq bytes kept_word)
-  where
-    at : (b : Bool) → (if b then turned (if b then turned kind else kind) else (if b then turned kind else kind)) ≡ kind
-    at true = turned_back kind
-    at false = refl
-
--- a token that is turned twice is as it was
-pub seen_back : (token : Lexeme) → seen (seen token) ≡ token
-seen_back token = ap (λ k. record token { kind = k }) (kind_back token.bytes token.kind)
-
 -- ---- tokens and pieces
 
 pub has_sort-is : (sort : Sort) (token : Lexeme) → has_sort sort token ≡ true → IsPiece token (name sort (named_by token))
@@ -121,9 +111,49 @@ pub is-has_sort : (sort : Sort) (token : Lexeme) (n : Named) → IsPiece token (
 is-has_sort sort token n h =
     both _ _ (ap (λ k. same_kind k Word) h.0) (ap (is_of sort) h.1 ∙ h.3)
 
+-- a number
+pub number-is : (token : Lexeme) → has_kind Number token ≡ true → IsPiece token (number (named_by token))
+number-is token h = (kind_is token.kind Number h, refl, refl)
+
+pub is-number : (token : Lexeme) (n : Named) → IsPiece token (number n) → has_kind Number token ≡ true
+is-number token n h = ap (λ k. same_kind k Number) h.0
+
+-- the number that a token is
+pub number_named : (token : Lexeme) (n : Named) → IsPiece token (number n) → named_by token ≡ n
+number_named token n h = let a = h.1 in let b = h.2 in let e : named_by token ≡ record { bytes = n.bytes; at = n.at } = cc in e
+
 -- the name that a token is
 pub named : (sort : Sort) (token : Lexeme) (n : Named) → IsPiece token (name sort n) → named_by token ≡ n
 named sort token n h = let a = h.1 in let b = h.2 in let e : named_by token ≡ record { bytes = n.bytes; at = n.at } = cc in e
+
+-- a token that is spelt so
+spelt-is : (n : Named) (token : Lexeme) → is_spelt n token ≡ true → (token.bytes ≡ n.bytes) × (token.at ≡ n.at)
+spelt-is n token h =
+    (same_bytes token.bytes n.bytes (both_left _ _ h), eqb-true token.at n.at (both_right (pointwise nat_eq token.bytes n.bytes) _ h))
+
+is-spelt : (n : Named) (token : Lexeme) → token.bytes ≡ n.bytes → token.at ≡ n.at → is_spelt n token ≡ true
+is-spelt n token b a = both _ _ (bytes_same token.bytes n.bytes b) (eq-eqb token.at n.at a)
+
+-- a piece of a rule
+of_rule-is : (p : RulePiece) (token : Lexeme) → is_of_rule p token ≡ true → IsRulePiece token p
+of_rule-is (fixed p) token h = fixed-is p token h
+of_rule-is (word_at keyword at) token h =
+    let w = both_left _ _ h in
+    (kind_is token.kind Word (both_left _ _ w), same_bytes token.bytes (word_of keyword) (both_right (has_kind Word token) _ w), eqb-true token.at at (both_right _ (token.at == at) h))
+of_rule-is (name_in_rule n) token h =
+    let w = wants-is rule_name token (both_left _ _ h) in
+    let s = spelt-is n token (both_right (wants rule_name token) _ h) in
+    (w.0, s.0, s.1, sym (ap is_name s.0) ∙ w.3)
+of_rule-is (number_in_rule n) token h =
+    let s = spelt-is n token (both_right (has_kind Number token) _ h) in
+    (kind_is token.kind Number (both_left _ _ h), s.0, s.1)
+
+is-of_rule : (p : RulePiece) (token : Lexeme) → IsRulePiece token p → is_of_rule p token ≡ true
+is-of_rule (fixed p) token h = is-fixed p token h
+is-of_rule (word_at keyword at) token h =
+    both _ _ (both _ _ (ap (λ k. same_kind k Word) h.0) (bytes_same token.bytes (word_of keyword) h.1)) (eq-eqb token.at at h.2)
+is-of_rule (name_in_rule n) token h = both _ _ (is-wants rule_name token n h) (is-spelt n token h.1 h.2)
+is-of_rule (number_in_rule n) token h = both _ _ (ap (λ k. same_kind k Number) h.0) (is-spelt n token h.1 h.2)
 
 pub fits-is : (p : Piece) (token : Lexeme) → fits p token ≡ true → IsPiece token p
 fits-is (word w) token h =
@@ -131,25 +161,27 @@ fits-is (word w) token h =
 fits-is (mark b) token h =
     (kind_is token.kind Mark (both_left _ _ h), same_bytes token.bytes b (both_right (has_kind Mark token) _ h))
 fits-is (name sort n) token h =
-    let s = both_left (has_sort sort token) _ h in
-    let r = both_right (has_sort sort token) (pointwise nat_eq token.bytes n.bytes && (token.at == n.at)) h in
-    let is = has_sort-is sort token s in
-    let bytes = same_bytes token.bytes n.bytes (both_left _ _ r) in
-    let at = eqb-true token.at n.at (both_right (pointwise nat_eq token.bytes n.bytes) _ r) in
-    (is.0, bytes, at, sym (ap (is_of sort) bytes) ∙ is.3)
-fits-is two token h = (kind_is token.kind Number (both_left _ _ h), both_right (has_kind Number token) (are_two token.bytes) h)
-fits-is kept token h =
-    (kind_is token.kind Mark (both_left _ _ h), same_bytes token.bytes kept_word (both_right (has_kind Mark token) _ h))
-fits-is (newer p) token h = fits-is p (seen token) h
+    let is = has_sort-is sort token (both_left (has_sort sort token) _ h) in
+    let s = spelt-is n token (both_right (has_sort sort token) (is_spelt n token) h) in
+    (is.0, s.0, s.1, sym (ap (is_of sort) s.0) ∙ is.3)
+fits-is (number n) token h =
+    let s = spelt-is n token (both_right (has_kind Number token) (is_spelt n token) h) in
+    (kind_is token.kind Number (both_left _ _ h), s.0, s.1)
+fits-is (version_number version) token h = (kind_is token.kind Number (both_left _ _ h), both_right (has_kind Number token) (are_of version token.bytes) h)
+fits-is (kept bytes) token h =
+    (kind_is token.kind Mark (both_left _ _ h), same_bytes token.bytes bytes (both_right (has_kind Mark token) _ h))
+fits-is (newer version p) token h = fits-is p (seen version token) h
+fits-is (rule p) token h = of_rule-is p token h
 
 pub is-fits : (p : Piece) (token : Lexeme) → IsPiece token p → fits p token ≡ true
 is-fits (word w) token h = both _ _ (ap (λ k. same_kind k Word) h.0) (bytes_same token.bytes w h.1)
 is-fits (mark b) token h = both _ _ (ap (λ k. same_kind k Mark) h.0) (bytes_same token.bytes b h.1)
-is-fits (name sort n) token h =
-    both _ _ (is-has_sort sort token n h) (both _ _ (bytes_same token.bytes n.bytes h.1) (eq-eqb token.at n.at h.2))
-is-fits two token h = both _ _ (ap (λ k. same_kind k Number) h.0) h.1
-is-fits kept token h = both _ _ (ap (λ k. same_kind k Mark) h.0) (bytes_same token.bytes kept_word h.1)
-is-fits (newer p) token h = is-fits p (seen token) h
+is-fits (name sort n) token h = both _ _ (is-has_sort sort token n h) (is-spelt n token h.1 h.2)
+is-fits (number n) token h = both _ _ (ap (λ k. same_kind k Number) h.0) (is-spelt n token h.1 h.2)
+is-fits (version_number version) token h = both _ _ (ap (λ k. same_kind k Number) h.0) h.1
+is-fits (kept bytes) token h = both _ _ (ap (λ k. same_kind k Mark) h.0) (bytes_same token.bytes bytes h.1)
+is-fits (newer version p) token h = is-fits p (seen version token) h
+is-fits (rule p) token h = is-of_rule p token h
 
 -- a mark is no word, a word no mark
 pub mark-has_sort : (sort : Sort) (token : Lexeme) → token.kind ≡ Mark → has_sort sort token ≡ false
@@ -183,8 +215,25 @@ word-has_sort sort w token h g = ap (λ k. same_kind k Word && is_of sort token.
 pub word-fits_word : (w other : List ℕ) (token : Lexeme) → IsPiece token (word w) → pointwise nat_eq w other ≡ false → fits (word other) token ≡ false
 word-fits_word w other token h g = ap (λ k. same_kind k Word && pointwise nat_eq token.bytes other) h.0 ∙ ap (λ v. pointwise nat_eq v other) h.1 ∙ g
 
-pub word-fits_kept : (token : Lexeme) → token.kind ≡ Word → fits kept token ≡ false
-word-fits_kept token h = ap (λ k. same_kind k Mark && pointwise nat_eq token.bytes kept_word) h
+pub word-fits_kept : (bytes : List ℕ) (token : Lexeme) → token.kind ≡ Word → fits (kept bytes) token ≡ false
+word-fits_kept bytes token h = ap (λ k. same_kind k Mark && pointwise nat_eq token.bytes bytes) h
+
+-- another kept word
+pub kept-fits_kept : (bytes other : List ℕ) (token : Lexeme) → IsPiece token (kept bytes) → pointwise nat_eq bytes other ≡ false → fits (kept other) token ≡ false
+kept-fits_kept bytes other token h g = mark-fits_mark bytes other token h g
+
+-- the number of another version
+pub third-fits_second : (token : Lexeme) → IsPiece token (version_number Third) → fits (version_number Second) token ≡ false
+third-fits_second token h = ap (λ k. same_kind k Number && are_of Second token.bytes) h.0 ∙ apart_digits token.bytes h.1
+  where
+    apart_digits : (digits : List ℕ) → are_digit 0x33 digits ≡ true → are_digit 0x32 digits ≡ false
+    apart_digits [] h = absurd (let e : false ≡ true = h in cc)
+    apart_digits (d ∷ []) h = ap (λ v. v == 0x32) (eqb-true d 0x33 h)
+    apart_digits (d ∷ next ∷ digits) h = by (d == 0x30) h
+      where
+        by : (b : Bool) → (if b then are_digit 0x33 (next ∷ digits) else false) ≡ true → (if b then are_digit 0x32 (next ∷ digits) else false) ≡ false
+        by true h = apart_digits (next ∷ digits) h
+        by false h = refl
 
 -- tokens that are one piece are of one kind, and have the same bytes or are numbers
 record IsAlike (one other : Lexeme) : Type 0 where
@@ -195,13 +244,16 @@ alike : (p : Piece) (one other : Lexeme) → IsPiece one p → IsPiece other p �
 alike (word w) one other h g = record { kind = h.0 ∙ sym g.0; bytes = inl (h.1 ∙ sym g.1) }
 alike (mark b) one other h g = record { kind = h.0 ∙ sym g.0; bytes = inl (h.1 ∙ sym g.1) }
 alike (name sort n) one other h g = record { kind = h.0 ∙ sym g.0; bytes = inl (h.1 ∙ sym g.1) }
-alike two one other h g = record { kind = h.0 ∙ sym g.0; bytes = inr g.0 }
-alike kept one other h g = record { kind = h.0 ∙ sym g.0; bytes = inl (h.1 ∙ sym g.1) }
-alike (newer p) one other h g =
-    let s = alike p (seen one) (seen other) h g in
+alike (number n) one other h g = record { kind = h.0 ∙ sym g.0; bytes = inl (h.1 ∙ sym g.1) }
+alike (version_number version) one other h g = record { kind = h.0 ∙ sym g.0; bytes = inr g.0 }
+alike (kept bytes) one other h g = record { kind = h.0 ∙ sym g.0; bytes = inl (h.1 ∙ sym g.1) }
+alike (rule p) one other h g = record { kind = kind_alike p one other h g; bytes = inl (bytes_alike p one other h g) }
+alike (newer version p) one other h g =
+    let s = alike p (seen version one) (seen version other) h g in
     elim s.bytes [
       | inl same ↦ record {
-        kind = sym (kind_back one.bytes one.kind) ∙ ap (kind_seen one.bytes) s.kind ∙ ap (λ v. kind_seen v (kind_seen other.bytes other.kind)) same ∙ kind_back other.bytes other.kind;
+        kind = sym (kind_back version one.bytes one.kind) ∙ ap (kind_seen version one.bytes) s.kind ∙ ap (λ v. kind_seen version v (kind_seen version other.bytes other.kind)) same
+            ∙ kind_back version other.bytes other.kind;
         bytes = inl same;
       }
       | inr number ↦
@@ -213,8 +265,8 @@ alike (newer p) one other h g =
     still true = refl
     still false = refl
 
-    number_back : (token : Lexeme) → kind_seen token.bytes token.kind ≡ Number → token.kind ≡ Number
-    number_back token is = sym (kind_back token.bytes token.kind) ∙ ap (kind_seen token.bytes) is ∙ still (pointwise nat_eq token.bytes kept_word)
+    number_back : (token : Lexeme) → kind_seen version token.bytes token.kind ≡ Number → token.kind ≡ Number
+    number_back token is = sym (kind_back version token.bytes token.kind) ∙ ap (kind_seen version token.bytes) is ∙ still (is_kept version token.bytes)
 
 -- so tests of words and of marks answer alike
 tests_alike : (p : Piece) (test : TokenKind → List ℕ → Bool) → ((bytes : List ℕ) → test Number bytes ≡ false) → (one other : Lexeme) → IsPiece one p → IsPiece other p

@@ -1,11 +1,13 @@
 -- Statements: from the state before one, and as pieces.
-use Rattle.std.proofs.Common.{◌≡◌, ◌≢◌, true, if◌then◌else◌, List, [], ◌∷◌, ◌++◌, refl, sym, ap, subst, ◌∙◌, append_assoc}
+use Rattle.std.proofs.Common.{◌≡◌, ◌≢◌, ℕ, true, if◌then◌else◌, List, [], ◌∷◌, ◌++◌, map, refl, sym, ap, subst, ◌∙◌, append_assoc}
 use Rattle.std.specs.Prelude.{None, Some, All, codes}
 use Rattle.std.specs.declared.option.Option.{Option}
+use Rattle.std.specs.List.{flat_map}
 use Rattle.std.proofs.lemmas.List.Elements.{All-cons, All-head, All-tail}
+use Rattle.sg_lex.specs.declared.token.TokenKind.TheVariants.{Word, Mark}
 use Rattle.sg_lex.specs.Lexeme.{Lexeme, Spelling as Named}
 use Rattle.sg_parse.specs.declared.tree.Statement.{Statement}
-use Rattle.sg_parse.specs.declared.tree.Statement.TheVariants.{One, Two, Proto}
+use Rattle.sg_parse.specs.declared.tree.Statement.TheVariants.{One, Two, Proto, External, Most, Unique, Answer}
 use Rattle.sg_parse.specs.declared.tree.Ret.{Ret}
 use Rattle.sg_parse.specs.declared.tree.Ret.TheVariants.{Plain, Set, Add, Sub}
 use Rattle.sg_parse.specs.declared.tree.TypeName.{TypeName}
@@ -13,11 +15,14 @@ use Rattle.sg_parse.specs.declared.tree.Param.{Param}
 use Rattle.sg_parse.specs.declared.tree.Tree.{Tree}
 use Rattle.sg_parse.specs.declared.words.Sort.TheVariants.{Name, One as one_word, Two as two_word}
 use Rattle.sg_parse.specs.Grammar.Inside.Words.{one_words, two_words}
-use Rattle.sg_parse.specs.Grammar.Pieces.{Piece, word, name, kept, IsPiece}
+use Rattle.sg_rules.specs.Grammar.Sentence.{rule_pieces}
+use Rattle.sg_rules.specs.Grammar.Inside.States.{ruled}
+use Rattle.sg_rules.proofs.Grammar.Runs.{pieces_go, rules_at_end, rules_ended}
+use Rattle.sg_parse.specs.Grammar.Pieces.{Piece, word, name, number, kept, rule, IsPiece}
 use Rattle.sg_parse.specs.Grammar.Sentence.{type_pieces, param_pieces, ret_pieces, statement_pieces, IsStatement}
-use Rattle.sg_parse.specs.Grammar.Inside.Forms.{comma, semicolon, open_bracket, close_bracket, more_params, params_pieces, returned_pieces, IsType, IsRet}
-use Rattle.sg_parse.specs.Grammar.Inside.States.{State, due, want, has_sort, fits, named_by, type_of, declared, param, one_rest, two_rest, proto_rest, returned_after, returned_rest, plain_rest, statement_after}
-use Rattle.sg_parse.proofs.Grammar.Basics.{some_is, none_is, by_test, if_then, if_else, has_sort-is, is-has_sort, named, fits-is, is-fits, sort-has_sort, sort-fits_word, word-has_sort, word-fits_word, word-fits_kept, mark-has_sort, mark-fits_word, apart, name_apart}
+use Rattle.sg_parse.specs.Grammar.Inside.Forms.{comma, semicolon, open_brace, close_brace, open_bracket, close_bracket, more_fields, more_params, params_pieces, returned_pieces, IsType, IsRet}
+use Rattle.sg_parse.specs.Grammar.Inside.States.{State, due, want, has_sort, fits, named_by, type_of, declared, param, one_rest, two_rest, proto_rest, returned_after, returned_rest, external_rest, most_rest, unique_rest, answer_rest, kept_after, answering, plain_rest, statement_after}
+use Rattle.sg_parse.proofs.Grammar.Basics.{some_is, none_is, by_test, if_then, if_else, has_sort-is, is-has_sort, named, fits-is, is-fits, sort-has_sort, sort-fits_word, word-has_sort, word-fits_word, word-fits_kept, kept-fits_kept, mark-has_sort, mark-fits_word, apart, name_apart}
 use Rattle.sg_parse.proofs.Grammar.Rests.{Rest, Whole, whole_of, closed-star, closed-sort}
 use Rattle.sg_parse.proofs.Grammar.Parts.{declared_back, declared_forth, param_back, param_forth, type_forth, ends, listed_closed}
 
@@ -166,6 +171,94 @@ returned_back go tree token ps what make pieces is_ret h r =
     full [] last e = cc
     full (x ∷ xs) last e = cc
 
+-- ---- statements of a text of version 3
+
+external_back : (go : Statement → State) (tree : Tree) (token : Lexeme) (ps : List Piece) → fits (kept (codes "sm_external")) token ≡ true → Rest (external_rest go) ps tree
+    → Spelled go tree token ps
+external_back go tree token ps h r =
+    let fun = r.rest in let close = fun.rest in let end = close.rest in
+    record {
+      piece = kept (codes "sm_external");
+      statement = External fun.value;
+      behind = end.behind;
+      is = fits-is (kept (codes "sm_external")) token h;
+      all = ap (λ v. kept (codes "sm_external") ∷ v) (r.all ∙ ap (λ v. open_bracket ∷ v) (fun.all ∙ ap (λ v. name Name fun.value ∷ v) (close.all ∙ ap (λ v. close_bracket ∷ v) end.all)));
+      is_statement = tt;
+      rest = end.rest;
+    }
+
+most_back : (go : Statement → State) (tree : Tree) (token : Lexeme) (ps : List Piece) → fits (kept (codes "desc_data_most")) token ≡ true → Rest (most_rest go) ps tree
+    → Spelled go tree token ps
+most_back go tree token ps h r =
+    let field = r.rest in let sep = field.rest in let most = sep.rest in let close = most.rest in let end = close.rest in
+    record {
+      piece = kept (codes "desc_data_most");
+      statement = Most field.value most.value;
+      behind = end.behind;
+      is = fits-is (kept (codes "desc_data_most")) token h;
+      all = ap (λ v. kept (codes "desc_data_most") ∷ v) (r.all ∙ ap (λ v. open_bracket ∷ v) (field.all ∙ ap (λ v. name Name field.value ∷ v)
+          (sep.all ∙ ap (λ v. comma ∷ v) (most.all ∙ ap (λ v. number most.value ∷ v) (close.all ∙ ap (λ v. close_bracket ∷ v) end.all)))));
+      is_statement = tt;
+      rest = end.rest;
+    }
+
+unique_back : (go : Statement → State) (tree : Tree) (token : Lexeme) (ps : List Piece) → fits (kept (codes "desc_data_unique")) token ≡ true → Rest (unique_rest go) ps tree
+    → Spelled go tree token ps
+unique_back go tree token ps h r =
+    let first = r.rest in let fields = first.rest in let end = fields.rest in
+    record {
+      piece = kept (codes "desc_data_unique");
+      statement = Unique (first.value ∷ fields.more);
+      behind = end.behind;
+      is = fits-is (kept (codes "desc_data_unique")) token h;
+      all = ap (λ v. kept (codes "desc_data_unique") ∷ v) (r.all ∙ ap (λ v. open_bracket ∷ v) (first.all ∙ ap (λ v. name Name first.value ∷ v)
+          (fields.all ∙ ap (λ v. more_fields fields.more ++ close_bracket ∷ v) end.all)
+          ∙ sym (append_assoc (name Name first.value ∷ more_fields fields.more) (close_bracket ∷ semicolon ∷ []) end.behind)));
+      is_statement = λ e. cc;
+      rest = end.rest;
+    }
+
+answer_back : (go : Statement → State) (tree : Tree) (token : Lexeme) (ps : List Piece) → fits (kept (codes "sm_answer")) token ≡ true → Rest (answer_rest go) ps tree
+    → Spelled go tree token ps
+answer_back go tree token ps h r =
+    let fun = r.rest in let close = fun.rest in let open_rules = close.rest in let a = open_rules.rest in
+    let is = rules_ended a.pieces a.end a.rules a.goes a.ends in
+    record {
+      piece = kept (codes "sm_answer");
+      statement = Answer fun.value a.rules;
+      behind = a.behind;
+      is = fits-is (kept (codes "sm_answer")) token h;
+      all = ap (λ v. kept (codes "sm_answer") ∷ v) (r.all ∙ ap (λ v. open_bracket ∷ v) (fun.all ∙ ap (λ v. name Name fun.value ∷ v) (close.all ∙ ap (λ v. close_bracket ∷ v)
+          (open_rules.all ∙ ap (λ v. open_brace ∷ v) (a.all ∙ ap (λ v. map rule v ++ close_brace ∷ a.behind) is.0
+          ∙ sym (append_assoc (map rule (flat_map rule_pieces a.rules)) (close_brace ∷ []) a.behind))))));
+      is_statement = (is.1, is.2);
+      rest = a.rest;
+    }
+
+-- a word that a version keeps for itself, or else another statement
+kept_back : (go : Statement → State) (tree : Tree) (token : Lexeme) (next : State) (ps : List Piece) (other : Option State)
+    → kept_after go token other ≡ Some next → Rest next ps tree → (other ≡ Some next → Spelled go tree token ps) → Spelled go tree token ps
+kept_back go tree token next ps other e r others =
+    by_test (fits (kept (codes "desc_data_retval_sub")) token)
+    (λ h. returned_back go tree token ps (kept (codes "desc_data_retval_sub")) Sub (λ ty field. refl) (λ ty field t. t) h
+    (along (returned_rest go Sub) (sym (if_then (fits (kept (codes "desc_data_retval_sub")) token) _ _ h) ∙ e)))
+    (λ h1. let e1 = sym (if_else (fits (kept (codes "desc_data_retval_sub")) token) _ _ h1) ∙ e in
+    by_test (fits (kept (codes "sm_external")) token)
+    (λ h. external_back go tree token ps h (along (external_rest go) (sym (if_then (fits (kept (codes "sm_external")) token) _ _ h) ∙ e1)))
+    (λ h2. let e2 = sym (if_else (fits (kept (codes "sm_external")) token) _ _ h2) ∙ e1 in
+    by_test (fits (kept (codes "desc_data_most")) token)
+    (λ h. most_back go tree token ps h (along (most_rest go) (sym (if_then (fits (kept (codes "desc_data_most")) token) _ _ h) ∙ e2)))
+    (λ h3. let e3 = sym (if_else (fits (kept (codes "desc_data_most")) token) _ _ h3) ∙ e2 in
+    by_test (fits (kept (codes "desc_data_unique")) token)
+    (λ h. unique_back go tree token ps h (along (unique_rest go) (sym (if_then (fits (kept (codes "desc_data_unique")) token) _ _ h) ∙ e3)))
+    (λ h4. let e4 = sym (if_else (fits (kept (codes "desc_data_unique")) token) _ _ h4) ∙ e3 in
+    by_test (fits (kept (codes "sm_answer")) token)
+    (λ h. answer_back go tree token ps h (along (answer_rest go) (sym (if_then (fits (kept (codes "sm_answer")) token) _ _ h) ∙ e4)))
+    (λ h5. others (sym (if_else (fits (kept (codes "sm_answer")) token) _ _ h5) ∙ e4))))))
+  where
+    along : (s : State) → Some s ≡ Some next → Rest s ps tree
+    along s g = subst (λ v. Rest v ps tree) (sym (some_is s next g)) r
+
 pub statement_back : (go : Statement → State) (tree : Tree) (token : Lexeme) (next : State) (ps : List Piece)
     → statement_after go token ≡ Some next → Rest next ps tree → Spelled go tree token ps
 statement_back go tree token next ps e r =
@@ -183,10 +276,8 @@ statement_back go tree token next ps e r =
     (λ h. returned_back go tree token ps (word (codes "desc_data_retval_add")) Add (λ ty field. refl) (λ ty field t. t) h
     (along (returned_rest go Add) (sym (if_then (fits (word (codes "desc_data_retval_add")) token) _ _ h) ∙ e3)))
     (λ h4. let e4 = sym (if_else (fits (word (codes "desc_data_retval_add")) token) _ _ h4) ∙ e3 in
-    by_test (fits kept token)
-    (λ h. returned_back go tree token ps kept Sub (λ ty field. refl) (λ ty field t. t) h
-    (along (returned_rest go Sub) (sym (if_then (fits kept token) _ _ h) ∙ e4)))
-    (λ h5. let e5 = sym (if_else (fits kept token) _ _ h5) ∙ e4 in
+    kept_back go tree token next ps (if has_sort Name token then Some (plain_rest go (named_by token)) else None) e4 r
+    (λ e5.
     by_test (has_sort Name token)
     (λ h. plain_back go tree token ps h (along (plain_rest go (named_by token)) (sym (if_then (has_sort Name token) _ _ h) ∙ e5)))
     (λ h6. none_is (Spelled go tree token ps) next (if has_sort Name token then Some (plain_rest go (named_by token)) else None)
@@ -259,6 +350,15 @@ two_forth go tree token w first second qs is r = record {
       });
 }
 
+-- a word is none that a version keeps for itself
+no_kept : (go : Statement → State) (token : Lexeme) (other : Option State) → token.kind ≡ Word → kept_after go token other ≡ other
+no_kept go token other is =
+    if_else (fits (kept (codes "desc_data_retval_sub")) token) _ _ (word-fits_kept (codes "desc_data_retval_sub") token is)
+    ∙ if_else (fits (kept (codes "sm_external")) token) _ _ (word-fits_kept (codes "sm_external") token is)
+    ∙ if_else (fits (kept (codes "desc_data_most")) token) _ _ (word-fits_kept (codes "desc_data_most") token is)
+    ∙ if_else (fits (kept (codes "desc_data_unique")) token) _ _ (word-fits_kept (codes "desc_data_unique") token is)
+    ∙ if_else (fits (kept (codes "sm_answer")) token) _ _ (word-fits_kept (codes "sm_answer") token is)
+
 -- the first token of a plain return is none of the words before it
 plain_is : (go : Statement → State) (token : Lexeme) (n : Named) → IsPiece token (name Name n) → statement_after go token ≡ Some (plain_rest go (named_by token))
 plain_is go token n is =
@@ -266,7 +366,7 @@ plain_is go token n is =
     ∙ if_else (has_sort two_word token) _ _ (sort-has_sort Name two_word token n is (name_apart two_words n.bytes refl is.3))
     ∙ if_else (fits (word (codes "desc_data_retval")) token) _ _ (sort-fits_word Name (codes "desc_data_retval") token n is (name_apart (codes "desc_data_retval" ∷ []) n.bytes refl is.3))
     ∙ if_else (fits (word (codes "desc_data_retval_add")) token) _ _ (sort-fits_word Name (codes "desc_data_retval_add") token n is (name_apart (codes "desc_data_retval_add" ∷ []) n.bytes refl is.3))
-    ∙ if_else (fits kept token) _ _ (word-fits_kept token is.0)
+    ∙ no_kept go token (if has_sort Name token then Some (plain_rest go (named_by token)) else None) is.0
     ∙ if_then (has_sort Name token) _ _ (is-has_sort Name token n is)
 
 -- a type and a name, and then the rest of a prototype
@@ -359,13 +459,86 @@ retval_add_is go token is =
     ∙ if_else (fits (word (codes "desc_data_retval")) token) _ _ (word-fits_word (codes "desc_data_retval_add") (codes "desc_data_retval") token is refl)
     ∙ if_then (fits (word (codes "desc_data_retval_add")) token) _ _ (is-fits (word (codes "desc_data_retval_add")) token is)
 
-retval_sub_is : (go : Statement → State) (token : Lexeme) → IsPiece token kept → statement_after go token ≡ Some (returned_rest go Sub)
+-- a word that a version keeps for itself is none of the words before it
+kept_is : (go : Statement → State) (token : Lexeme) (next : State) → token.kind ≡ Mark
+    → ((other : Option State) → kept_after go token other ≡ Some next) → statement_after go token ≡ Some next
+kept_is go token next is h =
+    if_else (has_sort one_word token) _ _ (mark-has_sort one_word token is)
+    ∙ if_else (has_sort two_word token) _ _ (mark-has_sort two_word token is)
+    ∙ if_else (fits (word (codes "desc_data_retval")) token) _ _ (mark-fits_word (codes "desc_data_retval") token is)
+    ∙ if_else (fits (word (codes "desc_data_retval_add")) token) _ _ (mark-fits_word (codes "desc_data_retval_add") token is)
+    ∙ h (if has_sort Name token then Some (plain_rest go (named_by token)) else None)
+
+retval_sub_is : (go : Statement → State) (token : Lexeme) → IsPiece token (kept (codes "desc_data_retval_sub")) → statement_after go token ≡ Some (returned_rest go Sub)
 retval_sub_is go token is =
-    if_else (has_sort one_word token) _ _ (mark-has_sort one_word token is.0)
-    ∙ if_else (has_sort two_word token) _ _ (mark-has_sort two_word token is.0)
-    ∙ if_else (fits (word (codes "desc_data_retval")) token) _ _ (mark-fits_word (codes "desc_data_retval") token is.0)
-    ∙ if_else (fits (word (codes "desc_data_retval_add")) token) _ _ (mark-fits_word (codes "desc_data_retval_add") token is.0)
-    ∙ if_then (fits kept token) _ _ (is-fits kept token is)
+    kept_is go token (returned_rest go Sub) is.0
+    (λ other. if_then (fits (kept (codes "desc_data_retval_sub")) token) _ _ (is-fits (kept (codes "desc_data_retval_sub")) token is))
+
+external_is : (go : Statement → State) (token : Lexeme) → IsPiece token (kept (codes "sm_external")) → statement_after go token ≡ Some (external_rest go)
+external_is go token is =
+    kept_is go token (external_rest go) is.0
+    (λ other.
+    if_else (fits (kept (codes "desc_data_retval_sub")) token) _ _ (kept-fits_kept (codes "sm_external") (codes "desc_data_retval_sub") token is refl)
+    ∙ if_then (fits (kept (codes "sm_external")) token) _ _ (is-fits (kept (codes "sm_external")) token is))
+
+most_is : (go : Statement → State) (token : Lexeme) → IsPiece token (kept (codes "desc_data_most")) → statement_after go token ≡ Some (most_rest go)
+most_is go token is =
+    kept_is go token (most_rest go) is.0
+    (λ other.
+    if_else (fits (kept (codes "desc_data_retval_sub")) token) _ _ (kept-fits_kept (codes "desc_data_most") (codes "desc_data_retval_sub") token is refl)
+    ∙ if_else (fits (kept (codes "sm_external")) token) _ _ (kept-fits_kept (codes "desc_data_most") (codes "sm_external") token is refl)
+    ∙ if_then (fits (kept (codes "desc_data_most")) token) _ _ (is-fits (kept (codes "desc_data_most")) token is))
+
+unique_is : (go : Statement → State) (token : Lexeme) → IsPiece token (kept (codes "desc_data_unique")) → statement_after go token ≡ Some (unique_rest go)
+unique_is go token is =
+    kept_is go token (unique_rest go) is.0
+    (λ other.
+    if_else (fits (kept (codes "desc_data_retval_sub")) token) _ _ (kept-fits_kept (codes "desc_data_unique") (codes "desc_data_retval_sub") token is refl)
+    ∙ if_else (fits (kept (codes "sm_external")) token) _ _ (kept-fits_kept (codes "desc_data_unique") (codes "sm_external") token is refl)
+    ∙ if_else (fits (kept (codes "desc_data_most")) token) _ _ (kept-fits_kept (codes "desc_data_unique") (codes "desc_data_most") token is refl)
+    ∙ if_then (fits (kept (codes "desc_data_unique")) token) _ _ (is-fits (kept (codes "desc_data_unique")) token is))
+
+answer_is : (go : Statement → State) (token : Lexeme) → IsPiece token (kept (codes "sm_answer")) → statement_after go token ≡ Some (answer_rest go)
+answer_is go token is =
+    kept_is go token (answer_rest go) is.0
+    (λ other.
+    if_else (fits (kept (codes "desc_data_retval_sub")) token) _ _ (kept-fits_kept (codes "sm_answer") (codes "desc_data_retval_sub") token is refl)
+    ∙ if_else (fits (kept (codes "sm_external")) token) _ _ (kept-fits_kept (codes "sm_answer") (codes "sm_external") token is refl)
+    ∙ if_else (fits (kept (codes "desc_data_most")) token) _ _ (kept-fits_kept (codes "sm_answer") (codes "desc_data_most") token is refl)
+    ∙ if_else (fits (kept (codes "desc_data_unique")) token) _ _ (kept-fits_kept (codes "sm_answer") (codes "desc_data_unique") token is refl)
+    ∙ if_then (fits (kept (codes "sm_answer")) token) _ _ (is-fits (kept (codes "sm_answer")) token is))
+
+-- a function in brackets, and what follows the bracket
+fun_forth : (k : Named → State) (tree : Tree) (fun : Named) (qs : List Piece) → Rest (k fun) qs tree
+    → Rest (due open_bracket (want Name (λ f. due close_bracket (k f)))) (open_bracket ∷ name Name fun ∷ close_bracket ∷ qs) tree
+fun_forth k tree fun qs r = record {
+  behind = name Name fun ∷ close_bracket ∷ qs;
+  all = refl;
+  rest = record {
+    value = fun;
+    behind = close_bracket ∷ qs;
+    all = refl;
+    rest = record { behind = qs; all = refl; rest = r };
+  };
+}
+
+-- the words of version 3 lead to these states
+record Kept (go : Statement → State) (tree : Tree) (token : Lexeme) (p : Piece) (ps : List Piece) : Type 0 where
+  word_is : List ℕ
+  next : State
+  tail : List Piece
+  first : p ≡ kept word_is
+  others : tail ≡ ps
+  goes : IsPiece token (kept word_is) → statement_after go token ≡ Some next
+  rest : Rest next tail tree
+
+kept_forth : (go : Statement → State) (tree : Tree) (token : Lexeme) (p : Piece) (ps : List Piece) → IsPiece token p
+    → Kept go tree token p ps → Follows (statement_after go token) ps tree
+kept_forth go tree token p ps is k = record {
+  next = k.next;
+  is = k.goes (subst (IsPiece token) k.first is);
+  rest = subst (λ v. Rest k.next v tree) k.others k.rest;
+}
 
 pub statement_forth : (go : Statement → State) (tree : Tree) (token : Lexeme) (p : Piece) (ps : List Piece) (statement : Statement) (qs : List Piece)
     → IsPiece token p → p ∷ ps ≡ statement_pieces statement ++ qs → IsStatement statement → Rest (go statement) qs tree
@@ -393,8 +566,99 @@ statement_forth go tree token p ps (Proto (Add ty field) n params) qs is all s r
     let e1 = tail_is e in
     record { next = returned_rest go Add; is = retval_add_is go token (subst (IsPiece token) e0 is); rest = subst (λ v. Rest (returned_rest go Add) v tree) (sym e1) f }
 statement_forth go tree token p ps (Proto (Sub ty field) n params) qs is all s r =
-    let f = returned_forth go tree kept Sub ty field n params qs s.0 s.1 s.2 r in
-    let e = all ∙ returned_all kept Sub ty field n params qs refl in
-    let e0 : p ≡ kept = head_is e in
+    let f = returned_forth go tree (kept (codes "desc_data_retval_sub")) Sub ty field n params qs s.0 s.1 s.2 r in
+    let e = all ∙ returned_all (kept (codes "desc_data_retval_sub")) Sub ty field n params qs refl in
+    let e0 : p ≡ kept (codes "desc_data_retval_sub") = head_is e in
     let e1 = tail_is e in
     record { next = returned_rest go Sub; is = retval_sub_is go token (subst (IsPiece token) e0 is); rest = subst (λ v. Rest (returned_rest go Sub) v tree) (sym e1) f }
+statement_forth go tree token p ps (External fun) qs is all s r =
+    kept_forth go tree token p ps is (record {
+      word_is = codes "sm_external";
+      next = external_rest go;
+      tail = open_bracket ∷ name Name fun ∷ close_bracket ∷ semicolon ∷ qs;
+      first = head_is all;
+      others = sym (tail_is all);
+      goes = external_is go token;
+      rest = fun_forth (λ f. due semicolon (go (External f))) tree fun (semicolon ∷ qs) (record { behind = qs; all = refl; rest = r });
+    })
+statement_forth go tree token p ps (Most field most) qs is all s r =
+    kept_forth go tree token p ps is (record {
+      word_is = codes "desc_data_most";
+      next = most_rest go;
+      tail = open_bracket ∷ name Name field ∷ comma ∷ number most ∷ close_bracket ∷ semicolon ∷ qs;
+      first = head_is all;
+      others = sym (tail_is all);
+      goes = most_is go token;
+      rest = record {
+        behind = name Name field ∷ comma ∷ number most ∷ close_bracket ∷ semicolon ∷ qs;
+        all = refl;
+        rest = record {
+          value = field;
+          behind = comma ∷ number most ∷ close_bracket ∷ semicolon ∷ qs;
+          all = refl;
+          rest = record {
+            behind = number most ∷ close_bracket ∷ semicolon ∷ qs;
+            all = refl;
+            rest = record {
+              value = most;
+              behind = close_bracket ∷ semicolon ∷ qs;
+              all = refl;
+              rest = record {
+                behind = semicolon ∷ qs;
+                all = refl;
+                rest = record { behind = qs; all = refl; rest = r };
+              };
+            };
+          };
+        };
+      };
+    })
+statement_forth go tree token p ps (Unique []) qs is all s r = absurd (s refl)
+statement_forth go tree token p ps (Unique (first ∷ more)) qs is all s r =
+    kept_forth go tree token p ps is (record {
+      word_is = codes "desc_data_unique";
+      next = unique_rest go;
+      tail = open_bracket ∷ ((name Name first ∷ more_fields more ++ close_bracket ∷ semicolon ∷ []) ++ qs);
+      first = head_is all;
+      others = sym (tail_is all);
+      goes = unique_is go token;
+      rest = record {
+        behind = (name Name first ∷ more_fields more ++ close_bracket ∷ semicolon ∷ []) ++ qs;
+        all = refl;
+        rest = record {
+          value = first;
+          behind = more_fields more ++ close_bracket ∷ semicolon ∷ qs;
+          all = append_assoc (name Name first ∷ more_fields more) (close_bracket ∷ semicolon ∷ []) qs;
+          rest = record {
+            more = more;
+            behind = semicolon ∷ qs;
+            all = refl;
+            rest = record { behind = qs; all = refl; rest = r };
+          };
+        };
+      };
+    })
+statement_forth go tree token p ps (Answer fun rules) qs is all s r =
+    let closed : List Piece = map rule (flat_map rule_pieces rules) ++ close_brace ∷ [] in
+    kept_forth go tree token p ps is (record {
+      word_is = codes "sm_answer";
+      next = answer_rest go;
+      tail = open_bracket ∷ name Name fun ∷ close_bracket ∷ open_brace ∷ (closed ++ qs);
+      first = head_is all;
+      others = sym (tail_is all);
+      goes = answer_is go token;
+      rest = fun_forth (λ f. due open_brace (answering (ruled []) (λ rules. go (Answer f rules)))) tree fun (open_brace ∷ (closed ++ qs)) (record {
+        behind = closed ++ qs;
+        all = refl;
+        rest = record {
+          pieces = flat_map rule_pieces rules;
+          end = ruled rules;
+          rules = rules;
+          behind = qs;
+          all = append_assoc (map rule (flat_map rule_pieces rules)) (close_brace ∷ []) qs;
+          goes = pieces_go rules s.1;
+          ends = rules_at_end rules s.0;
+          rest = r;
+        };
+      });
+    })

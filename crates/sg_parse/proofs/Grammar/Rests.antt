@@ -1,6 +1,6 @@
 -- From each state, what the rest of a sentence is.
 use Rattle.std.proofs.Common.{◌≡◌, ℕ, ◌+◌, ◌⊎◌, Bool, false, List, [], ◌∷◌, ◌++◌, map, refl, sym, ap, subst, ◌∙◌, nat_eq, append_assoc}
-use Rattle.std.specs.Prelude.{codes, replicate, All}
+use Rattle.std.specs.Prelude.{Some, codes, replicate, All}
 use Rattle.std.specs.List.{flat_map}
 use Rattle.std.specs.Cmp.Lexicographic.{pointwise}
 use Rattle.sg_lex.specs.Lexeme.{Lexeme, Spelling as Named}
@@ -10,10 +10,16 @@ use Rattle.sg_parse.specs.declared.tree.Tree.{Tree}
 use Rattle.sg_parse.specs.declared.words.Sort.{Sort}
 use Rattle.sg_parse.specs.declared.words.Sort.TheVariants.{Name, Form}
 use Rattle.sg_parse.specs.Grammar.Inside.Words.{form_words}
-use Rattle.sg_parse.specs.Grammar.Pieces.{Piece, word, mark, name, two, kept, newer, IsPiece}
+use Rattle.sg_rules.specs.declared.version.Newer.{Newer}
+use Rattle.sg_rules.specs.declared.version.Newer.TheVariants.{Second, Third}
+use Rattle.sg_rules.specs.declared.tree.Rule.{Rule}
+use Rattle.sg_rules.specs.Grammar.Pieces.{RulePiece}
+use Rattle.sg_rules.specs.Grammar.Inside.States.{RuleState, rules_at}
+use Rattle.sg_rules.proofs.Grammar.Steps.{GoesOn}
+use Rattle.sg_parse.specs.Grammar.Pieces.{Piece, word, mark, name, number, version_number, kept, newer, rule, IsPiece}
 use Rattle.sg_parse.specs.Grammar.Sentence.{type_pieces, statement_pieces, IsStatement}
-use Rattle.sg_parse.specs.Grammar.Inside.Forms.{star, close_bracket, more_params, IsType}
-use Rattle.sg_parse.specs.Grammar.Inside.States.{State, dead, due, fork, want, names, stars, either, listed, statements, in_newer, has_sort, fits, type_of}
+use Rattle.sg_parse.specs.Grammar.Inside.Forms.{star, close_brace, close_bracket, more_fields, more_params, IsType}
+use Rattle.sg_parse.specs.Grammar.Inside.States.{State, dead, due, fork, want, want_number, versioned, names, stars, either, listed, fielded, answering, statements, in_newer, has_sort, fits, type_of}
 use Rattle.sg_parse.proofs.Grammar.Basics.{mark-has_sort, word-fits_mark, mark-fits_mark, sort-has_sort, name_apart, reserved_apart}
 
 -- the test fails at the first of these pieces
@@ -61,10 +67,10 @@ pub record StatementRest (facts_tree : List Statement → Tree) (ps : List Piece
   pub each : All IsStatement more
   pub is : tree ≡ facts_tree more
 
-pub record NameRest (P : Named → List Piece → Type 0) (sort : Sort) (ps : List Piece) : Type 0 where
+pub record NameRest (P : Named → List Piece → Type 0) (piece : Named → Piece) (ps : List Piece) : Type 0 where
   pub value : Named
   pub behind : List Piece
-  pub all : ps ≡ name sort value ∷ behind
+  pub all : ps ≡ piece value ∷ behind
   pub rest : P value behind
 
 pub record DueRest (P : List Piece → Type 0) (p : Piece) (ps : List Piece) : Type 0 where
@@ -72,10 +78,28 @@ pub record DueRest (P : List Piece → Type 0) (p : Piece) (ps : List Piece) : T
   pub all : ps ≡ p ∷ behind
   pub rest : P behind
 
--- in a text of version 2: pieces as it has them
-pub record NewerRest (P : List Piece → Type 0) (ps : List Piece) : Type 0 where
+-- further fields with their commas, and the bracket
+pub record FieldRest (P : List Named → List Piece → Type 0) (ps : List Piece) : Type 0 where
+  pub more : List Named
   pub behind : List Piece
-  pub all : ps ≡ map newer behind
+  pub all : ps ≡ more_fields more ++ close_bracket ∷ behind
+  pub rest : P more behind
+
+-- the pieces of rules up to the brace that closes them, where these may end
+pub record AnswerRest (P : List Rule → List Piece → Type 0) (r : RuleState) (ps : List Piece) : Type 0 where
+  pub pieces : List RulePiece
+  pub end : RuleState
+  pub rules : List Rule
+  pub behind : List Piece
+  pub all : ps ≡ map rule pieces ++ close_brace ∷ behind
+  pub goes : GoesOn r pieces end
+  pub ends : rules_at end ≡ Some rules
+  pub rest : P rules behind
+
+-- in a text of a version: pieces as it has them
+pub record NewerRest (version : Newer) (P : List Piece → Type 0) (ps : List Piece) : Type 0 where
+  pub behind : List Piece
+  pub all : ps ≡ map (newer version) behind
   pub rest : P behind
 
 -- from a state these pieces complete this tree
@@ -83,14 +107,19 @@ abbrev pub Rest : State → List Piece → Tree → Type 0
 Rest dead ps tree = ⊥
 Rest (due p s) ps tree = DueRest (λ qs. Rest s qs tree) p ps
 Rest (fork what s other) ps tree = DueRest (λ qs. Rest s qs tree) (word what) ps ⊎ (Off (fits (word what)) ps × Rest other ps tree)
-Rest (want sort k) ps tree = NameRest (λ n qs. Rest (k n) qs tree) sort ps
+Rest (want sort k) ps tree = NameRest (λ n qs. Rest (k n) qs tree) (name sort) ps
+Rest (want_number k) ps tree = NameRest (λ n qs. Rest (k n) qs tree) number ps
+Rest (versioned two three) ps tree =
+    DueRest (λ qs. Rest two qs tree) (version_number Second) ps ⊎ DueRest (λ qs. Rest three qs tree) (version_number Third) ps
 Rest (names front last k) ps tree = TypeRest (λ f l n qs. Rest (k f l n) qs tree) front last ps
 Rest (stars front last n k) ps tree = StarRest (λ m qs. Rest (k front last (n + m)) qs tree) ps
-Rest (either k s) ps tree = NameRest (λ n qs. Rest (k n) qs tree) Form ps ⊎ (Off (has_sort Form) ps × Rest s ps tree)
+Rest (either k s) ps tree = NameRest (λ n qs. Rest (k n) qs tree) (name Form) ps ⊎ (Off (has_sort Form) ps × Rest s ps tree)
 Rest (listed params k) ps tree = ParamRest (λ more qs. Rest (k (params ++ more)) qs tree) ps
+Rest (fielded fields k) ps tree = FieldRest (λ more qs. Rest (k (fields ++ more)) qs tree) ps
+Rest (answering r k) ps tree = AnswerRest (λ rules qs. Rest (k rules) qs tree) r ps
 Rest (statements facts before) ps tree =
     StatementRest (λ more. record { facts = facts; statements = before ++ more }) ps tree
-Rest (in_newer s) ps tree = NewerRest (λ qs. Rest s qs tree) ps
+Rest (in_newer version s) ps tree = NewerRest version (λ qs. Rest s qs tree) ps
 
 -- ---- names of a type
 
@@ -179,27 +208,33 @@ Closed [] = ⊥
 Closed (word w ∷ ps) = ⊥
 Closed (mark b ∷ ps) = pointwise nat_eq b (codes "*") ≡ false
 Closed (name sort n ∷ ps) = ⊥
-Closed (two ∷ ps) = ⊥
-Closed (kept ∷ ps) = ⊥
-Closed (newer p ∷ ps) = ⊥
+Closed (number n ∷ ps) = ⊥
+Closed (version_number version ∷ ps) = ⊥
+Closed (kept bytes ∷ ps) = ⊥
+Closed (newer version p ∷ ps) = ⊥
+Closed (rule p ∷ ps) = ⊥
 
 pub closed-star : (ps : List Piece) → Closed ps → Off (fits star) ps
 closed-star (mark b ∷ ps) h = λ token is. mark-fits_mark b (codes "*") token is h
 closed-star [] h = absurd h
 closed-star (word w ∷ ps) h = absurd h
 closed-star (name sort n ∷ ps) h = absurd h
-closed-star (two ∷ ps) h = absurd h
-closed-star (kept ∷ ps) h = absurd h
-closed-star (newer p ∷ ps) h = absurd h
+closed-star (number n ∷ ps) h = absurd h
+closed-star (version_number version ∷ ps) h = absurd h
+closed-star (kept bytes ∷ ps) h = absurd h
+closed-star (newer version p ∷ ps) h = absurd h
+closed-star (rule p ∷ ps) h = absurd h
 
 pub closed-sort : (sort : Sort) (ps : List Piece) → Closed ps → Off (has_sort sort) ps
 closed-sort sort (mark b ∷ ps) h = λ token is. mark-has_sort sort token is.0
 closed-sort sort [] h = absurd h
 closed-sort sort (word w ∷ ps) h = absurd h
 closed-sort sort (name other n ∷ ps) h = absurd h
-closed-sort sort (two ∷ ps) h = absurd h
-closed-sort sort (kept ∷ ps) h = absurd h
-closed-sort sort (newer p ∷ ps) h = absurd h
+closed-sort sort (number n ∷ ps) h = absurd h
+closed-sort sort (version_number version ∷ ps) h = absurd h
+closed-sort sort (kept bytes ∷ ps) h = absurd h
+closed-sort sort (newer version p ∷ ps) h = absurd h
+closed-sort sort (rule p ∷ ps) h = absurd h
 
 pub name-star : (sort : Sort) (n : Named) (ps : List Piece) → Off (fits star) (name sort n ∷ ps)
 name-star sort n ps token is = word-fits_mark (codes "*") token is.0

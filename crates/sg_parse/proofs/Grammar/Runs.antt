@@ -8,16 +8,19 @@ use Rattle.sg_lex.specs.Lexeme.{Lexeme, Spelling as Named}
 use Rattle.sg_lex.specs.Sentences.{Begins, ArePieces}
 use Rattle.sg_lex.proofs.Automata.{Runs}
 use Rattle.sg_lex.proofs.Answers.{Reached, ReadsJust}
-use Rattle.sg_parse.specs.declared.error.ParseError.{ParseError}
+use Rattle.sg_rules.specs.declared.error.ParseError.{ParseError}
+use Rattle.sg_rules.specs.declared.version.Newer.{Newer}
+use Rattle.sg_rules.specs.declared.version.Newer.TheVariants.{Second, Third}
+use Rattle.sg_rules.specs.Grammar.Pieces.{RulePiece}
 use Rattle.sg_parse.specs.declared.tree.Facts.{Facts}
 use Rattle.sg_parse.specs.declared.tree.Statement.{Statement}
 use Rattle.sg_parse.specs.declared.tree.Tree.{Tree}
 use Rattle.sg_parse.specs.declared.words.Sort.{Sort}
 use Rattle.sg_parse.specs.declared.words.Sort.TheVariants.{Name, Form, Parents, Closing, Flag}
-use Rattle.sg_parse.specs.Grammar.Pieces.{Piece, word, mark, name, two, newer, IsPiece}
+use Rattle.sg_parse.specs.Grammar.Pieces.{Piece, word, mark, name, number, version_number, newer, rule, IsPiece}
 use Rattle.sg_parse.specs.Grammar.Sentence.{recovery_word, facts_pieces, tree_pieces, statement_pieces, ret_pieces, IsStatement, IsSentence}
-use Rattle.sg_parse.specs.Grammar.Inside.Forms.{star, comma, close_bracket, open_brace, equals, semicolon, more_params, fact_pieces, head_pieces, last_pieces, end_pieces, of_version, IsHead, IsWellFormed}
-use Rattle.sg_parse.specs.Grammar.Inside.States.{State, dead, due, fork, want, names, stars, either, listed, statements, in_newer, fact, head_end, first_end, second_end, head0, head1, head2, head3, head4, head5, head6, start, tree_at, trees}
+use Rattle.sg_parse.specs.Grammar.Inside.Forms.{star, comma, close_brace, close_bracket, open_brace, equals, semicolon, more_fields, more_params, fact_pieces, head_pieces, last_pieces, end_pieces, of_version, IsHead, IsWellFormed}
+use Rattle.sg_parse.specs.Grammar.Inside.States.{State, dead, due, fork, want, want_number, versioned, names, stars, either, listed, fielded, answering, statements, in_newer, fact, head_end, first_end, newer_end, second_rest, third_rest, newer_rest, head0, head1, head2, head3, head4, head5, head6, start, tree_at, trees}
 use Rattle.sg_parse.proofs.Grammar.Basics.{word-fits_word}
 use Rattle.sg_parse.proofs.Grammar.Rests.{Rest, front_of, last_of}
 use Rattle.sg_parse.proofs.Grammar.Steps.{back, forth}
@@ -31,6 +34,8 @@ done_back dead tree e = absurd cc
 done_back (due p s) tree e = absurd cc
 done_back (fork what s other) tree e = inr (tt, done_back other tree e)
 done_back (want sort k) tree e = absurd cc
+done_back (want_number k) tree e = absurd cc
+done_back (versioned two three) tree e = absurd cc
 done_back (names front last k) tree e =
     record { more = []; count = 0; behind = []; all = refl; off_star = tt; off_name = λ _. tt; rest = done_back (k front last 0) tree e }
 done_back (stars front last n k) tree e =
@@ -43,6 +48,8 @@ done_back (stars front last n k) tree e =
     }
 done_back (either k s) tree e = inr (tt, done_back s tree e)
 done_back (listed params k) tree e = absurd cc
+done_back (fielded fields k) tree e = absurd cc
+done_back (answering r k) tree e = absurd cc
 done_back (statements facts before) tree e =
     record {
       more = [];
@@ -50,7 +57,7 @@ done_back (statements facts before) tree e =
       each = All-nil IsStatement;
       is = (let f : record { facts = facts; statements = before } ≡ tree = cc in sym f) ∙ ap (λ v. record { facts = facts; statements = v }) (sym (append-nil before));
     }
-done_back (in_newer s) tree e = record { behind = []; all = refl; rest = done_back s tree e }
+done_back (in_newer version s) tree e = record { behind = []; all = refl; rest = done_back s tree e }
 
 cons_some : {X : Type 0} (Y : Type 0) (xs ys : List X) (y : X) → [] ≡ xs ++ (y ∷ ys) → Y
 cons_some Y [] ys y e = absurd cc
@@ -64,9 +71,9 @@ no_map : (xs : List Named) → [] ≡ map (name Name) xs → xs ≡ []
 no_map [] e = refl
 no_map (x ∷ xs) e = absurd cc
 
-no_pieces : (ps : List Piece) → [] ≡ map newer ps → ps ≡ []
-no_pieces [] e = refl
-no_pieces (p ∷ ps) e = absurd cc
+no_pieces : (version : Newer) (ps : List Piece) → [] ≡ map (newer version) ps → ps ≡ []
+no_pieces version [] e = refl
+no_pieces version (p ∷ ps) e = absurd cc
 
 no_copies : (n : ℕ) → [] ≡ replicate n star → n ≡ 0
 no_copies zero e = refl
@@ -82,6 +89,12 @@ done_forth (fork what s other) tree r =
       | inr f ↦ done_forth other tree f.1
     ]
 done_forth (want sort k) tree r = absurd (let e : [] ≡ name sort r.value ∷ r.behind = r.all in cc)
+done_forth (want_number k) tree r = absurd (let e : [] ≡ number r.value ∷ r.behind = r.all in cc)
+done_forth (versioned two three) tree r =
+    elim r [
+      | inl f ↦ absurd (let e : [] ≡ version_number Second ∷ f.behind = f.all in cc)
+      | inr f ↦ absurd (let e : [] ≡ version_number Third ∷ f.behind = f.all in cc)
+    ]
 done_forth (names front last k) tree r =
     let a = no_front (map (name Name) r.more) (replicate r.count star ++ r.behind) r.all in
     let b = no_front (replicate r.count star) r.behind a.1 in
@@ -101,6 +114,8 @@ done_forth (either k s) tree r =
       | inr f ↦ done_forth s tree f.1
     ]
 done_forth (listed params k) tree r = cons_some (None ≡ Some tree) (more_params r.more) r.behind close_bracket r.all
+done_forth (fielded fields k) tree r = cons_some (None ≡ Some tree) (more_fields r.more) r.behind close_bracket r.all
+done_forth (answering rules k) tree r = cons_some (None ≡ Some tree) (map rule r.pieces) r.behind close_brace r.all
 done_forth (statements facts before) tree r =
     let e = no_statements r.more r.all in
     ap Some (sym (r.is ∙ ap (λ v. record { facts = facts; statements = before ++ v }) e ∙ ap (λ v. record { facts = facts; statements = v }) (append-nil before)))
@@ -113,7 +128,11 @@ done_forth (statements facts before) tree r =
         some_piece (Statement.One w fun) e = cc
         some_piece (Statement.Two w first second) e = cc
         some_piece (Statement.Proto ret n params) e = cons_some ⊥ (ret_pieces ret) _ _ e
-done_forth (in_newer s) tree r = done_forth s tree (subst (λ v. Rest s v tree) (no_pieces r.behind r.all) r.rest)
+        some_piece (Statement.External fun) e = cc
+        some_piece (Statement.Most field most) e = cc
+        some_piece (Statement.Unique fields) e = cc
+        some_piece (Statement.Answer fun rules) e = cc
+done_forth (in_newer version s) tree r = done_forth s tree (subst (λ v. Rest s v tree) (no_pieces version r.behind r.all) r.rest)
 
 -- ---- tokens and pieces
 
@@ -300,45 +319,64 @@ first_forth tree one off h =
     (end_forth (facts_by 1 false q.service q.parent q.close q.global q.block q.has_data q.resc_data) tree
     (ap (λ n. record q { version = n }) one ∙ ap (λ b. record q { version = 1; eager = b }) off) h)
 
--- ---- a text of version 2
+-- ---- a text of a version after the first
 
-second_end_back : (a b c d e f g : Named) (tree : Tree) (ps : List Piece) → Rest (second_end a b c d e f g) ps tree
-    → (ps ≡ end_pieces tree.facts (flat_map statement_pieces tree.statements)) × (tree.facts ≡ facts_by 2 tree.facts.eager a b c d e f g) × All IsStatement tree.statements
-second_end_back a b c d e f g tree ps r =
+-- the facts and statements of a tree, as the head of its version is read
+record NewerBack (version : ℕ) (tree : Tree) (ps : List Piece) : Type 0 where
+  all : ps ≡ facts_pieces (record tree.facts { version = version }) (flat_map statement_pieces tree.statements)
+  is : tree.facts.version ≡ version
+  each : All IsStatement tree.statements
+
+-- the end of the head, where the version is after the first
+record NewerEnd (version : ℕ) (a b c d e f g : Named) (tree : Tree) (ps : List Piece) : Type 0 where
+  all : ps ≡ comma ∷ word (codes "desc_recover") ∷ equals ∷ word (recovery_word tree.facts.eager) ∷ last_pieces (flat_map statement_pieces tree.statements)
+  is : tree.facts ≡ facts_by version tree.facts.eager a b c d e f g
+  each : All IsStatement tree.statements
+
+newer_end_back : (version : ℕ) (a b c d e f g : Named) (tree : Tree) (ps : List Piece) → Rest (newer_end version a b c d e f g) ps tree → NewerEnd version a b c d e f g tree ps
+newer_end_back version a b c d e f g tree ps r =
     let w = r.rest in let q = w.rest in
     let front : (eager : Bool) (more : List Piece) → q.behind ≡ word (recovery_word eager) ∷ more
     → ps ≡ comma ∷ word (codes "desc_recover") ∷ equals ∷ word (recovery_word eager) ∷ more
     = λ eager more is. r.all ∙ ap (λ v. comma ∷ v) (w.all ∙ ap (λ v. word (codes "desc_recover") ∷ v) (q.all ∙ ap (λ v. equals ∷ v) is)) in
     elim q.rest [
-      | inl t ↦ by true (end_back 2 true a b c d e f g tree t.behind t.rest) (front true t.behind t.all)
-      | inr t ↦ by false (end_back 2 false a b c d e f g tree t.1.behind t.1.rest) (front false t.1.behind t.1.all)
+      | inl t ↦ by true (end_back version true a b c d e f g tree t.behind t.rest) (front true t.behind t.all)
+      | inr t ↦ by false (end_back version false a b c d e f g tree t.1.behind t.1.rest) (front false t.1.behind t.1.all)
     ]
   where
-    by : (eager : Bool) {behind : List Piece} → LastRest (facts_by 2 eager a b c d e f g) behind tree → ps ≡ comma ∷ word (codes "desc_recover") ∷ equals ∷ word (recovery_word eager) ∷ behind
-        → (ps ≡ end_pieces tree.facts (flat_map statement_pieces tree.statements)) × (tree.facts ≡ facts_by 2 tree.facts.eager a b c d e f g) × All IsStatement tree.statements
-    by eager s all = (
-      all ∙ ap (λ v. comma ∷ word (codes "desc_recover") ∷ equals ∷ word (recovery_word eager) ∷ v) s.all
-          ∙ ap (λ (t : Tree). end_pieces t.facts (flat_map statement_pieces t.statements)) (sym s.is),
-      ap (λ (t : Tree). t.facts) s.is ∙ ap (λ (t : Tree). facts_by 2 t.facts.eager a b c d e f g) (sym s.is),
-      subst (λ (t : Tree). All IsStatement t.statements) (sym s.is) s.each,
-    )
+    by : (eager : Bool) {behind : List Piece} → LastRest (facts_by version eager a b c d e f g) behind tree → ps ≡ comma ∷ word (codes "desc_recover") ∷ equals ∷ word (recovery_word eager) ∷ behind
+        → NewerEnd version a b c d e f g tree ps
+    by eager s all = record {
+      all = all ∙ ap (λ v. comma ∷ word (codes "desc_recover") ∷ equals ∷ word (recovery_word eager) ∷ v) s.all
+          ∙ ap (λ (t : Tree). comma ∷ word (codes "desc_recover") ∷ equals ∷ word (recovery_word t.facts.eager) ∷ last_pieces (flat_map statement_pieces t.statements)) (sym s.is);
+      is = ap (λ (t : Tree). t.facts) s.is ∙ ap (λ (t : Tree). facts_by version t.facts.eager a b c d e f g) (sym s.is);
+      each = subst (λ (t : Tree). All IsStatement t.statements) (sym s.is) s.each;
+    }
 
-second_back : (tree : Tree) (ps : List Piece) → Rest (head0 second_end) ps tree
-    → (word (codes "version") ∷ equals ∷ two ∷ comma ∷ map newer ps ≡ of_version tree.facts.version (facts_pieces tree.facts (flat_map statement_pieces tree.statements))) × IsWellFormed tree
-second_back tree ps r =
-    let h = head_back second_end tree ps r in
-    let s = second_end_back h.a h.b h.c h.d h.e h.f h.g tree h.behind h.rest in
-    let version : tree.facts.version ≡ 2 = ap (λ (f : Facts). f.version) s.1 in (
-      ap (λ v. word (codes "version") ∷ equals ∷ two ∷ comma ∷ map newer v)
-          (h.all ∙ ap (head_pieces h.a h.b h.c h.d h.e h.f h.g) s.0
-          ∙ ap (λ (f : Facts). head_pieces f.service f.parent f.close f.global f.block f.has_data f.resc_data (end_pieces tree.facts (flat_map statement_pieces tree.statements))) (sym s.1))
-          ∙ ap (λ n. of_version n (facts_pieces tree.facts (flat_map statement_pieces tree.statements))) (sym version),
-      (inr version, s.2),
-    )
+-- the facts of a text of a version after the first, with what follows them
+abbrev newer_pieces : Facts → List Piece → List Piece
+newer_pieces f more =
+    head_pieces f.service f.parent f.close f.global f.block f.has_data f.resc_data
+    (comma ∷ word (codes "desc_recover") ∷ equals ∷ word (recovery_word f.eager) ∷ last_pieces more)
 
-second_end_forth : (tree : Tree) → tree.facts.version ≡ 2 → All IsStatement tree.statements
-    → (let q = tree.facts in Rest (second_end q.service q.parent q.close q.global q.block q.has_data q.resc_data) (end_pieces (record q { version = 2 }) (flat_map statement_pieces tree.statements)) tree)
-second_end_forth tree version h = record {
+newer_back : (version : ℕ) (tree : Tree) (ps : List Piece) → ((more : List Piece) → facts_pieces (record tree.facts { version = version }) more ≡ newer_pieces tree.facts more)
+    → Rest (head0 (newer_end version)) ps tree → NewerBack version tree ps
+newer_back version tree ps pieces r =
+    let h = head_back (newer_end version) tree ps r in
+    let s = newer_end_back version h.a h.b h.c h.d h.e h.f h.g tree h.behind h.rest in
+    record {
+      all = h.all ∙ ap (head_pieces h.a h.b h.c h.d h.e h.f h.g) s.all
+          ∙ ap (λ (f : Facts). head_pieces f.service f.parent f.close f.global f.block f.has_data f.resc_data
+          (comma ∷ word (codes "desc_recover") ∷ equals ∷ word (recovery_word tree.facts.eager) ∷ last_pieces (flat_map statement_pieces tree.statements))) (sym s.is)
+          ∙ sym (pieces (flat_map statement_pieces tree.statements));
+      is = ap (λ (f : Facts). f.version) s.is;
+      each = s.each;
+    }
+
+newer_end_forth : (version : ℕ) (tree : Tree) → tree.facts.version ≡ version → All IsStatement tree.statements
+    → (let q = tree.facts in Rest (newer_end version q.service q.parent q.close q.global q.block q.has_data q.resc_data)
+    (comma ∷ word (codes "desc_recover") ∷ equals ∷ word (recovery_word q.eager) ∷ last_pieces (flat_map statement_pieces tree.statements)) tree)
+newer_end_forth version tree same h = record {
   behind = word (codes "desc_recover") ∷ equals ∷ word (recovery_word tree.facts.eager) ∷ last_pieces (flat_map statement_pieces tree.statements);
   all = refl;
   rest = record {
@@ -352,20 +390,37 @@ second_end_forth tree version h = record {
   };
 }
   where
-    its : (eager : Bool) → tree.facts.eager ≡ eager → tree.facts ≡ record tree.facts { version = 2; eager = eager }
-    its eager is = ap (λ n. record tree.facts { version = n }) version ∙ ap (λ b. record tree.facts { version = 2; eager = b }) is
+    its : (eager : Bool) → tree.facts.eager ≡ eager → tree.facts ≡ record tree.facts { version = version; eager = eager }
+    its eager is = ap (λ n. record tree.facts { version = n }) same ∙ ap (λ b. record tree.facts { version = version; eager = b }) is
 
     by : (eager : Bool) → tree.facts.eager ≡ eager
-        → (let q = tree.facts in Rest (fork (codes "eager") (head_end 2 true q.service q.parent q.close q.global q.block q.has_data q.resc_data)
-        (due (word (codes "demand")) (head_end 2 false q.service q.parent q.close q.global q.block q.has_data q.resc_data)))
+        → (let q = tree.facts in Rest (fork (codes "eager") (head_end version true q.service q.parent q.close q.global q.block q.has_data q.resc_data)
+        (due (word (codes "demand")) (head_end version false q.service q.parent q.close q.global q.block q.has_data q.resc_data)))
         (word (recovery_word eager) ∷ last_pieces (flat_map statement_pieces tree.statements)) tree)
-    by true is = inl (record { behind = last_pieces (flat_map statement_pieces tree.statements); all = refl; rest = end_forth (record tree.facts { version = 2; eager = true }) tree (its true is) h })
+    by true is = inl (record { behind = last_pieces (flat_map statement_pieces tree.statements); all = refl; rest = end_forth (record tree.facts { version = version; eager = true }) tree (its true is) h })
     by false is = inr (
       λ token p. word-fits_word (codes "demand") (codes "eager") token p refl,
-      record { behind = last_pieces (flat_map statement_pieces tree.statements); all = refl; rest = end_forth (record tree.facts { version = 2; eager = false }) tree (its false is) h },
+      record { behind = last_pieces (flat_map statement_pieces tree.statements); all = refl; rest = end_forth (record tree.facts { version = version; eager = false }) tree (its false is) h },
     )
 
+newer_forth : (version : ℕ) (tree : Tree) → ((more : List Piece) → facts_pieces (record tree.facts { version = version }) more ≡ newer_pieces tree.facts more)
+    → tree.facts.version ≡ version → All IsStatement tree.statements
+    → Rest (head0 (newer_end version)) (facts_pieces (record tree.facts { version = version }) (flat_map statement_pieces tree.statements)) tree
+newer_forth version tree pieces same h =
+    subst (λ v. Rest (head0 (newer_end version)) v tree) (sym (pieces (flat_map statement_pieces tree.statements)))
+    (head_forth (newer_end version) tree tree.facts
+    (comma ∷ word (codes "desc_recover") ∷ equals ∷ word (recovery_word tree.facts.eager) ∷ last_pieces (flat_map statement_pieces tree.statements))
+    (newer_end_forth version tree same h))
+
 -- ---- a text
+
+-- what stands after the first brace, where the text is of a version
+abbrev after_brace : Tree → ℕ → List Piece
+after_brace tree n = of_version n (facts_pieces (record tree.facts { version = n }) (flat_map statement_pieces tree.statements))
+
+-- the facts and the statements of a tree, where the text is of a version
+abbrev whole_pieces : Tree → ℕ → List Piece
+whole_pieces tree n = facts_pieces (record tree.facts { version = n }) (flat_map statement_pieces tree.statements)
 
 start_back : (tree : Tree) (ps : List Piece) → Rest start ps tree → (ps ≡ tree_pieces tree) × IsWellFormed tree
 start_back tree ps r =
@@ -374,15 +429,26 @@ start_back tree ps r =
     = λ more is. r.all ∙ ap (λ v. word (codes "service_global_info") ∷ v) (r.rest.all ∙ ap (λ v. equals ∷ v) (o.all ∙ ap (λ v. open_brace ∷ v) is)) in
     elim o.rest [
       | inl t ↦
-          let q = t.rest in let n = q.rest in let m = n.rest in
-          let both = second_back tree m.rest.behind m.rest.rest in
-          (front _ (t.all ∙ ap (λ v. word (codes "version") ∷ v) (q.all ∙ ap (λ v. equals ∷ v) (n.all ∙ ap (λ v. two ∷ v) (m.all ∙ ap (λ v. comma ∷ v) m.rest.all))) ∙ both.0), both.1)
+          let q = t.rest in
+          let said : (more : List Piece) → q.behind ≡ more → o.behind ≡ word (codes "version") ∷ equals ∷ more
+          = λ more is. t.all ∙ ap (λ v. word (codes "version") ∷ v) (q.all ∙ ap (λ v. equals ∷ v) is) in
+          elim q.rest [
+            | inl n ↦
+                let m = n.rest in
+                let b = newer_back 2 tree m.rest.behind (λ more. refl) m.rest.rest in (
+                  front _ (said _ (n.all ∙ ap (λ v. version_number Second ∷ v) (m.all ∙ ap (λ v. comma ∷ v) (m.rest.all ∙ ap (map (newer Second)) b.all))) ∙ ap (after_brace tree) (sym b.is)),
+                  (inr (inl b.is), b.each),
+                )
+            | inr n ↦
+                let m = n.rest in let u = m.rest in let v = u.rest in
+                let b = newer_back 3 tree v.behind (λ more. refl) v.rest in (
+                  front _ (said _ (n.all ∙ ap (λ w. version_number Third ∷ w) (m.all ∙ ap (λ w. comma ∷ w) (u.all ∙ ap (map (newer Second)) (v.all ∙ ap (map (newer Third)) b.all))))
+                      ∙ ap (after_brace tree) (sym b.is)),
+                  (inr (inr b.is), b.each),
+                )
+          ]
       | inr t ↦ let both = first_back tree o.behind t.1 in (front _ both.0, both.1)
     ]
-
--- what stands after the first brace, where the text is of a version
-abbrev after_brace : Tree → ℕ → List Piece
-after_brace tree n = of_version n (facts_pieces (record tree.facts { version = n }) (flat_map statement_pieces tree.statements))
 
 start_forth : (tree : Tree) → IsWellFormed tree → Rest start (tree_pieces tree) tree
 start_forth tree h = record {
@@ -395,29 +461,52 @@ start_forth tree h = record {
   };
 }
   where
-    by : IsHead tree.facts → Rest (fork (codes "version") (due equals (due two (due comma (in_newer (head0 second_end))))) (head0 first_end)) (after_brace tree tree.facts.version) tree
+    by : IsHead tree.facts → Rest (fork (codes "version") (newer_rest (head0 (newer_end 2)) (head0 (newer_end 3))) (head0 first_end)) (after_brace tree tree.facts.version) tree
     by (inl first) =
-        subst (λ n. Rest (fork (codes "version") (due equals (due two (due comma (in_newer (head0 second_end))))) (head0 first_end)) (after_brace tree n) tree) (sym first.0)
+        subst (λ n. Rest (fork (codes "version") (newer_rest (head0 (newer_end 2)) (head0 (newer_end 3))) (head0 first_end)) (after_brace tree n) tree) (sym first.0)
         (inr (λ token p. word-fits_word (codes "service") (codes "version") token p refl, first_forth tree first.0 first.1 h.1))
-    by (inr version) =
-        let q = tree.facts in
-        let ps = head_pieces q.service q.parent q.close q.global q.block q.has_data q.resc_data (end_pieces (record q { version = 2 }) (flat_map statement_pieces tree.statements)) in
-        subst (λ n. Rest (fork (codes "version") (due equals (due two (due comma (in_newer (head0 second_end))))) (head0 first_end)) (after_brace tree n) tree) (sym version)
+    by (inr (inl second)) =
+        let ps = whole_pieces tree 2 in
+        subst (λ n. Rest (fork (codes "version") (newer_rest (head0 (newer_end 2)) (head0 (newer_end 3))) (head0 first_end)) (after_brace tree n) tree) (sym second)
         (inl (record {
-          behind = equals ∷ two ∷ comma ∷ map newer ps;
+          behind = equals ∷ version_number Second ∷ comma ∷ map (newer Second) ps;
           all = refl;
           rest = record {
-            behind = two ∷ comma ∷ map newer ps;
+            behind = version_number Second ∷ comma ∷ map (newer Second) ps;
             all = refl;
-            rest = record {
-              behind = comma ∷ map newer ps;
+            rest = inl (record {
+              behind = comma ∷ map (newer Second) ps;
               all = refl;
               rest = record {
-                behind = map newer ps;
+                behind = map (newer Second) ps;
                 all = refl;
-                rest = record { behind = ps; all = refl; rest = head_forth second_end tree q (end_pieces (record q { version = 2 }) (flat_map statement_pieces tree.statements)) (second_end_forth tree version h.1) };
+                rest = record { behind = ps; all = refl; rest = newer_forth 2 tree (λ more. refl) second h.1 };
               };
-            };
+            });
+          };
+        }))
+    by (inr (inr third)) =
+        let ps = whole_pieces tree 3 in
+        subst (λ n. Rest (fork (codes "version") (newer_rest (head0 (newer_end 2)) (head0 (newer_end 3))) (head0 first_end)) (after_brace tree n) tree) (sym third)
+        (inl (record {
+          behind = equals ∷ version_number Third ∷ comma ∷ map (newer Second) (map (newer Third) ps);
+          all = refl;
+          rest = record {
+            behind = version_number Third ∷ comma ∷ map (newer Second) (map (newer Third) ps);
+            all = refl;
+            rest = inr (record {
+              behind = comma ∷ map (newer Second) (map (newer Third) ps);
+              all = refl;
+              rest = record {
+                behind = map (newer Second) (map (newer Third) ps);
+                all = refl;
+                rest = record {
+                  behind = map (newer Third) ps;
+                  all = refl;
+                  rest = record { behind = ps; all = refl; rest = newer_forth 3 tree (λ more. refl) third h.1 };
+                };
+              };
+            });
           };
         }))
 

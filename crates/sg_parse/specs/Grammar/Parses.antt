@@ -4,8 +4,8 @@ use Rattle.std.specs.declared.result.Result.{Result}
 use Rattle.sg_lex.specs.Lexeme.{Lexeme}
 use Rattle.sg_lex.specs.Sentences.{Fails, IsNoToken, EndsAt}
 use Rattle.sg_lex.specs.Tokens.{answers_of}
-use Rattle.sg_parse.specs.declared.error.ParseError.{ParseError}
-use Rattle.sg_parse.specs.declared.error.ParseError.TheVariants.{NoMemory, Lex, Syntax}
+use Rattle.sg_rules.specs.declared.error.ParseError.{ParseError}
+use Rattle.sg_rules.specs.declared.error.ParseError.TheVariants.{NoMemory, Lex, Syntax}
 use Rattle.sg_parse.specs.declared.tree.Tree.{Tree}
 use Rattle.sg_parse.specs.Grammar.Sentence.{IsSentence}
 

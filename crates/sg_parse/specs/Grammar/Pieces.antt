@@ -1,44 +1,44 @@
 -- What each token of a sentence has to be.
-use Rattle.std.specs.Prelude.{◌≡◌, ℕ, Bool, true, false, ◌==◌, if◌then◌else◌, List, [], ◌∷◌, codes, nat_eq}
-use Rattle.std.specs.Cmp.Lexicographic.{pointwise}
-use Rattle.sg_lex.specs.declared.token.TokenKind.{TokenKind}
-use Rattle.sg_lex.specs.declared.token.TokenKind.TheVariants.{Word, Number, Text, Mark}
+use Rattle.std.specs.Prelude.{◌≡◌, ℕ, Bool, true, false, ◌==◌, if◌then◌else◌, List, [], ◌∷◌}
+use Rattle.sg_lex.specs.declared.token.TokenKind.TheVariants.{Word, Number, Mark}
 use Rattle.sg_lex.specs.Lexeme.{Lexeme, Spelling}
+use Rattle.sg_rules.specs.declared.version.Newer.{Newer}
+use Rattle.sg_rules.specs.declared.version.Newer.TheVariants.{Second, Third}
+use Rattle.sg_rules.specs.Versions.{seen}
+use Rattle.sg_rules.specs.Grammar.Pieces.{RulePiece, IsRulePiece}
 use Rattle.sg_parse.specs.declared.words.Sort.{Sort}
 use Rattle.sg_parse.specs.Grammar.Words.{is_of}
 
--- the word that a text of version 2 keeps for itself
-abbrev pub kept_word : List ℕ
-kept_word = codes "desc_data_retval_sub"
+-- whether digits are those of this one; zeros may come first
+abbrev pub are_digit : ℕ → List ℕ → Bool
+are_digit digit [] = false
+are_digit digit (d ∷ []) = d == digit
+are_digit digit (d ∷ next ∷ digits) = if d == 0x30 then are_digit digit (next ∷ digits) else false
 
--- a token as a text of version 2 has it: there the kept word is a mark, which is a word in one of version 1; what is seen so twice is as
--- it was
-abbrev pub seen : Lexeme → Lexeme
-seen token =
-    let turned : TokenKind = elim token.kind [ Word ↦ Mark | Number ↦ Number | Text ↦ Text | Mark ↦ Word ] in
-    record token { kind = if pointwise nat_eq token.bytes kept_word then turned else token.kind }
+-- whether digits are the number of a version
+abbrev pub are_of : Newer → List ℕ → Bool
+are_of Second digits = are_digit 0x32 digits
+are_of Third digits = are_digit 0x33 digits
 
--- whether digits are those of 2; zeros may come first
-abbrev pub are_two : List ℕ → Bool
-are_two [] = false
-are_two (digit ∷ []) = digit == 0x32
-are_two (digit ∷ next ∷ digits) = if digit == 0x30 then are_two (next ∷ digits) else false
-
--- this word; this mark; a word of a sort, which is this name; the number 2; the kept word; or a piece as a text of version 2 has
--- it
+-- this word; this mark; a word of a sort, which is this name; this number; the number of a version; a word that a version keeps for itself; a
+-- piece as a text of a version has it; or a piece of a rule
 pub data Piece : Type 0 where
   word : List ℕ → Piece
   mark : List ℕ → Piece
   name : Sort → Spelling → Piece
-  two : Piece
-  kept : Piece
-  newer : Piece → Piece
+  number : Spelling → Piece
+  version_number : Newer → Piece
+  kept : List ℕ → Piece
+  newer : Newer → Piece → Piece
+  rule : RulePiece → Piece
 
 -- a token is such a piece
 abbrev pub IsPiece : Lexeme → Piece → Type 0
 IsPiece token (word bytes) = (token.kind ≡ Word) × (token.bytes ≡ bytes)
 IsPiece token (mark bytes) = (token.kind ≡ Mark) × (token.bytes ≡ bytes)
 IsPiece token (name sort n) = (token.kind ≡ Word) × (token.bytes ≡ n.bytes) × (token.at ≡ n.at) × (is_of sort n.bytes ≡ true)
-IsPiece token two = (token.kind ≡ Number) × (are_two token.bytes ≡ true)
-IsPiece token kept = (token.kind ≡ Mark) × (token.bytes ≡ kept_word)
-IsPiece token (newer p) = IsPiece (seen token) p
+IsPiece token (number n) = (token.kind ≡ Number) × (token.bytes ≡ n.bytes) × (token.at ≡ n.at)
+IsPiece token (version_number version) = (token.kind ≡ Number) × (are_of version token.bytes ≡ true)
+IsPiece token (kept bytes) = (token.kind ≡ Mark) × (token.bytes ≡ bytes)
+IsPiece token (newer version p) = IsPiece (seen version token) p
+IsPiece token (rule p) = IsRulePiece token p

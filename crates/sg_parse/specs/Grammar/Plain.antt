@@ -3,19 +3,13 @@ use Rattle.std.specs.Prelude.{map}
 use Rattle.std.specs.Option.{option_map}
 use Rattle.sg_parse.specs.declared.tree.Facts.{Facts}
 use Rattle.sg_parse.specs.declared.tree.Statement.{Statement}
-use Rattle.sg_parse.specs.declared.tree.Statement.TheVariants.{One, Two, Proto}
+use Rattle.sg_parse.specs.declared.tree.Statement.TheVariants.{One, Two, Proto, External, Most, Unique, Answer}
 use Rattle.sg_parse.specs.declared.tree.Ret.{Ret}
 use Rattle.sg_parse.specs.declared.tree.Ret.TheVariants.{Plain, Set, Add, Sub}
 use Rattle.sg_parse.specs.declared.tree.TypeName.{TypeName}
 use Rattle.sg_parse.specs.declared.tree.Param.{Param}
 use Rattle.sg_parse.specs.declared.tree.Tree.{Tree}
-use Rattle.sg_lex.specs.Lexeme.{Spelling}
-
--- a name at place 0, and so each name of what follows
-
--- a name at place 0
-abbrev pub plain_name : Spelling → Spelling
-plain_name n = record { bytes = n.bytes; at = 0 }
+use Rattle.sg_rules.specs.Grammar.Plain.{plain_name, plain_rules}
 
 -- a type with each name at place 0
 abbrev pub plain_type : TypeName → TypeName
@@ -37,6 +31,10 @@ abbrev pub plain_statement : Statement → Statement
 plain_statement (One word fun) = One (plain_name word) (plain_name fun)
 plain_statement (Two word first second) = Two (plain_name word) (plain_name first) (plain_name second)
 plain_statement (Proto ret n params) = Proto (plain_ret ret) (plain_name n) (map plain_param params)
+plain_statement (External fun) = External (plain_name fun)
+plain_statement (Most field most) = Most (plain_name field) (plain_name most)
+plain_statement (Unique fields) = Unique (map plain_name fields)
+plain_statement (Answer fun rules) = Answer (plain_name fun) (plain_rules rules)
 
 -- the facts of a head with each name at place 0
 abbrev pub plain_facts : Facts → Facts

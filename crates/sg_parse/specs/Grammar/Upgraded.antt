@@ -1,5 +1,5 @@
--- A tree as one of version 2.
-use Rattle.std.specs.Prelude.{◌≢◌, All}
+-- A tree as one of version 2 at the least.
+use Rattle.std.specs.Prelude.{◌≢◌, ◌==◌, if◌then◌else◌, codes, All}
 use Rattle.sg_parse.specs.declared.tree.Param.{Param}
 use Rattle.sg_parse.specs.declared.tree.Ret.{Ret}
 use Rattle.sg_parse.specs.declared.tree.Ret.TheVariants.{Plain, Set, Add, Sub}
@@ -8,15 +8,14 @@ use Rattle.sg_parse.specs.declared.tree.Statement.TheVariants.{One, Two, Proto}
 use Rattle.sg_parse.specs.declared.tree.Tree.{Tree}
 use Rattle.sg_parse.specs.declared.tree.TypeName.{TypeName}
 use Rattle.sg_lex.specs.Lexeme.{Spelling}
-use Rattle.sg_parse.specs.Grammar.Pieces.{kept_word}
 
--- the same tree of version 2: one of version 1 rebuilds descriptors on demand, and one of version 2 keeps its word
+-- a tree of version 1 as one of version 2, which rebuilds descriptors on demand; any other as it is
 abbrev pub upgraded : Tree → Tree
-upgraded tree = record { facts = record tree.facts { version = 2 }; statements = tree.statements }
+upgraded tree = record { facts = record tree.facts { version = if tree.facts.version == 1 then 2 else tree.facts.version }; statements = tree.statements }
 
 -- a name isn't the word that version 2 keeps for itself; and so each name of what follows
 abbrev pub IsFreeName : Spelling → Type 0
-IsFreeName n = n.bytes ≢ kept_word
+IsFreeName n = n.bytes ≢ codes "desc_data_retval_sub"
 
 -- no name of a type is the kept word
 abbrev pub IsFreeType : TypeName → Type 0
@@ -33,11 +32,12 @@ IsFreeRet (Set ty field) = IsFreeType ty × IsFreeName field
 IsFreeRet (Add ty field) = IsFreeType ty × IsFreeName field
 IsFreeRet (Sub ty field) = IsFreeType ty × IsFreeName field
 
--- no name of a statement is the kept word
+-- no name of a statement that a text of version 1 can have is the kept word
 abbrev pub IsFreeStatement : Statement → Type 0
 IsFreeStatement (One word fun) = IsFreeName fun
 IsFreeStatement (Two word first second) = IsFreeName first × IsFreeName second
 IsFreeStatement (Proto ret n params) = IsFreeRet ret × IsFreeName n × All IsFreeParam params
+IsFreeStatement statement = Unit {0}
 
 -- no name of a tree is the word that version 2 keeps for itself
 abbrev pub IsFree : Tree → Type 0

@@ -255,6 +255,21 @@ wants-misses a_number (name n) token h is = refl
 wants-misses a_number (number n) token h is = absurd (not_both (wants a_number token) (is-wants a_number token n is) h)
 wants-misses (a_word keyword) q token h is = fits-apart (Key keyword) q token h is
 
+-- ---- tokens that are one piece
+
+-- tokens that are one piece are of one kind, and have the same bytes
+pub kind_alike : (q : RulePiece) (one other : Lexeme) → IsRulePiece one q → IsRulePiece other q → one.kind ≡ other.kind
+kind_alike (fixed q) one other h g = kind_of q one h ∙ sym (kind_of q other g)
+kind_alike (word_at keyword at) one other h g = h.0 ∙ sym g.0
+kind_alike (name n) one other h g = h.0 ∙ sym g.0
+kind_alike (number n) one other h g = h.0 ∙ sym g.0
+
+pub bytes_alike : (q : RulePiece) (one other : Lexeme) → IsRulePiece one q → IsRulePiece other q → one.bytes ≡ other.bytes
+bytes_alike (fixed q) one other h g = bytes_of q one h ∙ sym (bytes_of q other g)
+bytes_alike (word_at keyword at) one other h g = h.1 ∙ sym g.1
+bytes_alike (name n) one other h g = h.1 ∙ sym g.1
+bytes_alike (number n) one other h g = h.1 ∙ sym g.1
+
 -- ---- the brace that closes rules
 
 -- no token of a rule is the brace that closes rules

@@ -132,9 +132,13 @@ terms_read may k f h opens = term_read may (λ t. termed (t ∷ []) k) f (λ t. 
 rows_rest_read : (k : RowTest → RuleState) (some : Bool) (at : ℕ) (f : List RulePiece → List RulePiece)
     → ((ps : List Pick) → ps ≢ [] → HasRead false (k (record { at = at; some = some; picks = ps })) (λ r. f (word Row ∷ word Where ∷ each pick_then ps r)))
     → ((rows : RowTest) → Opens (k rows)) → HasRead false (rows_rest k some at) f
-rows_rest_read k some at f h opens =
-    ((picks_read false (λ ps. k (record { at = at; some = some; picks = ps })) (λ r. f (word Row ∷ word Where ∷ r)) h (λ ps. opens (record { at = at; some = some; picks = ps })),
-    (refl, refl)), (refl, refl))
+rows_rest_read k some at f h opens = (
+  (
+    picks_read false (λ ps. k (record { at = at; some = some; picks = ps })) (λ r. f (word Row ∷ word Where ∷ r)) h (λ ps. opens (record { at = at; some = some; picks = ps })),
+    (refl, refl),
+  ),
+  (refl, refl),
+)
 
 rows_or_read : (may : Bool) (k : RowTest → RuleState) (other : RuleState) (f : List RulePiece → List RulePiece)
     → ((rows : RowTest) → rows.picks ≢ [] → HasRead false (k rows) (λ r. f (rows_then rows r)))

@@ -32,16 +32,10 @@ read_on s end f [] h g = by s end h g
     by s end h there = h
 read_on s end f (q ∷ qs) h (onward {next = next} g more) = read_on next end (λ r. f (q ∷ r)) qs (grown false s f q next h g) more
 
-pub read_by : (qs : List RulePiece) (end : RuleState) → GoesOn (ruled []) qs end → HasRead false end (λ r. qs ++ r)
+read_by : (qs : List RulePiece) (end : RuleState) → GoesOn (ruled []) qs end → HasRead false end (λ r. qs ++ r)
 read_by qs end g = read_on (ruled []) end (λ r. r) qs start_read g
 
--- pieces that lead to rules are theirs
-pub rules_of : (qs : List RulePiece) (rules : List Rule) → GoesOn (ruled []) qs (ruled rules) → (qs ≡ flat_map rule_pieces rules) × All IsRule rules
-rules_of qs rules g =
-    let h = read_by qs (ruled rules) g in
-    (sym (append-nil qs) ∙ h.0 [] ∙ sym (rules_are rules), h.1)
-
--- and the pieces of rules lead to them
+-- the pieces of rules lead to them
 pub pieces_go : (rules : List Rule) → All IsRule rules → GoesOn (ruled []) (flat_map rule_pieces rules) (ruled rules)
 pieces_go rules each = subst (λ v. GoesOn (ruled []) v (ruled rules)) (sym (rules_are rules)) (rules_go rules [] each)
 
@@ -86,6 +80,13 @@ whole may (ruled all) f rules h e =
     let a = any_is all rules e in
     record { pieces = h.0 [] ∙ ap (λ v. rules_then v []) a.0; some = a.1; each = subst (All IsRule) a.0 h.1 }
 
+-- pieces that lead to where rules may end are theirs
+pub rules_ended : (qs : List RulePiece) (end : RuleState) (rules : List Rule) → GoesOn (ruled []) qs end → rules_at end ≡ Some rules
+    → (qs ≡ flat_map rule_pieces rules) × (rules ≢ []) × All IsRule rules
+rules_ended qs end rules g e =
+    let w = whole false end (λ r. qs ++ r) rules (read_by qs end g) e in
+    (sym (append-nil qs) ∙ w.pieces ∙ sym (rules_are rules), w.some, w.each)
+
 -- ---- sentences
 
 reached : (tokens : List Lexeme) (rules : List Rule) → AreRules tokens rules → Runs rule_reader (ruled []) tokens (ruled rules)
@@ -94,8 +95,8 @@ reached tokens rules h = runs_along (ruled []) (ruled rules) tokens (flat_map ru
 sentence_of : (tokens : List Lexeme) (rules : List Rule) (end : RuleState) → Runs rule_reader (ruled []) tokens end → rules_at end ≡ Some rules → AreRules tokens rules
 sentence_of tokens rules end h e =
     let s = spelt_from (ruled []) end tokens h in
-    let w = whole false end (λ r. s.pieces ++ r) rules (read_by s.pieces end s.goes) e in
-    record { pieces = subst (ArePieces IsRulePiece tokens) (sym (append-nil s.pieces) ∙ w.pieces ∙ sym (rules_are rules)) s.are; some = w.some; each = w.each }
+    let w = rules_ended s.pieces end rules s.goes e in
+    record { pieces = subst (ArePieces IsRulePiece tokens) w.0 s.are; some = w.1; each = w.2 }
 
 -- what is read begins rules
 begins_of : (tokens : List Lexeme) (end : RuleState) → Runs rule_reader (ruled []) tokens end → Begins AreRules tokens

@@ -11,12 +11,17 @@ use Rattle.sg_parse.specs.declared.tree.Param.{Param}
 use Rattle.sg_parse.specs.declared.tree.Tree.{Tree}
 use Rattle.sg_parse.specs.declared.words.Sort.{Sort}
 use Rattle.sg_parse.specs.declared.words.Sort.TheVariants.{Name, Form, Parents, Closing, Flag}
-use Rattle.sg_parse.specs.Grammar.Pieces.{Piece, word, mark, name, two, newer}
+use Rattle.sg_rules.specs.declared.version.Newer.TheVariants.{Second, Third}
+use Rattle.sg_parse.specs.Grammar.Pieces.{Piece, word, mark, name, version_number, newer}
 use Rattle.sg_parse.specs.Grammar.Sentence.{recovery_word, type_pieces, param_pieces, IsStatement}
 
 -- the mark `{`
 abbrev pub open_brace : Piece
 open_brace = mark (codes "{")
+
+-- the mark `}`
+abbrev pub close_brace : Piece
+close_brace = mark (codes "}")
 
 -- the mark `(`
 abbrev pub open_bracket : Piece
@@ -61,15 +66,18 @@ head_pieces a b c d e f g more =
 abbrev pub last_pieces : List Piece → List Piece
 last_pieces more = mark (codes "}") ∷ semicolon ∷ more
 
--- after the facts a text of version 2 says when descriptors are rebuilt
+-- after the facts a text of a version after the first says when descriptors are rebuilt
 abbrev pub end_pieces : Facts → List Piece → List Piece
 end_pieces f more =
-    if f.version == 2 then comma ∷ word (codes "desc_recover") ∷ equals ∷ word (recovery_word f.eager) ∷ last_pieces more
-    else last_pieces more
+    if f.version == 1 then last_pieces more
+    else comma ∷ word (codes "desc_recover") ∷ equals ∷ word (recovery_word f.eager) ∷ last_pieces more
 
--- a text of version 2 says so first, and has its word for itself after that
+-- a text of a version after the first says so first, and has the words of its version, and of those before it, for itself after that
 abbrev pub of_version : ℕ → List Piece → List Piece
-of_version version more = if version == 2 then word (codes "version") ∷ equals ∷ two ∷ comma ∷ map newer more else more
+of_version version more =
+    if version == 2 then word (codes "version") ∷ equals ∷ version_number Second ∷ comma ∷ map (newer Second) more
+    else (if version == 3 then word (codes "version") ∷ equals ∷ version_number Third ∷ comma ∷ map (newer Second) (map (newer Third) more)
+    else more)
 
 -- a form with its name in brackets, or the name alone
 abbrev pub form_pieces : Option Spelling → Spelling → List Piece
@@ -88,6 +96,10 @@ abbrev pub params_pieces : List Param → List Piece
 params_pieces [] = []
 params_pieces (p ∷ params) = param_pieces p ++ more_params params
 
+-- fields after the first, each with its comma
+abbrev pub more_fields : List Spelling → List Piece
+more_fields fields = flat_map (λ n. comma ∷ name Name n ∷ []) fields
+
 -- a type and the name of a field in brackets, after the word that says what becomes of the returned word
 abbrev pub returned_pieces : Piece → TypeName → Spelling → List Piece
 returned_pieces what ty field =
@@ -104,10 +116,10 @@ IsRet (Set ty field) = IsType ty
 IsRet (Add ty field) = IsType ty
 IsRet (Sub ty field) = IsType ty
 
--- the head is of version 1, under which descriptors are rebuilt on demand, or of version 2
+-- the head is of version 1, under which descriptors are rebuilt on demand, or of version 2 or 3
 abbrev pub IsHead : Facts → Type 0
-IsHead f = ((f.version ≡ 1) × (f.eager ≡ false)) ⊎ (f.version ≡ 2)
+IsHead f = ((f.version ≡ 1) × (f.eager ≡ false)) ⊎ ((f.version ≡ 2) ⊎ (f.version ≡ 3))
 
--- the head of a tree is of one of the versions, each prototype has at least one parameter, and each type at least one name
+-- the head of a tree is of one of the versions, and each statement has what it has to
 abbrev pub IsWellFormed : Tree → Type 0
 IsWellFormed tree = IsHead tree.facts × All IsStatement tree.statements

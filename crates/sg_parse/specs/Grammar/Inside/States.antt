@@ -8,11 +8,19 @@ use Rattle.sg_lex.specs.declared.token.TokenKind.TheVariants.{Word, Number, Mark
 use Rattle.sg_lex.specs.Lexeme.{Lexeme, Spelling}
 use Rattle.sg_lex.specs.Inside.Automata.{Automaton}
 use Rattle.sg_lex.specs.Inside.Tests.{has_kind, is_fixed}
-use Rattle.sg_parse.specs.declared.error.ParseError.{ParseError}
-use Rattle.sg_parse.specs.declared.error.ParseError.TheVariants.{NoMemory, Lex, Syntax}
+use Rattle.sg_rules.specs.declared.version.Newer.{Newer}
+use Rattle.sg_rules.specs.declared.version.Newer.TheVariants.{Second, Third}
+use Rattle.sg_rules.specs.declared.tree.Rule.{Rule}
+use Rattle.sg_rules.specs.declared.words.Wanted.TheVariants.{Name as rule_name}
+use Rattle.sg_rules.specs.Versions.{seen}
+use Rattle.sg_rules.specs.Grammar.Words.{word_of}
+use Rattle.sg_rules.specs.Grammar.Pieces.{RulePiece, fixed, word_at, name as name_in_rule, number as number_in_rule}
+use Rattle.sg_rules.specs.Grammar.Inside.States.{RuleState, ruled, fits as is_in_rule, wants, step as rule_step, rules_at}
+use Rattle.sg_rules.specs.declared.error.ParseError.{ParseError}
+use Rattle.sg_rules.specs.declared.error.ParseError.TheVariants.{NoMemory, Lex, Syntax}
 use Rattle.sg_parse.specs.declared.tree.Facts.{Facts}
 use Rattle.sg_parse.specs.declared.tree.Statement.{Statement}
-use Rattle.sg_parse.specs.declared.tree.Statement.TheVariants.{One, Two, Proto}
+use Rattle.sg_parse.specs.declared.tree.Statement.TheVariants.{One, Two, Proto, External, Most, Unique, Answer}
 use Rattle.sg_parse.specs.declared.tree.Ret.{Ret}
 use Rattle.sg_parse.specs.declared.tree.Ret.TheVariants.{Plain, Set, Add, Sub}
 use Rattle.sg_parse.specs.declared.tree.TypeName.{TypeName}
@@ -21,8 +29,8 @@ use Rattle.sg_parse.specs.declared.tree.Tree.{Tree}
 use Rattle.sg_parse.specs.declared.words.Sort.{Sort}
 use Rattle.sg_parse.specs.declared.words.Sort.TheVariants.{Name, One as one_word, Two as two_word, Form, Parents, Closing, Flag}
 use Rattle.sg_parse.specs.Grammar.Words.{is_of}
-use Rattle.sg_parse.specs.Grammar.Pieces.{Piece, word, mark, name, two, kept, newer, are_two, kept_word, seen}
-use Rattle.sg_parse.specs.Grammar.Inside.Forms.{open_brace, open_bracket, close_bracket, equals, comma, semicolon, star}
+use Rattle.sg_parse.specs.Grammar.Pieces.{Piece, word, mark, name, number, version_number, kept, newer, rule, are_of}
+use Rattle.sg_parse.specs.Grammar.Inside.Forms.{open_brace, close_brace, open_bracket, close_bracket, equals, comma, semicolon, star}
 
 -- ---- tests of tokens
 
@@ -30,16 +38,29 @@ use Rattle.sg_parse.specs.Grammar.Inside.Forms.{open_brace, open_bracket, close_
 abbrev pub has_sort : Sort → Lexeme → Bool
 has_sort sort token = has_kind Word token && is_of sort token.bytes
 
+-- a token is spelt so
+abbrev pub is_spelt : Spelling → Lexeme → Bool
+is_spelt n token = pointwise nat_eq token.bytes n.bytes && (token.at == n.at)
+
+-- a token is this piece of a rule
+abbrev pub is_of_rule : RulePiece → Lexeme → Bool
+is_of_rule (fixed p) token = is_in_rule p token
+is_of_rule (word_at keyword at) token = is_fixed (word_of keyword) token && (token.at == at)
+is_of_rule (name_in_rule n) token = wants rule_name token && is_spelt n token
+is_of_rule (number_in_rule n) token = has_kind Number token && is_spelt n token
+
 -- a token is this piece
 abbrev pub fits : Piece → Lexeme → Bool
 fits (word bytes) token = is_fixed bytes token
 fits (mark bytes) token = has_kind Mark token && pointwise nat_eq token.bytes bytes
-fits (name sort n) token = has_sort sort token && (pointwise nat_eq token.bytes n.bytes && (token.at == n.at))
-fits two token = has_kind Number token && are_two token.bytes
-fits kept token = has_kind Mark token && pointwise nat_eq token.bytes kept_word
-fits (newer p) token = fits p (seen token)
+fits (name sort n) token = has_sort sort token && is_spelt n token
+fits (number n) token = has_kind Number token && is_spelt n token
+fits (version_number version) token = has_kind Number token && are_of version token.bytes
+fits (kept bytes) token = has_kind Mark token && pointwise nat_eq token.bytes bytes
+fits (newer version p) token = fits p (seen version token)
+fits (rule p) token = is_of_rule p token
 
--- the name that a token is
+-- the name, or the number, that a token is
 abbrev pub named_by : Lexeme → Spelling
 named_by token = record { bytes = token.bytes; at = token.at }
 
@@ -59,6 +80,10 @@ pub data State : Type 0 where
   fork : List ℕ → State → State → State
   -- a word of a sort, and then the state of it
   want : Sort → (Spelling → State) → State
+  -- a number, and then the state of it
+  want_number : (Spelling → State) → State
+  -- the number 2 and then the first state, or the number 3 and then the second
+  versioned : State → State → State
   -- in a type, after its names so far: a further name, a star, or what follows the type
   names : List Spelling → Spelling → (List Spelling → Spelling → ℕ → State) → State
   -- in a type, after so many stars: a further star, or what follows the type
@@ -67,10 +92,14 @@ pub data State : Type 0 where
   either : (Spelling → State) → State → State
   -- after a parameter: a comma and a further one, or the end of the parameters and then the state of them all
   listed : List Param → (List Param → State) → State
+  -- after the name of a field: a comma and a further one, or the end of the fields and then the state of them all
+  fielded : List Spelling → (List Spelling → State) → State
+  -- in the rules of a function, as far as these have been read: up to the brace that closes them, and then the state of them all
+  answering : RuleState → (List Rule → State) → State
   -- before a statement or the end
   statements : Facts → List Statement → State
-  -- the state, in a text of version 2
-  in_newer : State → State
+  -- the state, in a text of a version
+  in_newer : Newer → State → State
 
 -- all names of a type
 abbrev pub type_of : List Spelling → Spelling → ℕ → TypeName
@@ -126,6 +155,36 @@ returned_rest go make = due open_bracket (want Name (λ first. names [] first (r
 abbrev pub plain_rest : (Statement → State) → Spelling → State
 plain_rest go first = names [] first (declared (λ ty n. proto_rest go (Plain ty) n))
 
+-- after the words of statements that only a text of a version after the first has
+
+-- after `sm_external`
+abbrev pub external_rest : (Statement → State) → State
+external_rest go = due open_bracket (want Name (λ fun. due close_bracket (due semicolon (go (External fun)))))
+
+-- after `desc_data_most`
+abbrev pub most_rest : (Statement → State) → State
+most_rest go =
+    due open_bracket (want Name (λ field. due comma (want_number (λ most. due close_bracket (due semicolon (go (Most field most)))))))
+
+-- after `desc_data_unique`
+abbrev pub unique_rest : (Statement → State) → State
+unique_rest go = due open_bracket (want Name (λ first. fielded (first ∷ []) (λ fields. due semicolon (go (Unique fields)))))
+
+-- after `sm_answer`
+abbrev pub answer_rest : (Statement → State) → State
+answer_rest go =
+    due open_bracket (want Name (λ fun. due close_bracket (due open_brace (answering (ruled []) (λ rules. go (Answer fun rules))))))
+
+-- after the first token of a statement that is a word which a version keeps for itself, or else this
+abbrev pub kept_after : (Statement → State) → Lexeme → Option State → Option State
+kept_after go token other =
+    if fits (kept (codes "desc_data_retval_sub")) token then Some (returned_rest go Sub)
+    else (if fits (kept (codes "sm_external")) token then Some (external_rest go)
+    else (if fits (kept (codes "desc_data_most")) token then Some (most_rest go)
+    else (if fits (kept (codes "desc_data_unique")) token then Some (unique_rest go)
+    else (if fits (kept (codes "sm_answer")) token then Some (answer_rest go)
+    else other))))
+
 -- after the first token of a statement
 abbrev pub statement_after : (Statement → State) → Lexeme → Option State
 statement_after go token =
@@ -133,9 +192,7 @@ statement_after go token =
     else (if has_sort two_word token then Some (two_rest go (named_by token))
     else (if fits (word (codes "desc_data_retval")) token then Some (returned_rest go Set)
     else (if fits (word (codes "desc_data_retval_add")) token then Some (returned_rest go Add)
-    else (if fits kept token then Some (returned_rest go Sub)
-    else (if has_sort Name token then Some (plain_rest go (named_by token))
-    else None)))))
+    else kept_after go token (if has_sort Name token then Some (plain_rest go (named_by token)) else None))))
 
 -- with one statement more
 abbrev pub with_statement : Facts → List Statement → Statement → State
@@ -151,15 +208,15 @@ head_end version eager a b c d e f g =
     due (mark (codes "}")) (due semicolon
     (statements (record { version = version; service = a; parent = b; close = c; global = d; block = e; has_data = f; resc_data = g; eager = eager }) []))
 
--- after the last fact that texts of both versions have
+-- after the last fact that texts of all versions have
 abbrev pub first_end : (a b c d e f g : Spelling) → State
 first_end a b c d e f g = head_end 1 false a b c d e f g
 
--- after those facts in a text of version 2: when descriptors are rebuilt, and the end
-abbrev pub second_end : (a b c d e f g : Spelling) → State
-second_end a b c d e f g =
+-- after those facts in a text of a version after the first: when descriptors are rebuilt, and the end
+abbrev pub newer_end : (version : ℕ) (a b c d e f g : Spelling) → State
+newer_end version a b c d e f g =
     due comma (due (word (codes "desc_recover")) (due equals
-    (fork (codes "eager") (head_end 2 true a b c d e f g) (due (word (codes "demand")) (head_end 2 false a b c d e f g)))))
+    (fork (codes "eager") (head_end version true a b c d e f g) (due (word (codes "demand")) (head_end version false a b c d e f g)))))
 
 -- the states after each fact of the head, from the last to the first, where these follow them all
 module _ (end : (a b c d e f g : Spelling) → State) where
@@ -184,13 +241,30 @@ module _ (end : (a b c d e f g : Spelling) → State) where
   abbrev pub head0 : State
   head0 = fact (codes "service") Name comma head1
 
+-- after the number of version 2, and of version 3
+abbrev pub second_rest : State → State
+second_rest s = due comma (in_newer Second s)
+
+abbrev pub third_rest : State → State
+third_rest s = due comma (in_newer Second (in_newer Third s))
+
+-- after the word that says a version, in a text of version 2 or 3
+abbrev pub newer_rest : State → State → State
+newer_rest two three = due equals (versioned (second_rest two) (third_rest three))
+
 -- before the first token
 abbrev pub start : State
 start =
     due (word (codes "service_global_info")) (due equals (due open_brace
-    (fork (codes "version") (due equals (due two (due comma (in_newer (head0 second_end))))) (head0 first_end))))
+    (fork (codes "version") (newer_rest (head0 (newer_end 2)) (head0 (newer_end 3))) (head0 first_end))))
 
 -- ---- steps
+
+-- after a token in the rules of a function, where these go on so with it, or don't; and where they don't, may end so
+abbrev pub answering_after : (List Rule → State) → Lexeme → Option RuleState → Option (List Rule) → Option State
+answering_after k token (Some next) rules = Some (answering next k)
+answering_after k token None (Some rules) = if fits close_brace token then Some (k rules) else None
+answering_after k token None None = None
 
 -- the state after a token; None where the token may not come
 unfoldable pub step : State → Lexeme → Option State
@@ -198,6 +272,11 @@ step dead token = None
 step (due piece s) token = if fits piece token then Some s else None
 step (fork what s other) token = if fits (word what) token then Some s else step other token
 step (want sort k) token = if has_sort sort token then Some (k (named_by token)) else None
+step (want_number k) token = if has_kind Number token then Some (k (named_by token)) else None
+step (versioned two three) token =
+    if fits (version_number Second) token then Some two
+    else (if fits (version_number Third) token then Some three
+    else None)
 step (names front last k) token =
     if has_sort Name token then Some (names (front ++ last ∷ []) (named_by token) k)
     else (if fits star token then Some (stars front last 1 k)
@@ -209,8 +288,13 @@ step (listed params k) token =
     if fits comma token then Some (param k params)
     else (if fits close_bracket token then Some (k params)
     else None)
+step (fielded fields k) token =
+    if fits comma token then Some (want Name (λ n. fielded (fields ++ n ∷ []) k))
+    else (if fits close_bracket token then Some (k fields)
+    else None)
+step (answering r k) token = answering_after k token (rule_step r token) (rules_at r)
 step (statements facts before) token = statement_after (with_statement facts before) token
-step (in_newer s) token = option_map in_newer (step s (seen token))
+step (in_newer version s) token = option_map (in_newer version) (step s (seen version token))
 
 -- the tree, where the text may end here
 unfoldable pub tree_at : State → Option Tree
@@ -218,12 +302,16 @@ tree_at dead = None
 tree_at (due piece s) = None
 tree_at (fork what s other) = tree_at other
 tree_at (want sort k) = None
+tree_at (want_number k) = None
+tree_at (versioned two three) = None
 tree_at (names front last k) = tree_at (k front last 0)
 tree_at (stars front last n k) = tree_at (k front last n)
 tree_at (either k s) = tree_at s
 tree_at (listed params k) = None
+tree_at (fielded fields k) = None
+tree_at (answering r k) = None
 tree_at (statements facts before) = Some (record { facts = facts; statements = before })
-tree_at (in_newer s) = tree_at s
+tree_at (in_newer version s) = tree_at s
 
 -- how the automaton reads a text
 abbrev pub trees : Automaton State Tree ParseError

@@ -2,7 +2,7 @@
 use Rattle.std.proofs.Common.{◌∙◌, ap, sym}
 use Rattle.std.specs.Prelude.{Err}
 use Rattle.sg_parse.proofs.ByToken.{no_token_came}
-use Rattle.sg_parse.proofs.reader.take_two.Goals as goal
+use Rattle.sg_parse.proofs.reader.take_number.Goals as goal
 
 pub returns-in-Err-clause-fault : goal.returns-in-Err-clause-fault
 returns-in-Err-clause-fault c = λ s.
