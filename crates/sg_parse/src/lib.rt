@@ -23,7 +23,7 @@ pub use laws::{one_answer, one_tree};
 pub use parser::parse;
 pub use sg_lex::{LexFault, Lexer, Spelled, SpelledList, TokenKind, first_token};
 pub use sg_rules::{
-    Operand, Operator, ParseError, Pick, PickList, Relation, RowTest, Rule, RuleList, Term, TermList,
+    Keyword, Operand, Operator, ParseError, Pick, PickList, Relation, RowTest, Rule, RuleList, Term, TermList,
     Test, TestList, Tests, What,
 };
 pub use tree::{Facts, Param, ParamList, Ret, Statement, StatementList, Tree, TypeName};

@@ -12,8 +12,8 @@ pub fn prints_parse_back()
     ensures { (text : List ℕ) (tree : Tree) → Parses text (Ok tree) → PrintsBack tree }
 {}
 
-/// The tree of a text that has no name which version 2 keeps for itself prints as a text of version 2, whose tree is that tree
-/// as one of version 2 but for the places of names.
+/// The tree of a text that has no name which version 2 keeps for itself, as one of version 2 where it is of version 1, prints as a
+/// text, whose tree is that tree but for the places of names.
 pub fn upgrades_parse_back()
     ensures { (text : List ℕ) (tree : Tree) → Parses text (Ok tree) → IsFree tree → PrintsBack (upgraded tree) }
 {}

@@ -1,7 +1,7 @@
 //! The canonical text of a tree of the interface language, which reads back as the tree that it is of; and the text of tables.
 //!
 //! - `statements`: the text of a tree (`print`)
-//! - `types`: the texts of types, parameters and returns
+//! - `types`: the texts of types, parameters and returns; `rules`: the texts of rules
 //! - `tables`: the text of tables (`print_tables`); `funs`: the lines of functions
 //! - `parts`: texts in a row
 //! - `words`: the words for when descriptors are rebuilt
@@ -11,6 +11,7 @@
 mod funs;
 mod laws;
 mod parts;
+mod rules;
 mod statements;
 mod tables;
 mod types;

@@ -4,7 +4,8 @@ ghost use Rattle.sg_print.specs.Printed.{statement_text, printed, shared_text};
 ghost use Rattle.sg_print.specs.Inside.Pieces.{facts_text, recovery_text, version_line};
 
 use crate::parts::put;
-use crate::types::{put_params, put_ret};
+use crate::rules::put_rules;
+use crate::types::{put_fields, put_params, put_ret};
 use crate::words::recovery_word;
 use sg_facts::{Bytes, NoMemory};
 use sg_parse::{Facts, Statement, Tree};
@@ -42,6 +43,21 @@ fn put_statement(out: &mut Bytes, statement: &Statement<'_>) -> Result<(), NoMem
             put_params(out, params.as_slice())?;
             put(out, &[b");\n"])
         }
+        Statement::External { fun } => put(out, &[b"sm_external(", fun.slice, b");\n"]),
+        Statement::Most { field, most } => put(
+            out,
+            &[b"desc_data_most(", field.slice, b", ", most.slice, b");\n"],
+        ),
+        Statement::Unique { fields } => {
+            put(out, &[b"desc_data_unique("])?;
+            put_fields(out, fields.as_slice())?;
+            put(out, &[b");\n"])
+        }
+        Statement::Answer { fun, rules } => {
+            put(out, &[b"sm_answer(", fun.slice, b") {\n"])?;
+            put_rules(out, rules.as_slice())?;
+            put(out, &[b"}\n"])
+        }
     }
 }
 
@@ -58,18 +74,18 @@ fn put_facts(out: &mut Bytes, facts: &Facts<'_>) -> Result<(), NoMemory>
     put(out, &[b"\n};\n"])
 }
 
-// The line of the version, which a text of version 2 has.
+// The line of the version, which a text of a version after the first has.
 fn version_line(version: u8) -> &'static [u8]
     ensures { result.now ≡ version_line version }
 {
-    if version == 2 {
-        b"    version = 2,\n"
-    } else {
-        b""
+    match version {
+        2 => b"    version = 2,\n",
+        3 => b"    version = 3,\n",
+        _ => b"",
     }
 }
 
-// Adds the facts that texts of both versions have, up to the value of the last.
+// Adds the facts that texts of all versions have, up to the value of the last.
 #[tactic(auto, unfolding(crate::specs::Printed::shared_text))]
 fn put_shared(out: &mut Bytes, facts: &Facts<'_>) -> Result<(), NoMemory>
     ensures { OnOk result (out.new ≡ out.old ++ shared_text facts.now) }
@@ -95,13 +111,13 @@ fn put_shared(out: &mut Bytes, facts: &Facts<'_>) -> Result<(), NoMemory>
     )
 }
 
-// Adds when descriptors are rebuilt, which a text of version 2 says after the other facts.
+// Adds when descriptors are rebuilt, which a text of a version after the first says after the other facts.
 fn put_recovery(out: &mut Bytes, version: u8, eager: bool) -> Result<(), NoMemory>
     ensures { OnOk result (out.new ≡ out.old ++ recovery_text version eager) }
 {
-    if version == 2 {
-        put(out, &[b",\n    desc_recover = ", recovery_word(eager)])
-    } else {
+    if version == 1 {
         Ok(())
+    } else {
+        put(out, &[b",\n    desc_recover = ", recovery_word(eager)])
     }
 }

@@ -2,7 +2,7 @@
 ghost use Rattle.std.specs.Prelude.{◌≡◌, ◌++◌, OnOk, codes, List, ℕ};
 ghost use Rattle.std.specs.List.{flat_map};
 ghost use Rattle.sg_print.specs.Printed.{type_text, ret_text, param_text, returned_text};
-ghost use Rattle.sg_print.specs.Inside.Pieces.{names_text, type_before_comma, params_text};
+ghost use Rattle.sg_print.specs.Inside.Pieces.{names_text, fields_text, type_before_comma, params_text};
 
 use crate::parts::{put, put_stars};
 use sg_facts::{Bytes, NoMemory};
@@ -18,6 +18,20 @@ fn put_names(out: &mut Bytes, names: &[Spelled<'_>]) -> Result<(), NoMemory>
     out.extend_from_slice(first.slice)?;
     for name in more {
         put(out, &[b" ", name.slice])?;
+    }
+    Ok(())
+}
+
+/// Adds fields at the end, with a comma and a space between two.
+pub fn put_fields(out: &mut Bytes, fields: &[Spelled<'_>]) -> Result<(), NoMemory>
+    ensures { OnOk result (out.new ≡ out.old ++ fields_text fields.now) }
+{
+    let Some((first, more)) = fields.split_first() else {
+        return Ok(());
+    };
+    out.extend_from_slice(first.slice)?;
+    for field in more {
+        put(out, &[b", ", field.slice])?;
     }
     Ok(())
 }

@@ -1,4 +1,8 @@
 // The tree of rules.
+ghost use Rattle.std.specs.Prelude.{◌≡◌};
+ghost use Rattle.sg_rules.specs.Grammar.Sentence.{operator_word};
+
+use crate::words::Keyword;
 use sg_base::ListOf;
 use sg_lex::Spelled;
 
@@ -125,4 +129,18 @@ pub enum Operator {
     Minus,
     Least,
     Greatest,
+}
+
+impl Operator {
+    /// The word of the operator.
+    pub fn keyword(self) -> Keyword
+        ensures { result ≡ operator_word self }
+    {
+        match self {
+            Operator::Plus => Keyword::Plus,
+            Operator::Minus => Keyword::Minus,
+            Operator::Least => Keyword::Least,
+            Operator::Greatest => Keyword::Greatest,
+        }
+    }
 }

@@ -34,14 +34,21 @@ type_before_comma ty = names_text ty.names ++ (if ty.stars == 0 then [] else sta
 abbrev pub params_text : List Param → List ℕ
 params_text params = join_by param_text (codes ", ") params
 
--- the line of the version, which a text of version 2 has
-abbrev pub version_line : ℕ → List ℕ
-version_line version = if version == 2 then codes "    version = 2," ++ line_end else []
+-- fields, with a comma and a space between two
+abbrev pub fields_text : List Named → List ℕ
+fields_text fields = join_by (λ n. n.bytes) (codes ", ") fields
 
--- after the last fact that texts of both versions have, one of version 2 says when descriptors are rebuilt
+-- the line of the version, which a text of a version after the first has
+abbrev pub version_line : ℕ → List ℕ
+version_line version =
+    if version == 2 then codes "    version = 2," ++ line_end
+    else (if version == 3 then codes "    version = 3," ++ line_end
+    else [])
+
+-- after the last fact that texts of all versions have, one of a version after the first says when descriptors are rebuilt
 abbrev pub recovery_text : (version : ℕ) (eager : Bool) → List ℕ
 recovery_text version eager =
-    if version == 2 then codes "," ++ (line_end ++ (codes "    desc_recover = " ++ recovery_word eager)) else []
+    if version == 1 then [] else codes "," ++ (line_end ++ (codes "    desc_recover = " ++ recovery_word eager))
 
 -- the lines of the facts
 abbrev pub facts_text : Head → List ℕ
