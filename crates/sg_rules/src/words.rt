@@ -88,12 +88,7 @@ impl Keyword {
 pub fn is_name(word: &[u8]) -> bool
     ensures { result ≡ is_name word.now }
 {
-    'keywords: for keyword in &KEYWORDS {
-        if word == keyword.bytes() {
-            return false;
-        }
-    }
-    true
+    !KEYWORDS.iter().any(|keyword| word == keyword.bytes())
 }
 
 /// What a token of a rule has to be, whatever its place: a word of rules, or a mark.

@@ -10,6 +10,7 @@ use Rattle.sg_rules.specs.declared.words.Wanted.{Wanted}
 use Rattle.sg_rules.specs.declared.words.Wanted.TheVariants.{Name as a_name, Number as a_number, Key as a_word}
 use Rattle.sg_rules.specs.declared.tree.Operand.TheVariants.{Number}
 use Rattle.sg_rules.specs.declared.tree.Rule.{Rule}
+use Rattle.sg_rules.specs.declared.tree.Tests.{Tests}
 use Rattle.sg_rules.specs.declared.tree.Rule.TheVariants.{Give}
 use Rattle.sg_rules.specs.Grammar.Pieces.{RulePiece}
 use Rattle.sg_rules.specs.Grammar.Inside.States.{RuleState, ended, fork, take, termed, picked, tested, ruled, fits, wants, spelt_by, term, pick, tests_from, after_first, given, give_rest, no_tests, with_rule, step, rule_reader}
@@ -90,7 +91,7 @@ completes (picked ps k) f h =
       runs = through (picked ps k) (k ps) (ruled c.rules) (λ token e. if_else (fits Comma token) (Some (pick (λ p. picked (ps ++ p ∷ []) k))) (step (k ps) token) e) (h.1 ps) c.runs;
     }
 completes (tested ts k) f h =
-    let none = record { tests = ts; rows = None } in
+    let none : Tests = record { tests = ts; rows = None } in
     let c = completes (k none) f (subst (λ v. HasRead false (k (record { tests = v; rows = None })) f) (append-nil ts) (h.0 [])) in
     record {
       rules = c.rules;

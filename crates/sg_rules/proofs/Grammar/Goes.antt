@@ -94,18 +94,18 @@ operand_past keyword a b c (Named n) qs = refl
 
 after_goes : (first : Operand) (more : Option (Operator × Operand)) (k : Term → RuleState) (qs : List RulePiece) (end : RuleState) → NoOperator qs
     → GoesOn (k (record { first = first; more = more })) qs end → GoesOn (after_first k first) (more_then more qs) end
-after_goes first None k qs end no g = fork_over qs no.0 (fork_over qs no.1 (fork_over qs no.2 (fork_over qs no.3 g)))
-after_goes first (Some (Plus, second)) k qs end no g =
+after_goes first None k qs end nor g = fork_over qs nor.0 (fork_over qs nor.1 (fork_over qs nor.2 (fork_over qs nor.3 g)))
+after_goes first (Some (Plus, second)) k qs end nor g =
     fork_goes (operand_goes second (λ x. k (record { first = first; more = Some (Plus, x) })) g)
-after_goes first (Some (Minus, second)) k qs end no g =
+after_goes first (Some (Minus, second)) k qs end nor g =
     fork_past refl (fork_goes (operand_goes second (λ x. k (record { first = first; more = Some (Minus, x) })) g))
-after_goes first (Some (Least, second)) k qs end no g =
+after_goes first (Some (Least, second)) k qs end nor g =
     fork_past refl (fork_past refl (fork_goes (operand_goes second (λ x. k (record { first = first; more = Some (Least, x) })) g)))
-after_goes first (Some (Greatest, second)) k qs end no g =
+after_goes first (Some (Greatest, second)) k qs end nor g =
     fork_past refl (fork_past refl (fork_past refl (fork_goes (operand_goes second (λ x. k (record { first = first; more = Some (Greatest, x) })) g))))
 
 term_goes : (t : Term) (k : Term → RuleState) (qs : List RulePiece) (end : RuleState) → NoOperator qs → GoesOn (k t) qs end → GoesOn (term k) (term_then t qs) end
-term_goes t k qs end no g = operand_goes t.first (after_first k) (after_goes t.first t.more k qs end no g)
+term_goes t k qs end nor g = operand_goes t.first (after_first k) (after_goes t.first t.more k qs end nor g)
 
 -- how two numbers stand to each other is said before a number, and is no operator
 relation_goes : (o : Relation) (k : Relation → RuleState) (qs : List RulePiece) (end : RuleState) → Past (Key Not) qs → GoesOn (k o) qs end
@@ -123,21 +123,21 @@ relation_no_operator Above qs = (refl, refl, refl, refl)
 
 related_goes : (o : Relation) (right : Term) (k : Relation → Term → RuleState) (qs : List RulePiece) (end : RuleState) → NoOperator qs → GoesOn (k o right) qs end
     → GoesOn (relation (λ o. term (k o))) (relation_pieces o ++ term_then right qs) end
-related_goes o right k qs end no g =
-    relation_goes o (λ o. term (k o)) (term_then right qs) end (operand_past Not refl refl refl right.first (more_then right.more qs)) (term_goes right (k o) qs end no g)
+related_goes o right k qs end nor g =
+    relation_goes o (λ o. term (k o)) (term_then right qs) end (operand_past Not refl refl refl right.first (more_then right.more qs)) (term_goes right (k o) qs end nor g)
 
 test_goes : (t : Test) (k : Test → RuleState) (qs : List RulePiece) (end : RuleState) → NoOperator qs → GoesOn (k t) qs end → GoesOn (test k) (test_then t qs) end
-test_goes t k qs end no g =
+test_goes t k qs end nor g =
     term_goes t.left (λ left. relation (λ o. term (λ right. k (record { left = left; relation = o; right = right })))) (relation_pieces t.relation ++ term_then t.right qs) end
     (relation_no_operator t.relation (term_then t.right qs))
-    (related_goes t.relation t.right (λ o right. k (record { left = t.left; relation = o; right = right })) qs end no g)
+    (related_goes t.relation t.right (λ o right. k (record { left = t.left; relation = o; right = right })) qs end nor g)
 
 -- ---- lists
 
 -- further things with their commas begin with no operator
 more_no_operator : {A : Type 0} (then_of : A → List RulePiece → List RulePiece) (more : List A) (qs : List RulePiece) → NoOperator qs → NoOperator (each_more then_of more qs)
-more_no_operator then_of [] qs no = no
-more_no_operator then_of (a ∷ more) qs no = (refl, refl, refl, refl)
+more_no_operator then_of [] qs nor = nor
+more_no_operator then_of (a ∷ more) qs nor = (refl, refl, refl, refl)
 
 termed_over : (ts : List Term) (k : List Term → RuleState) (qs : List RulePiece) (end : RuleState) → Past Comma qs → GoesOn (k ts) qs end → GoesOn (termed ts k) qs end
 termed_over ts k [] end past g = absurd past
@@ -145,20 +145,20 @@ termed_over ts k (q ∷ qs) end past (onward {next = next} g more) = onward {nex
 
 termed_goes : (more ts : List Term) (k : List Term → RuleState) (qs : List RulePiece) (end : RuleState) → Past Comma qs → NoOperator qs → GoesOn (k (ts ++ more)) qs end
     → GoesOn (termed ts k) (each_more term_then more qs) end
-termed_goes [] ts k qs end past no g = termed_over ts k qs end past (subst (λ v. GoesOn (k v) qs end) (append-nil ts) g)
-termed_goes (t ∷ more) ts k qs end past no g =
+termed_goes [] ts k qs end past nor g = termed_over ts k qs end past (subst (λ v. GoesOn (k v) qs end) (append-nil ts) g)
+termed_goes (t ∷ more) ts k qs end past nor g =
     onward {next = term (λ x. termed (ts ++ x ∷ []) k)} (inl (refl, refl))
-    (term_goes t (λ x. termed (ts ++ x ∷ []) k) (each_more term_then more qs) end (more_no_operator term_then more qs no)
-    (termed_goes more (ts ++ t ∷ []) k qs end past no (subst (λ v. GoesOn (k v) qs end) (sym (append_assoc ts (t ∷ []) more)) g)))
+    (term_goes t (λ x. termed (ts ++ x ∷ []) k) (each_more term_then more qs) end (more_no_operator term_then more qs nor)
+    (termed_goes more (ts ++ t ∷ []) k qs end past nor (subst (λ v. GoesOn (k v) qs end) (sym (append_assoc ts (t ∷ []) more)) g)))
 
 terms_goes : (ts : List Term) (k : List Term → RuleState) (qs : List RulePiece) (end : RuleState) → ts ≢ [] → Past Comma qs → NoOperator qs → GoesOn (k ts) qs end
     → GoesOn (terms k) (each term_then ts qs) end
-terms_goes [] k qs end some past no g = absurd (some refl)
-terms_goes (t ∷ more) k qs end some past no g =
-    term_goes t (λ x. termed (x ∷ []) k) (each_more term_then more qs) end (more_no_operator term_then more qs no) (termed_goes more (t ∷ []) k qs end past no g)
+terms_goes [] k qs end some past nor g = absurd (some refl)
+terms_goes (t ∷ more) k qs end some past nor g =
+    term_goes t (λ x. termed (x ∷ []) k) (each_more term_then more qs) end (more_no_operator term_then more qs nor) (termed_goes more (t ∷ []) k qs end past nor g)
 
 pick_goes : (p : Pick) (k : Pick → RuleState) (qs : List RulePiece) (end : RuleState) → NoOperator qs → GoesOn (k p) qs end → GoesOn (pick k) (pick_then p qs) end
-pick_goes p k qs end no g = by p.what (related_goes p.relation p.right (λ o right. k (record { what = p.what; relation = o; right = right })) qs end no g)
+pick_goes p k qs end nor g = by p.what (related_goes p.relation p.right (λ o right. k (record { what = p.what; relation = o; right = right })) qs end nor g)
   where
     by : (w : What) → GoesOn (relation (λ o. term (λ right. k (record { what = w; relation = o; right = right })))) (relation_pieces p.relation ++ term_then p.right qs) end
         → GoesOn (pick k) (what_pieces w ++ (relation_pieces p.relation ++ term_then p.right qs)) end
@@ -171,23 +171,23 @@ picked_over ps k (q ∷ qs) end past (onward {next = next} g more) = onward {nex
 
 picked_goes : (more ps : List Pick) (k : List Pick → RuleState) (qs : List RulePiece) (end : RuleState) → Past Comma qs → NoOperator qs → GoesOn (k (ps ++ more)) qs end
     → GoesOn (picked ps k) (each_more pick_then more qs) end
-picked_goes [] ps k qs end past no g = picked_over ps k qs end past (subst (λ v. GoesOn (k v) qs end) (append-nil ps) g)
-picked_goes (p ∷ more) ps k qs end past no g =
+picked_goes [] ps k qs end past nor g = picked_over ps k qs end past (subst (λ v. GoesOn (k v) qs end) (append-nil ps) g)
+picked_goes (p ∷ more) ps k qs end past nor g =
     onward {next = pick (λ x. picked (ps ++ x ∷ []) k)} (inl (refl, refl))
-    (pick_goes p (λ x. picked (ps ++ x ∷ []) k) (each_more pick_then more qs) end (more_no_operator pick_then more qs no)
-    (picked_goes more (ps ++ p ∷ []) k qs end past no (subst (λ v. GoesOn (k v) qs end) (sym (append_assoc ps (p ∷ []) more)) g)))
+    (pick_goes p (λ x. picked (ps ++ x ∷ []) k) (each_more pick_then more qs) end (more_no_operator pick_then more qs nor)
+    (picked_goes more (ps ++ p ∷ []) k qs end past nor (subst (λ v. GoesOn (k v) qs end) (sym (append_assoc ps (p ∷ []) more)) g)))
 
 picks_goes : (ps : List Pick) (k : List Pick → RuleState) (qs : List RulePiece) (end : RuleState) → ps ≢ [] → Past Comma qs → NoOperator qs → GoesOn (k ps) qs end
     → GoesOn (picks k) (each pick_then ps qs) end
-picks_goes [] k qs end some past no g = absurd (some refl)
-picks_goes (p ∷ more) k qs end some past no g =
-    pick_goes p (λ x. picked (x ∷ []) k) (each_more pick_then more qs) end (more_no_operator pick_then more qs no) (picked_goes more (p ∷ []) k qs end past no g)
+picks_goes [] k qs end some past nor g = absurd (some refl)
+picks_goes (p ∷ more) k qs end some past nor g =
+    pick_goes p (λ x. picked (x ∷ []) k) (each_more pick_then more qs) end (more_no_operator pick_then more qs nor) (picked_goes more (p ∷ []) k qs end past nor g)
 
 -- ---- tests
 
 rows_goes : (rows : RowTest) (k : RowTest → RuleState) (other : RuleState) (qs : List RulePiece) (end : RuleState) → rows.picks ≢ [] → Past Comma qs → NoOperator qs → GoesOn (k rows) qs end
     → GoesOn (rows_or k other) (rows_then rows qs) end
-rows_goes rows k other qs end some past no g = by rows.some (picks_goes rows.picks (λ ps. k (record { at = rows.at; some = rows.some; picks = ps })) qs end some past no g)
+rows_goes rows k other qs end some past nor g = by rows.some (picks_goes rows.picks (λ ps. k (record { at = rows.at; some = rows.some; picks = ps })) qs end some past nor g)
   where
     by : (b : Bool) → GoesOn (picks (λ ps. k (record { at = rows.at; some = b; picks = ps }))) (each pick_then rows.picks qs) end
         → GoesOn (rows_or k other) (word_at (if b then SomeRow else NoRow) rows.at ∷ word Row ∷ word Where ∷ each pick_then rows.picks qs) end
@@ -197,10 +197,10 @@ rows_goes rows k other qs end some past no g = by rows.some (picks_goes rows.pic
 -- a test before which something could be asked of the rows
 next_test : (t : Test) (before : List Test) (k : Tests → RuleState) (qs : List RulePiece) (end : RuleState) → NoOperator qs → GoesOn (tested (before ++ t ∷ []) k) qs end
     → GoesOn (tests_from before k) (test_then t qs) end
-next_test t before k qs end no g =
+next_test t before k qs end nor g =
     take_over (test_then t qs) (operand_past SomeRow refl refl refl t.left.first (more_then t.left.more (relation_pieces t.relation ++ term_then t.right qs)))
     (take_over (test_then t qs) (operand_past NoRow refl refl refl t.left.first (more_then t.left.more (relation_pieces t.relation ++ term_then t.right qs)))
-    (test_goes t (λ x. tested (before ++ x ∷ []) k) qs end no g))
+    (test_goes t (λ x. tested (before ++ x ∷ []) k) qs end nor g))
 
 tested_over : (ts : List Test) (k : Tests → RuleState) (qs : List RulePiece) (end : RuleState) → Past Comma qs → GoesOn (k (record { tests = ts; rows = None })) qs end
     → GoesOn (tested ts k) qs end
@@ -209,36 +209,36 @@ tested_over ts k (q ∷ qs) end past (onward {next = next} g more) = onward {nex
 
 tested_goes : (more ts : List Test) (k : Tests → RuleState) (qs : List RulePiece) (end : RuleState) → Past Comma qs → NoOperator qs
     → GoesOn (k (record { tests = ts ++ more; rows = None })) qs end → GoesOn (tested ts k) (each_more test_then more qs) end
-tested_goes [] ts k qs end past no g = tested_over ts k qs end past (subst (λ v. GoesOn (k (record { tests = v; rows = None })) qs end) (append-nil ts) g)
-tested_goes (t ∷ more) ts k qs end past no g =
+tested_goes [] ts k qs end past nor g = tested_over ts k qs end past (subst (λ v. GoesOn (k (record { tests = v; rows = None })) qs end) (append-nil ts) g)
+tested_goes (t ∷ more) ts k qs end past nor g =
     onward {next = tests_from ts k} (inl (refl, refl))
-    (next_test t ts k (each_more test_then more qs) end (more_no_operator test_then more qs no)
-    (tested_goes more (ts ++ t ∷ []) k qs end past no
+    (next_test t ts k (each_more test_then more qs) end (more_no_operator test_then more qs nor)
+    (tested_goes more (ts ++ t ∷ []) k qs end past nor
     (subst (λ v. GoesOn (k (record { tests = v; rows = None })) qs end) (sym (append_assoc ts (t ∷ []) more)) g)))
 
 -- tests, of which the last is what is asked of the rows
 asked_goes : (more ts : List Test) (rows : RowTest) (k : Tests → RuleState) (qs : List RulePiece) (end : RuleState) → rows.picks ≢ [] → Past Comma qs → NoOperator qs
     → GoesOn (k (record { tests = ts ++ more; rows = Some rows })) qs end → GoesOn (tested ts k) (each_more test_then more (fixed Comma ∷ rows_then rows qs)) end
-asked_goes [] ts rows k qs end some past no g =
+asked_goes [] ts rows k qs end some past nor g =
     onward {next = tests_from ts k} (inl (refl, refl))
-    (rows_goes rows (λ x. k (record { tests = ts; rows = Some x })) (test (λ t. tested (ts ++ t ∷ []) k)) qs end some past no
+    (rows_goes rows (λ x. k (record { tests = ts; rows = Some x })) (test (λ t. tested (ts ++ t ∷ []) k)) qs end some past nor
     (subst (λ v. GoesOn (k (record { tests = v; rows = Some rows })) qs end) (append-nil ts) g))
-asked_goes (t ∷ more) ts rows k qs end some past no g =
+asked_goes (t ∷ more) ts rows k qs end some past nor g =
     onward {next = tests_from ts k} (inl (refl, refl))
     (next_test t ts k (each_more test_then more (fixed Comma ∷ rows_then rows qs)) end (more_no_operator test_then more (fixed Comma ∷ rows_then rows qs) (refl, refl, refl, refl))
-    (asked_goes more (ts ++ t ∷ []) rows k qs end some past no
+    (asked_goes more (ts ++ t ∷ []) rows k qs end some past nor
     (subst (λ v. GoesOn (k (record { tests = v; rows = Some rows })) qs end) (sym (append_assoc ts (t ∷ []) more)) g)))
 
 tests_go : (ts : List Test) (rows : Option RowTest) (k : Tests → RuleState) (qs : List RulePiece) (end : RuleState) → HasTests (record { tests = ts; rows = rows })
     → Past Comma qs → NoOperator qs → GoesOn (k (record { tests = ts; rows = rows })) qs end → GoesOn (tests k) (tests_of ts rows qs) end
-tests_go [] None k qs end some past no g = absurd (some refl)
-tests_go (t ∷ more) None k qs end some past no g =
-    next_test t [] k (each_more test_then more qs) end (more_no_operator test_then more qs no) (tested_goes more (t ∷ []) k qs end past no g)
-tests_go [] (Some rows) k qs end some past no g =
-    rows_goes rows (λ x. k (record { tests = []; rows = Some x })) (test (λ t. tested (t ∷ []) k)) qs end some past no g
-tests_go (t ∷ more) (Some rows) k qs end some past no g =
+tests_go [] None k qs end some past nor g = absurd (some refl)
+tests_go (t ∷ more) None k qs end some past nor g =
+    next_test t [] k (each_more test_then more qs) end (more_no_operator test_then more qs nor) (tested_goes more (t ∷ []) k qs end past nor g)
+tests_go [] (Some rows) k qs end some past nor g =
+    rows_goes rows (λ x. k (record { tests = []; rows = Some x })) (test (λ t. tested (t ∷ []) k)) qs end some past nor g
+tests_go (t ∷ more) (Some rows) k qs end some past nor g =
     next_test t [] k (each_more test_then more (fixed Comma ∷ rows_then rows qs)) end (more_no_operator test_then more (fixed Comma ∷ rows_then rows qs) (refl, refl, refl, refl))
-    (asked_goes more (t ∷ []) rows k qs end some past no g)
+    (asked_goes more (t ∷ []) rows k qs end some past nor g)
 
 -- ---- rules
 
