@@ -1,0 +1,12 @@
+pub mod Places
+pub mod Names
+pub mod Uses
+pub mod Effects
+pub mod Pairs
+pub mod Clear
+pub mod Flawless
+pub mod Shapes
+pub mod Allowed
+pub mod Declared
+pub mod Goods
+pub mod Fitting
