@@ -117,8 +117,8 @@ acts : (facts : Facts) (n : ℕ) (f : Fun) → IsGood facts n f → acts_on_one 
 acts facts n f good =
     and_from _ _
     (and_from _ _
-      (none_of_three f.creation f.query f.terminal (takes_desc f) (good.none MakesOn))
-      (some_of_three f.creation f.query (takes_desc f) (takes_parent f) (good.none ActsOnNone) good.apart))
+    (none_of_three f.creation f.query f.terminal (takes_desc f) (good.none MakesOn))
+    (some_of_three f.creation f.query (takes_desc f) (takes_parent f) (good.none ActsOnNone) good.apart))
     (not_both (is_never facts.parents) (takes_parent f) (good.none NoParents))
 
 -- ---- a shape of such functions
@@ -138,7 +138,7 @@ module _ (facts : Facts) (good : (k : ℕ) (f : Fun) → slice_get facts.funs k 
   each_carried (suc n) within =
       let f = there facts.funs n (omega arith) in
       let lost : (is_replayed facts (suc n) && not (each_arg (fun_at facts.funs (suc n)).effects (count_args (fun_at facts.funs (suc n)).kinds))) ≡ false =
-          ap (is_forbidden ArgumentLost facts (suc n)) (at_place n f.0 f.1) ∙ (good n f.0 f.1).none ArgumentLost in
+      ap (is_forbidden ArgumentLost facts (suc n)) (at_place n f.0 f.1) ∙ (good n f.0 f.1).none ArgumentLost in
       and_from _ (replays_all facts n)
       (then_it (is_replayed facts (suc n)) (each_arg (fun_at facts.funs (suc n)).effects (count_args (fun_at facts.funs (suc n)).kinds)) lost)
       (each_carried n (omega arith))
@@ -150,8 +150,8 @@ module _ (facts : Facts) (good : (k : ℕ) (f : Fun) → slice_get facts.funs k 
       and_from _ (each_replays_well facts n)
       (ap (λ g. implies (g.creation || list_any (λ s. s.1 == suc n) facts.steps) (replays_well facts g)) (at_place n f.0 f.1)
       ∙ well (f.0.creation || list_any (λ s. s.1 == suc n) facts.steps) (writes f.0) (list_all (λ e. takes_among (count_args f.0.kinds) e.1) f.0.effects)
-        (nat_le (count_by (λ e. sets_caller e.1) f.0.effects) 1) (has_no_parents facts) (list_all (λ e. leaves_known e.1) f.0.effects)
-        ((good n f.0 f.1).none ReplayWrites) (good n f.0 f.1).among (good n f.0 f.1).callers ((good n f.0 f.1).none ReplayUnknown))
+      (nat_le (count_by (λ e. sets_caller e.1) f.0.effects) 1) (has_no_parents facts) (list_all (λ e. leaves_known e.1) f.0.effects)
+      ((good n f.0 f.1).none ReplayWrites) (good n f.0 f.1).among (good n f.0 f.1).callers ((good n f.0 f.1).none ReplayUnknown))
       (each_well n (omega arith))
 
   -- a recover step makes no descriptor
@@ -160,6 +160,7 @@ module _ (facts : Facts) (good : (k : ℕ) (f : Fun) → slice_get facts.funs k 
     where
       own : (n : ℕ) → (n == n) ≡ true
       own n = grind (arith, nat_tests)
+
       by : (n : ℕ) (found : ℕ → Option Fun) → list_any (λ t. t.1 == n) facts.steps ≡ true → not (fun_at facts.funs n).creation ≡ true
       by zero found told = refl
       by (suc n) found told = made (slice_get facts.funs n) refl
@@ -169,6 +170,7 @@ module _ (facts : Facts) (good : (k : ℕ) (f : Fun) → slice_get facts.funs k 
           made (Some f) is =
               ap (λ o. not (unwrap_or o no_fun).creation) is
               ∙ not_made f.creation (list_any (λ t. t.1 == suc n) facts.steps) told ((good n f is).none RecoverMakes)
+
           not_made : (c s : Bool) → s ≡ true → (c && s) ≡ false → not c ≡ true
           not_made false s is none = refl
           not_made true true is none = absurd (cc none)

@@ -105,8 +105,10 @@ module _ (tree : Tree) where
     where
       kind : ShapeFaultKind
       kind = get_or shape_kinds n WrongFact
+
       rank : shape_rank (get_or shape_kinds n WrongFact) ≡ n
       rank = rank_at n (omega arith)
+
       next : (o : Option ℕ) → place_of tree (get_or shape_kinds n WrongFact) ≡ o → AreClear tree n → AreClear tree (suc n) ⊎ ((kind : ShapeFaultKind) × (at : ℕ) × IsFirstShapeFlaw tree kind at)
       next None told clear =
           let more : shape_rank (get_or shape_kinds n WrongFact) + 1 ≡ suc n = omega (arith, rank) in

@@ -43,9 +43,9 @@ by_parts test statements f ret params first later returned said =
     let D : List On = flat_map (statement_effects f) statements in
     list_all-append test ((A ++ B) ++ C) D
     ∙ and_from (list_all test ((A ++ B) ++ C)) (list_all test D)
-      (list_all-append test (A ++ B) C
-      ∙ and_from (list_all test (A ++ B)) (list_all test C) (list_all-append test A B ∙ and_from (list_all test A) (list_all test B) first later) returned)
-      (all_flat test (statement_effects f) statements said)
+    (list_all-append test (A ++ B) C
+    ∙ and_from (list_all test (A ++ B)) (list_all test C) (list_all-append test A B ∙ and_from (list_all test A) (list_all test B) first later) returned)
+    (all_flat test (statement_effects f) statements said)
 
 one_else : (test : On → Bool) (b : Bool) (e : On) → test e ≡ true → list_all test (if b then e ∷ [] else []) ≡ true
 one_else test true e passes = ap (λ c. c && true) passes
@@ -65,8 +65,8 @@ args_among most k (p ∷ params) within =
   where
     by : (d q s t a : Bool) → k + count_args ((if d then Desc else (if q then Parent else (if s then Word else Text))) ∷ map kind_of params) ≤ most
         → list_all (λ e. takes_among most e.1) (if d || q then arg_effects k params
-          else (if t then (p.name.bytes, SetArg k) ∷ arg_effects (k + 1) params
-          else (if a then (p.name.bytes, AddArg k) ∷ arg_effects (k + 1) params else arg_effects (k + 1) params))) ≡ true
+        else (if t then (p.name.bytes, SetArg k) ∷ arg_effects (k + 1) params
+        else (if a then (p.name.bytes, AddArg k) ∷ arg_effects (k + 1) params else arg_effects (k + 1) params))) ≡ true
     by true q s t a fits = args_among most k params fits
     by false true s t a fits = args_among most k params fits
     by false false true true a fits = and_from (nat_lt k most) (list_all (λ e. takes_among most e.1) (arg_effects (k + 1) params)) (lt-ltb k most (omega (arith, fits))) (args_among most (k + 1) params (omega (arith, fits)))
@@ -147,6 +147,7 @@ args_named names k (p ∷ params) all =
   where
     parts : ((u : Use) → param_use p ≡ Some u → named names u ≡ true) × (list_all (named names) (filter_map param_use params) ≡ true)
     parts = one_gathered (named names) (param_use p) (filter_map param_use params) all
+
     by : (d t a : Bool) → ((u : Use) → (if t || a then Some (record { name = p.name; text = Some (not (p.ty.stars == 0)) }) else None) ≡ Some u → named names u ≡ true)
         → list_all (among names) (if d then arg_effects k params
         else (if t then (p.name.bytes, SetArg k) ∷ arg_effects (k + 1) params
@@ -193,17 +194,23 @@ effects_named statements k p at = let names = use_names (uses_of statements) in
     whole : (list_all (named (use_names (uses_of statements))) (flat_map (λ q. filter_map param_use q.params) (protos_of statements) ++ filter_map (λ q. ret_use q.ret) (protos_of statements))
         && list_all (named (use_names (uses_of statements))) (filter_map word_use statements)) ≡ true
     whole = sym (list_all-append (named (use_names (uses_of statements))) (flat_map (λ q. filter_map param_use q.params) (protos_of statements) ++ filter_map (λ q. ret_use q.ret) (protos_of statements)) (filter_map word_use statements)) ∙ all_named (uses_of statements)
+
     in_words : list_all (named (use_names (uses_of statements))) (filter_map word_use statements) ≡ true
     in_words = (and_parts _ _ whole).1
+
     two : (list_all (named (use_names (uses_of statements))) (flat_map (λ q. filter_map param_use q.params) (protos_of statements)) && list_all (named (use_names (uses_of statements))) (filter_map (λ q. ret_use q.ret) (protos_of statements))) ≡ true
     two = sym (list_all-append (named (use_names (uses_of statements))) (flat_map (λ q. filter_map param_use q.params) (protos_of statements)) (filter_map (λ q. ret_use q.ret) (protos_of statements))) ∙ (and_parts _ _ whole).0
+
     in_rets : list_all (named (use_names (uses_of statements))) (filter_map (λ q. ret_use q.ret) (protos_of statements)) ≡ true
     in_rets = (and_parts _ _ two).1
+
     in_params : list_all (named (use_names (uses_of statements))) (filter_map param_use p.params) ≡ true
     in_params = all_of_each (named (use_names (uses_of statements))) (λ q. filter_map param_use q.params) (protos_of statements) k p (and_parts _ _ two).0 at
+
     firsts : (params : List Param) → list_all (named (use_names (uses_of statements))) (filter_map param_use params) ≡ true → list_all (among (use_names (uses_of statements))) (caller_effects params) ≡ true
     firsts [] all = refl
     firsts (caller ∷ later) all = caller_named (use_names (uses_of statements)) caller (one_gathered (named (use_names (uses_of statements))) (param_use caller) (filter_map param_use later) all).0
+
     laters : (params : List Param) → list_all (named (use_names (uses_of statements))) (filter_map param_use params) ≡ true → list_all (among (use_names (uses_of statements))) (later_effects params) ≡ true
     laters [] all = refl
     laters (caller ∷ later) all = args_named (use_names (uses_of statements)) 0 later (one_gathered (named (use_names (uses_of statements))) (param_use caller) (filter_map param_use later) all).1

@@ -77,6 +77,7 @@ later_number x y (f ∷ fields) effects less = by (effect_on_name effects f.name
   where
     rest : list_any (λ other. other.0 == x) (numbered (y + 1) fields effects) ≡ false
     rest = later_number x (y + 1) fields effects (omega arith)
+
     by : (o : Option Effect) → list_any (λ other. other.0 == x) (cons_option (option_map (λ e. (y, e)) o) (numbered (y + 1) fields effects)) ≡ false
     by None = rest
     by (Some effect) = let other : (y == x) ≡ false = grind (arith, nat_tests) in or_from (y == x) (list_any (λ o. o.0 == x) (numbered (y + 1) fields effects)) other rest
@@ -111,6 +112,7 @@ module _ (caller : List ℕ) (effects : List On) (all : list_all (into caller) e
     where
       parts : (bytes_eq f.name caller ≡ false) × (has_name (map (λ f. f.name) fields) caller ≡ false)
       parts = or_parts (bytes_eq f.name caller) (has_name (map (λ f. f.name) fields) caller) none
+
       by : (o : Option Effect) → effect_on_name effects f.name ≡ o → count_by (λ e. sets_caller e.1) (cons_option (option_map (λ e. (x, e)) o) (numbered (x + 1) fields effects)) ≡ 0
       by None told = no_caller (x + 1) fields parts.1
       by (Some effect) told =
@@ -130,12 +132,14 @@ module _ (caller : List ℕ) (effects : List On) (all : list_all (into caller) e
     where
       parts : (not (has_name (map (λ f. f.name) fields) f.name) ≡ true) × (all_differ (map (λ f. f.name) fields) ≡ true)
       parts = and_parts (not (has_name (map (λ f. f.name) fields) f.name)) (all_differ (map (λ f. f.name) fields)) differ
+
       by : (o : Option Effect) → effect_on_name effects f.name ≡ o → count_by (λ e. sets_caller e.1) (cons_option (option_map (λ e. (x, e)) o) (numbered (x + 1) fields effects)) ≤ 1
       by None told = one_caller (x + 1) fields parts.1
       by (Some effect) told = set_or_not (sets_caller effect) refl
         where
           counted : count_by (λ e. sets_caller e.1) ((x, effect) ∷ numbered (x + 1) fields effects) ≡ cond (sets_caller effect) 1 0 + count_by (λ e. sets_caller e.1) (numbered (x + 1) fields effects)
           counted = sum_by-cons (λ e. cond (sets_caller e.1) 1 0) (x, effect) (numbered (x + 1) fields effects)
+
           set_or_not : (b : Bool) → sets_caller effect ≡ b → count_by (λ e. sets_caller e.1) ((x, effect) ∷ numbered (x + 1) fields effects) ≤ 1
           set_or_not true sets =
               let own : f.name ≡ caller = same_bytes f.name caller (set_into f.name effect told sets) in
@@ -169,6 +173,7 @@ named_again all x (f ∷ fields) effects is = by (effect_on_name effects f.name)
   where
     here : (field_name all x ≡ f.name) × (drop (x + 1) all ≡ fields)
     here = name_at all x f fields is
+
     by : (o : Option Effect) → map (λ e. (field_name all e.0, e.1)) (cons_option (option_map (λ e. (x, e)) o) (numbered (x + 1) fields effects))
         ≡ cons_option (option_map (λ e. (f.name, e)) o) (by_names fields effects)
     by None = named_again all (x + 1) fields effects here.1
@@ -197,8 +202,8 @@ from_effects (f ∷ fields) effects = by (effect_on_name effects f.name) refl
     by (Some effect) told =
         let on = on_name effects f.name effect told in
         let same : (bytes_eq on.1.0 f.name && same_effect on.1.1 effect) ≡ true =
-            and_from (bytes_eq on.1.0 f.name) (same_effect on.1.1 effect)
-            (ap (λ m. bytes_eq m f.name) on.3 ∙ own_bytes f.name) (ap (λ e. same_effect e effect) on.4 ∙ own_effect effect) in
+        and_from (bytes_eq on.1.0 f.name) (same_effect on.1.1 effect)
+        (ap (λ m. bytes_eq m f.name) on.3 ∙ own_bytes f.name) (ap (λ e. same_effect e effect) on.4 ∙ own_effect effect) in
         and_from (has_effect effects (f.name, effect)) (list_all (has_effect effects) (by_names fields effects))
         (some_here on.0 on.1 on.2 effect same) (from_effects fields effects)
       where
@@ -216,7 +221,7 @@ to_effects (f ∷ fields) effects k e one at among = by (bytes_eq f.name e.0) re
     only effect told =
         let on = on_name effects e.0 effect told in
         let apart : (bytes_eq on.1.0 e.0 && not (same_effect on.1.1 e.1)) ≡ false =
-            each_fails (clash e) effects on.0 on.1 (each_fails (λ d. list_any (clash d) effects) effects k e one at) on.2 in
+        each_fails (clash e) effects on.0 on.1 (each_fails (λ d. list_any (clash d) effects) effects k e one at) on.2 in
         let on_it : bytes_eq on.1.0 e.0 ≡ true = ap (λ m. bytes_eq m e.0) on.3 ∙ own_bytes e.0 in
         ap (λ d. same_effect d e.1) (sym on.4) ∙ not_other (bytes_eq on.1.0 e.0) (same_effect on.1.1 e.1) on_it apart
       where
@@ -224,6 +229,7 @@ to_effects (f ∷ fields) effects k e one at among = by (bytes_eq f.name e.0) re
         not_other true true is apart = refl
         not_other true false is apart = absurd (cc apart)
         not_other false b is apart = absurd (cc is)
+
     by : (b : Bool) → bytes_eq f.name e.0 ≡ b → (b || has_name (map (λ g. g.name) fields) e.0) ≡ true → has_effect (by_names (f ∷ fields) effects) e ≡ true
     by true told is =
         let own : f.name ≡ e.0 = same_bytes f.name e.0 told in

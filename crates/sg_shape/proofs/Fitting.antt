@@ -111,6 +111,7 @@ said_some f (s ∷ statements) none =
     nothing : (a b : Option (List ℕ)) → option_or a b ≡ None → (a ≡ None) × (b ≡ None)
     nothing None b is = (refl, is)
     nothing (Some g) b is = absurd (cc is)
+
     not_this : (t : Statement) → state_in f t ≡ None → leaves_some f t ≡ false
     not_this (One word fun) is = refl
     not_this (Proto ret name params) is = refl
@@ -173,8 +174,8 @@ module _ (tree : Tree) (sound : HasNoShapeFlaw tree) where
           let same = name_again g (known_state tree sound f g told) in
           subst (λ m. (not (says tree.statements (codes "sm_keep") f) && says_of tree.statements (codes "sm_state") f m && not (list_any (leaves_another f m) tree.statements)) ≡ true) (sym same)
           (and_from (not (says tree.statements (codes "sm_keep") f) && says_of tree.statements (codes "sm_state") f g) (not (list_any (leaves_another f g) tree.statements))
-            (and_from (not (says tree.statements (codes "sm_keep") f)) (says_of tree.statements (codes "sm_state") f g) (ap not keeps) (said_state f g tree.statements told))
-            (ap not no))
+          (and_from (not (says tree.statements (codes "sm_keep") f)) (says_of tree.statements (codes "sm_state") f g) (ap not keeps) (said_state f g tree.statements told))
+          (ap not no))
 
   -- ---- flags, and the whole of a prototype
 
@@ -192,6 +193,7 @@ module _ (tree : Tree) (sound : HasNoShapeFlaw tree) where
         both : (b : Bool) → agree b b ≡ true
         both true = refl
         both false = refl
+
         flags : (f : List ℕ) → (agree (says tree.statements (codes "sm_creation") f) (says tree.statements (codes "sm_creation") f)
             && agree (says tree.statements (codes "sm_terminal") f) (says tree.statements (codes "sm_terminal") f)
             && agree (says tree.statements (codes "sm_block") f) (says tree.statements (codes "sm_block") f)
@@ -213,13 +215,13 @@ module _ (tree : Tree) (sound : HasNoShapeFlaw tree) where
         let fields = fields_of_text ss in
         let all = declared_effects ss p.name.bytes p.ret p.params in
         let again : map (λ e. (field_name (shape_of_text tree).fields e.0, e.1)) (fun_of_name (shape_of_text tree) p.name.bytes).effects ≡ by_names fields all =
-            ap (λ f. map (λ e. (field_name (shape_of_text tree).fields e.0, e.1)) f.effects) (of_name tree sound k p at) ∙ named_again fields 0 fields all refl in
+        ap (λ f. map (λ e. (field_name (shape_of_text tree).fields e.0, e.1)) f.effects) (of_name tree sound k p at) ∙ named_again fields 0 fields all refl in
         ap (same_effects all) again
         ∙ and_from (list_all (has_effect (by_names fields all)) all) (list_all (has_effect all) (by_names fields all))
-          (all_pass (has_effect (by_names fields all)) all (λ j e there. to_effects fields all j e (one_each tree sound k p at) there
-            (ap (λ names. has_name names e.0) (field_names (first_uses (uses_of ss))) ∙ first_named (uses_of ss) e.0
-            (each_passes (λ d. has_name (use_names (uses_of ss)) d.0) all j e (effects_named ss k p at) there))))
-          (from_effects fields all)
+        (all_pass (has_effect (by_names fields all)) all (λ j e there. to_effects fields all j e (one_each tree sound k p at) there
+        (ap (λ names. has_name names e.0) (field_names (first_uses (uses_of ss))) ∙ first_named (uses_of ss) e.0
+        (each_passes (λ d. has_name (use_names (uses_of ss)) d.0) all j e (effects_named ss k p at) there))))
+        (from_effects fields all)
 
   -- ---- pairs
 
@@ -233,10 +235,11 @@ module _ (tree : Tree) (sound : HasNoShapeFlaw tree) where
   known_pair : (w : List ℕ) (word first second : Spelling) → bytes_eq word.bytes w ≡ true → names_two word.bytes ≡ true → unknown_name tree.statements (Two word first second) ≡ None
       → (has_name (names_of (protos_of tree.statements)) first.bytes ≡ true) × (has_name (names_of (protos_of tree.statements)) second.bytes ≡ true)
   known_pair w word first second told two known =
-      let parts = neither (then_some (not (has_proto tree.statements first.bytes)) first.at) (then_some (names_two word.bytes && not (has_proto tree.statements second.bytes)) second.at) known in
-      (sym (proto_names tree.statements first.bytes) ∙ has_it (has_proto tree.statements first.bytes) first.at parts.0,
-       sym (proto_names tree.statements second.bytes) ∙ has_it (has_proto tree.statements second.bytes) second.at
-         (ap (λ b. then_some (b && not (has_proto tree.statements second.bytes)) second.at) (sym two) ∙ parts.1))
+      let parts = neither (then_some (not (has_proto tree.statements first.bytes)) first.at) (then_some (names_two word.bytes && not (has_proto tree.statements second.bytes)) second.at) known in (
+        sym (proto_names tree.statements first.bytes) ∙ has_it (has_proto tree.statements first.bytes) first.at parts.0,
+        sym (proto_names tree.statements second.bytes) ∙ has_it (has_proto tree.statements second.bytes) second.at
+            (ap (λ b. then_some (b && not (has_proto tree.statements second.bytes)) second.at) (sym two) ∙ parts.1),
+      )
     where
       has_it : (b : Bool) (place : ℕ) → then_some (not b) place ≡ None → b ≡ true
       has_it true place is = refl
@@ -253,15 +256,15 @@ module _ (tree : Tree) (sound : HasNoShapeFlaw tree) where
       (leb-true 1 (function_number tree.statements first.bytes) one.0) (leb-true (function_number tree.statements first.bytes) (length (protos_of tree.statements)) one.1)
       (leb-true 1 (function_number tree.statements second.bytes) other.0) (leb-true (function_number tree.statements second.bytes) (length (protos_of tree.statements)) other.1)
       (gathered_some (λ p. (p.0 == function_number tree.statements first.bytes) && (p.1 == function_number tree.statements second.bytes)) (pair_in w tree.statements) tree.statements k (Two word first second)
-        (function_number tree.statements first.bytes, function_number tree.statements second.bytes) at
-        (ap (λ b. if b then Some (function_number tree.statements first.bytes, function_number tree.statements second.bytes) else None) told)
-        (and_from (function_number tree.statements first.bytes == function_number tree.statements first.bytes) (function_number tree.statements second.bytes == function_number tree.statements second.bytes)
-        (eq-eqb (function_number tree.statements first.bytes) (function_number tree.statements first.bytes) refl) (eq-eqb (function_number tree.statements second.bytes) (function_number tree.statements second.bytes) refl)))
+      (function_number tree.statements first.bytes, function_number tree.statements second.bytes) at
+      (ap (λ b. if b then Some (function_number tree.statements first.bytes, function_number tree.statements second.bytes) else None) told)
+      (and_from (function_number tree.statements first.bytes == function_number tree.statements first.bytes) (function_number tree.statements second.bytes == function_number tree.statements second.bytes)
+      (eq-eqb (function_number tree.statements first.bytes) (function_number tree.statements first.bytes) refl) (eq-eqb (function_number tree.statements second.bytes) (function_number tree.statements second.bytes) refl)))
 
   not_foreign : (w : List ℕ) (pairs : List (ℕ × ℕ)) (s : Statement) (place : ℕ)
       → ((word first second : Spelling) → s ≡ Two word first second → bytes_eq word.bytes w ≡ true
-        → (has_pair pairs (function_number tree.statements first.bytes) (function_number tree.statements second.bytes) ≡ true)
-        × (has_name (names_of (protos_of tree.statements)) first.bytes ≡ true) × (has_name (names_of (protos_of tree.statements)) second.bytes ≡ true))
+      → (has_pair pairs (function_number tree.statements first.bytes) (function_number tree.statements second.bytes) ≡ true)
+      × (has_name (names_of (protos_of tree.statements)) first.bytes ≡ true) × (has_name (names_of (protos_of tree.statements)) second.bytes ≡ true))
       → foreign w pairs (shape_of_text tree) s ≡ Some place → ⊥
   not_foreign w pairs (One word fun) place each is = cc is
   not_foreign w pairs (Proto ret name params) place each is = cc is
@@ -273,8 +276,8 @@ module _ (tree : Tree) (sound : HasNoShapeFlaw tree) where
       by true told flaw =
           let own = each word first second refl told in
           let good : option_map_or (λ f. option_map_or (λ g. has_pair pairs f g) (fun_number (shape_of_text tree).funs second.bytes) false) (fun_number (shape_of_text tree).funs first.bytes) false ≡ true =
-              ap (λ o. option_map_or (λ f. option_map_or (λ g. has_pair pairs f g) (fun_number (shape_of_text tree).funs second.bytes) false) o false) (known_number first.bytes own.1)
-              ∙ ap (λ o. option_map_or (λ g. has_pair pairs (function_number tree.statements first.bytes) g) o false) (known_number second.bytes own.2) ∙ own.0 in
+          ap (λ o. option_map_or (λ f. option_map_or (λ g. has_pair pairs f g) (fun_number (shape_of_text tree).funs second.bytes) false) o false) (known_number first.bytes own.1)
+          ∙ ap (λ o. option_map_or (λ g. has_pair pairs (function_number tree.statements first.bytes) g) o false) (known_number second.bytes own.2) ∙ own.0 in
           let none : None ≡ Some place = ap (λ b. then_some (not b) first.at) (sym good) ∙ flaw in
           cc none
 
@@ -327,9 +330,9 @@ module _ (tree : Tree) (sound : HasNoShapeFlaw tree) where
   none_foreign w two before after s place split flaw =
       not_foreign w (in_order (filter_map (pair_in w tree.statements) tree.statements) (length (protos_of tree.statements))) s place
       (λ word first second is told.
-        let at = stands before after s split ∙ ap Some is in
-        let known = known_pair w word first second told (two word.bytes told) (all_known tree sound (length before) (Two word first second) at) in
-        (pair_listed w (length before) word first second at told (two word.bytes told), known.0, known.1))
+      let at = stands before after s split ∙ ap Some is in
+      let known = known_pair w word first second told (two word.bytes told) (all_known tree sound (length before) (Two word first second) at) in
+      (pair_listed w (length before) word first second at told (two word.bytes told), known.0, known.1))
       flaw
 
   none_twice : (before after : List Statement) (s : Statement) (place : ℕ) → tree.statements ≡ before ++ s ∷ after → duplicate before s ≡ Some place → ⊥
@@ -338,9 +341,9 @@ module _ (tree : Tree) (sound : HasNoShapeFlaw tree) where
   none_twice before after (Proto ret name params) place split flaw =
       let p : Prototype = record { ret = ret; name = name; params = params } in
       let differ : all_differ (names_of (protos_of before ++ p ∷ protos_of after)) ≡ true =
-          ap (λ l. all_differ (names_of l)) (sym (ap protos_of split ∙ filter_map-append proto_in before (Proto ret name params ∷ after))) ∙ names_differ tree sound in
+      ap (λ l. all_differ (names_of l)) (sym (ap protos_of split ∙ filter_map-append proto_in before (Proto ret name params ∷ after))) ∙ names_differ tree sound in
       let none : None ≡ Some place =
-          ap (λ b. then_some b name.at) (sym (proto_names before name.bytes ∙ not_before (protos_of before) p (protos_of after) differ)) ∙ flaw in
+      ap (λ b. then_some b name.at) (sym (proto_names before name.bytes ∙ not_before (protos_of before) p (protos_of after) differ)) ∙ flaw in
       cc none
 
   -- ---- the service

@@ -102,14 +102,15 @@ module _ (tree : Tree) (sound : HasNoShapeFlaw tree) where
   good_effects p (caller ∷ later) is good =
       let ss = tree.statements in
       let fields = fields_of_text ss in
-      let parts = and_parts (is_caller caller && list_all has_its_type later) (nat_le (count_by is_id_param later) 1) (not-false (are_params (caller ∷ later)) good) in
-      (subst (λ params. list_all (λ e. takes_among (count_args (map kind_of (drop 1 params))) e.1) (numbered 0 (fields_of_text ss) (declared_effects ss p.name.bytes p.ret params)) ≡ true) (sym is)
-        (numbered_pass (takes_among (count_args (map kind_of later))) 0 fields (declared_effects ss p.name.bytes p.ret (caller ∷ later)) (effects_among ss p.name.bytes p.ret caller later)),
-       subst (λ params. nat_le (count_by (λ e. sets_caller e.1) (numbered 0 (fields_of_text ss) (declared_effects ss p.name.bytes p.ret params))) 1 ≡ true) (sym is)
-        (le-leb (count_by (λ e. sets_caller e.1) (numbered 0 fields (declared_effects ss p.name.bytes p.ret (caller ∷ later)))) 1
-        (one_caller caller.name.bytes (declared_effects ss p.name.bytes p.ret (caller ∷ later)) (effects_into ss p.name.bytes p.ret caller later) 0 fields fields_differ)),
-       subst (λ params. (list_any is_desc (map kind_of (drop 1 params)) && list_any is_parent (map kind_of (drop 1 params))) ≡ false) (sym is)
-        (apart_where later parts.1))
+      let parts = and_parts (is_caller caller && list_all has_its_type later) (nat_le (count_by is_id_param later) 1) (not-false (are_params (caller ∷ later)) good) in (
+        subst (λ params. list_all (λ e. takes_among (count_args (map kind_of (drop 1 params))) e.1) (numbered 0 (fields_of_text ss) (declared_effects ss p.name.bytes p.ret params)) ≡ true) (sym is)
+            (numbered_pass (takes_among (count_args (map kind_of later))) 0 fields (declared_effects ss p.name.bytes p.ret (caller ∷ later)) (effects_among ss p.name.bytes p.ret caller later)),
+        subst (λ params. nat_le (count_by (λ e. sets_caller e.1) (numbered 0 (fields_of_text ss) (declared_effects ss p.name.bytes p.ret params))) 1 ≡ true) (sym is)
+            (le-leb (count_by (λ e. sets_caller e.1) (numbered 0 fields (declared_effects ss p.name.bytes p.ret (caller ∷ later)))) 1
+            (one_caller caller.name.bytes (declared_effects ss p.name.bytes p.ret (caller ∷ later)) (effects_into ss p.name.bytes p.ret caller later) 0 fields fields_differ)),
+        subst (λ params. (list_any is_desc (map kind_of (drop 1 params)) && list_any is_parent (map kind_of (drop 1 params))) ≡ false) (sym is)
+            (apart_where later parts.1),
+      )
 
   good_proto : (k : ℕ) (p : Prototype) → slice_get (protos_of tree.statements) k ≡ Some p → ((function_of tree.statements p).uses_file ≡ true → (shape_of_text tree).resc_data ≡ true)
       → IsGood (shape_of_text tree) (suc k) (function_of tree.statements p)
@@ -142,7 +143,7 @@ module _ (tree : Tree) (sound : HasNoShapeFlaw tree) where
   private =
       not_told (not (shape_of_text tree).global && is_cross (shape_of_text tree).parents) tree.facts.parent.at
       (neither (then_some (not (shape_of_text tree).global && is_cross (shape_of_text tree).parents) tree.facts.parent.at)
-        (first_proto (is_flawed PrivateLooksAround (shape_of_text tree) tree.statements) tree.statements) (sound PrivateLooksAround)).0
+      (first_proto (is_flawed PrivateLooksAround (shape_of_text tree) tree.statements) tree.statements) (sound PrivateLooksAround)).0
 
   -- the shape keeps to what every shape keeps to
   pub keeps : is_allowed (shape_of_text tree) ≡ true

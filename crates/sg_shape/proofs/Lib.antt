@@ -10,3 +10,4 @@ pub mod Allowed
 pub mod Declared
 pub mod Goods
 pub mod Fitting
+pub mod Loops

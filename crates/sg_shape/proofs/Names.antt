@@ -61,16 +61,18 @@ all_apart names (p ∷ protos) none =
     let here = not_second (has_name names p.name.bytes) p.name.at (second_place (names ++ p.name.bytes ∷ []) protos) none in
     let rest = all_apart (names ++ p.name.bytes ∷ []) protos here.1 in
     let parts = λ (k : ℕ) (q : Prototype) (at : slice_get protos k ≡ Some q).
-        or_parts (has_name names q.name.bytes) (has_name (p.name.bytes ∷ []) q.name.bytes)
-        (sym (list_any-append (λ n. bytes_eq n q.name.bytes) names (p.name.bytes ∷ [])) ∙ rest.1 k q at) in
+    or_parts (has_name names q.name.bytes) (has_name (p.name.bytes ∷ []) q.name.bytes)
+    (sym (list_any-append (λ n. bytes_eq n q.name.bytes) names (p.name.bytes ∷ [])) ∙ rest.1 k q at) in
     let apart : has_name (names_of protos) p.name.bytes ≡ false =
-        none_named protos p.name.bytes (λ k q at. turned q.name.bytes p.name.bytes ∙ (or_parts (bytes_eq p.name.bytes q.name.bytes) false (parts k q at).1).0) in
-    (ap (λ b. not b && all_differ (names_of protos)) apart ∙ rest.0,
-     λ k q at. each k q at here.0 (λ m r there. (parts m r there).0))
+    none_named protos p.name.bytes (λ k q at. turned q.name.bytes p.name.bytes ∙ (or_parts (bytes_eq p.name.bytes q.name.bytes) false (parts k q at).1).0) in (
+      ap (λ b. not b && all_differ (names_of protos)) apart ∙ rest.0,
+      λ k q at. each k q at here.0 (λ m r there. (parts m r there).0),
+    )
   where
     none_named : (qs : List Prototype) (name : List ℕ) → ((k : ℕ) (q : Prototype) → slice_get qs k ≡ Some q → bytes_eq q.name.bytes name ≡ false) → has_name (names_of qs) name ≡ false
     none_named [] name differ = refl
     none_named (q ∷ qs) name differ = ap (λ b. b || has_name (names_of qs) name) (differ 0 q refl) ∙ none_named qs name (λ k r at. differ (suc k) r at)
+
     each : (k : ℕ) (q : Prototype) → slice_get (p ∷ protos) k ≡ Some q → has_name names p.name.bytes ≡ false
         → ((m : ℕ) (r : Prototype) → slice_get protos m ≡ Some r → has_name names r.name.bytes ≡ false) → has_name names q.name.bytes ≡ false
     each zero q at first later = let same : p ≡ q = cc at in ap (λ r. has_name names r.name.bytes) (sym same) ∙ first

@@ -77,9 +77,11 @@ among count a b first last low high =
     seconds x false told [] = refl
     seconds x true told (y ∷ ys) = ap (λ d. (d && (y == b)) || list_any (λ z. (x == a) && (z == b)) ys) told ∙ ap (λ d. (y == b) || d) (seconds x true told ys)
     seconds x false told (y ∷ ys) = ap (λ d. (d && (y == b)) || list_any (λ z. (x == a) && (z == b)) ys) told ∙ seconds x false told ys
+
     and_true : (c d : Bool) → d ≡ true → (c && d) ≡ c
     and_true true d is = is
     and_true false d is = refl
+
     row : (x : ℕ) → list_any (λ p. (p.0 == a) && (p.1 == b)) (map (λ y. (x, y)) (range_with_len 1 count)) ≡ (x == a)
     row x =
         any_map (λ p. (p.0 == a) && (p.1 == b)) (λ y. (x, y)) (range_with_len 1 count)
@@ -91,5 +93,5 @@ pub listed : (named : List (ℕ × ℕ)) (count a b : ℕ) → 1 ≤ a → a ≤
 listed named count a b first last low high told =
     still_any (λ p. (p.0 == a) && (p.1 == b)) (λ p. has_pair named p.0 p.1)
     (λ p is. let parts = and_parts (p.0 == a) (p.1 == b) is in
-        ap (λ n. has_pair named n p.1) (eqb-true p.0 a parts.0) ∙ ap (has_pair named a) (eqb-true p.1 b parts.1) ∙ told)
+    ap (λ n. has_pair named n p.1) (eqb-true p.0 a parts.0) ∙ ap (has_pair named a) (eqb-true p.1 b parts.1) ∙ told)
     (pairs_to count) (among count a b first last low high)

@@ -123,4 +123,4 @@ fits tree sound =
     (ap (λ n. list_all (are_funs n) (in_order steps (length ps))) count ∙ all_within steps (length ps))
     (list_all-map (λ f. leaves_fun (length funs) f.leaves) (function_of ss) ps
     ∙ all_pass (λ p. leaves_fun (length funs) (leaves_of ss p.name.bytes)) ps
-      (λ k p at. ap (λ n. leaves_fun n (leaves_of ss p.name.bytes)) count ∙ leaves_one tree sound p.name.bytes))
+    (λ k p at. ap (λ n. leaves_fun n (leaves_of ss p.name.bytes)) count ∙ leaves_one tree sound p.name.bytes))

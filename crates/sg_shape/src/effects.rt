@@ -1,15 +1,16 @@
 // What a text says that functions do to fields.
-ghost use Rattle.std.specs.Prelude.{◌≡◌, ◌<◌, ◌≤◌, [], ◌∷◌, ◌++◌, length, map, IfOk, OnOk};
+ghost use Rattle.std.specs.Prelude.{◌≡◌, ◌<◌, ◌≤◌, [], ◌∷◌, ◌++◌, length, IfOk, OnOk};
 ghost use Rattle.std.specs.List.{flat_map, list_any};
-ghost use Rattle.std.specs.Option.{option_to_list};
+ghost use Rattle.std.specs.Option.{option_map, option_to_list};
 ghost use Rattle.sg_facts.specs.Limits.{most_fields};
 ghost use Rattle.sg_check_statements.specs.Effects.{arg_effects, declared_effects};
 ghost use Rattle.sg_check_statements.specs.Inside.Pieces.{caller_effects, later_effects, ret_effects, statement_effects};
 ghost use Rattle.sg_shape.specs.Flaws.{clash, has_two};
-ghost use Rattle.sg_shape.specs.Inside.Parts.{arg_effect};
+ghost use Rattle.sg_shape.specs.Inside.Parts.{arg_effect, fields_in};
 ghost use Rattle.sg_shape.specs.Limits.{most_params};
 ghost use Rattle.sg_shape.specs.ShapeOfText.{effect_on_name, numbered};
 
+use crate::adding::add;
 use crate::keeping::kept;
 use crate::params::is_id_param;
 use crate::protos::Proto;
@@ -95,16 +96,6 @@ fn add_words<'a>(
         add(effects, word_effect(statement, fun))?;
     }
     Ok(())
-}
-
-// Adds an effect where there is one.
-fn add<'a>(effects: &mut EffectList<'a>, found: Option<NamedEffect<'a>>) -> Result<(), NoMemory>
-    ensures { OnOk result (effects.new ≡ effects.old ++ option_to_list found) }
-{
-    match found {
-        None => Ok(()),
-        Some(effect) => effects.push(effect),
-    }
 }
 
 // The effect that the first parameter declares.
@@ -198,17 +189,29 @@ pub fn numbered(
     effects: &[NamedEffect],
 ) -> Result<&'static [(u8, Effect)], NoMemory>
     requires { length fields.now ≤ most_fields }
-    ensures { IfOk result (λ list. list.now ≡ numbered 0 (map (λ f. record { name = f.name.now; text = f.text }) fields.now) effects.now) }
+    ensures { IfOk result (λ list. list.now ≡ numbered 0 (fields_in fields.now) effects.now) }
 {
     let mut list = Vec::new(alloc);
     let mut number = 0;
     'fields: for field in fields {
-        if let Some(effect) = effect_on(effects, field.name) {
-            list.push((number, effect))?;
-        }
+        add_numbered(&mut list, number, effect_on(effects, field.name))?;
         number += 1;
     }
     Ok(kept(list))
+}
+
+// Adds an effect with the number of its field, where there is one.
+fn add_numbered(
+    list: &mut Vec<(u8, Effect)>,
+    number: u8,
+    found: Option<Effect>,
+) -> Result<(), NoMemory>
+    ensures { OnOk result (list.new.items ≡ list.old.items ++ option_to_list (option_map (λ e. (number, e)) found)) }
+{
+    if let Some(effect) = found {
+        list.push((number, effect))?;
+    }
+    Ok(())
 }
 
 // The first of some effects that is on the field of a name.

@@ -1,10 +1,11 @@
 // The fields of a text.
-ghost use Rattle.std.specs.Prelude.{◌≡◌, ◌≤◌, length, map, take, slice_get, IfOk};
+ghost use Rattle.std.specs.Prelude.{◌≡◌, map, take, slice_get, IfOk};
 ghost use Rattle.std.specs.List.{list_any};
 ghost use Rattle.std.specs.Option.{option_map};
 ghost use Rattle.std.specs.Str.{bytes_eq};
 ghost use Rattle.sg_facts.specs.Limits.{most_fields};
 ghost use Rattle.sg_shape.specs.Fields.{field_at, first_uses};
+ghost use Rattle.sg_shape.specs.Inside.Parts.{fields_in};
 
 use crate::keeping::{kept, kept_name};
 use crate::uses::{FieldUse, UseList};
@@ -48,7 +49,7 @@ fn has_use(uses: &[FieldUse], name: &[u8]) -> bool
 
 /// The fields that uses have, kept to the end of the program.
 pub fn field_shapes(alloc: Global, uses: &[FieldUse]) -> Result<&'static [FieldShape], NoMemory>
-    ensures { IfOk result (λ fields. map (λ f. record { name = f.name.now; text = f.text }) fields.now ≡ map field_at uses.now) }
+    ensures { IfOk result (λ fields. fields_in fields.now ≡ map field_at uses.now) }
 {
     let mut fields = Vec::new(alloc);
     'uses: for one in uses {

@@ -1,5 +1,5 @@
 // Where something is wrong with a text by itself.
-ghost use Rattle.std.specs.Prelude.{◌≡◌, ◌≢◌, ◌≤◌, [], length, map, find, slice_get, unwrap_or, All, IfOk};
+ghost use Rattle.std.specs.Prelude.{◌≡◌, ◌≢◌, ◌≤◌, [], length, find, slice_get, unwrap_or, All, IfOk};
 ghost use Rattle.std.specs.List.{filter_map};
 ghost use Rattle.std.specs.Option.{option_map};
 ghost use Rattle.sg_facts.specs.Facts.{facts_of};
@@ -11,6 +11,7 @@ ghost use Rattle.sg_shape.specs.declared.fault.ShapeFaultKind.TheVariants.{Limit
 ghost use Rattle.sg_shape.specs.Fields.{uses_of};
 ghost use Rattle.sg_shape.specs.Faults.{place_of};
 ghost use Rattle.sg_shape.specs.Flaws.{contradicts, has_two, is_flawed, is_forbidden, is_mixed, is_text_name, second_place, unknown_name, unknown_place};
+ghost use Rattle.sg_shape.specs.Inside.Parts.{fields_in};
 ghost use Rattle.sg_shape.specs.Limits.{most_params};
 ghost use Rattle.sg_shape.specs.Prototypes.{names_of, protos_of};
 ghost use Rattle.sg_shape.specs.ShapeOfText.{shape_of_text};
@@ -131,7 +132,7 @@ fn unknown_name(protos: &Protos, statement: &Statement) -> Option<usize>
 
 // The place of the first of some uses that has its field, one of these, otherwise than that is.
 fn mixed_place(fields: &[FieldShape], uses: &[FieldUse]) -> Option<usize>
-    ensures { result ≡ option_map (λ u. u.name.at) (find (is_mixed (map (λ f. record { name = f.name.now; text = f.text }) fields.now)) uses.now) }
+    ensures { result ≡ option_map (λ u. u.name.at) (find (is_mixed (fields_in fields.now)) uses.now) }
 {
     'uses: for one in uses {
         if is_mixed(fields, one) {
@@ -143,7 +144,7 @@ fn mixed_place(fields: &[FieldShape], uses: &[FieldUse]) -> Option<usize>
 
 // Whether a use has its field as a number where that is a text, or as a text where that is a number.
 fn is_mixed(fields: &[FieldShape], one: &FieldUse) -> bool
-    ensures { result ≡ is_mixed (map (λ f. record { name = f.name.now; text = f.text }) fields.now) one.now }
+    ensures { result ≡ is_mixed (fields_in fields.now) one.now }
 {
     match one.text {
         Some(text) => text != is_text_name(fields, one.name),
@@ -153,7 +154,7 @@ fn is_mixed(fields: &[FieldShape], one: &FieldUse) -> bool
 
 // Whether the field of a name is a text.
 fn is_text_name(fields: &[FieldShape], name: &[u8]) -> bool
-    ensures { result ≡ is_text_name (map (λ f. record { name = f.name.now; text = f.text }) fields.now) name.now }
+    ensures { result ≡ is_text_name (fields_in fields.now) name.now }
 {
     match fields {
         [] => false,

@@ -1,11 +1,12 @@
 // What no shape may have.
-ghost use Rattle.std.specs.Prelude.{◌≡◌, ◌≤◌, ◌==◌, ◌<◌, ◌^◌, length, map, count_by};
+ghost use Rattle.std.specs.Prelude.{◌≡◌, ◌≤◌, ◌==◌, length, not, count_by};
 ghost use Rattle.std.specs.List.{list_all, list_any};
 ghost use Rattle.sg_facts.specs.Allowed.{count_args, each_arg, has_no_parents, is_never, is_text_field, leaves_known, leaves_own};
 ghost use Rattle.sg_facts.specs.Facts.{facts_of, fun_of_shape};
 ghost use Rattle.sg_facts.specs.Inside.Rows.{writes};
 ghost use Rattle.sg_facts.specs.Inside.Walking.{carries_arg};
 ghost use Rattle.sg_shape.specs.Flaws.{is_forbidden, replays};
+ghost use Rattle.sg_shape.specs.Inside.Parts.{fields_in};
 
 use crate::fault::ShapeFaultKind;
 use sg_facts::{Effect, FieldShape, FunShape, Kind, Leaves, Parents, Shape};
@@ -63,7 +64,7 @@ fn effects(fun: &FunShape) -> &'static [(u8, Effect)]
 
 // Whether the field of a number is a text.
 fn is_text_field(fields: &[FieldShape], number: u8) -> bool
-    ensures { result ≡ is_text_field (map (λ f. record { name = f.name.now; text = f.text }) fields.now) number }
+    ensures { result ≡ is_text_field (fields_in fields.now) number }
 {
     match fields.get(usize::from(number)) {
         Some(field) => field.text,

@@ -5,7 +5,7 @@ ghost use Rattle.sg_facts.specs.Facts.{fun_of_shape};
 ghost use Rattle.sg_facts.specs.Fields.{number_of};
 ghost use Rattle.sg_facts.specs.Limits.{most_fields, most_funs};
 ghost use Rattle.sg_shape.specs.Fields.{fields_of_text};
-ghost use Rattle.sg_shape.specs.Inside.Parts.{flags_said};
+ghost use Rattle.sg_shape.specs.Inside.Parts.{fields_in, flags_said};
 ghost use Rattle.sg_shape.specs.Limits.{most_params};
 ghost use Rattle.sg_shape.specs.Prototypes.{protos_of};
 ghost use Rattle.sg_shape.specs.ShapeOfText.{function_of, leaves_of, state_in, state_of};
@@ -28,7 +28,7 @@ pub fn fun_shapes(
     requires protos { protos.now ≡ protos_of statements.now }
     requires few_protos { length protos.now ≤ most_funs }
     requires few_params { All (λ p. length p.params ≤ most_params) protos.now }
-    requires fields { map (λ f. record { name = f.name.now; text = f.text }) fields.now ≡ fields_of_text statements.now }
+    requires fields { fields_in fields.now ≡ fields_of_text statements.now }
     requires few_fields { length fields.now ≤ most_fields }
     ensures { IfOk result (λ funs. map fun_of_shape funs.now ≡ map (function_of statements.now) protos.now) }
 {
@@ -50,7 +50,7 @@ fn fun_shape(
     requires protos { protos.now ≡ protos_of statements.now }
     requires few_protos { length protos.now ≤ most_funs }
     requires few_params { length proto.now.params ≤ most_params }
-    requires fields { map (λ f. record { name = f.name.now; text = f.text }) fields.now ≡ fields_of_text statements.now }
+    requires fields { fields_in fields.now ≡ fields_of_text statements.now }
     requires few_fields { length fields.now ≤ most_fields }
     ensures { IfOk result (λ f. fun_of_shape f ≡ function_of statements.now proto.now) }
 {

@@ -6,10 +6,11 @@
 //! - `making`: the shape of a text within the limits, part by part: `funs` its functions, `effects` what they do to fields, `params`
 //!   their parameters, `fields` its fields, `pairs` its transitions and recover steps
 //! - `protos`: the prototypes of a text; `uses`: the uses of fields in one
-//! - `keeping`: lists that are kept to the end of the program; `limits`: how large a text may be
+//! - `keeping`: lists that are kept to the end of the program; `adding`: lists that gain what is found; `limits`: how large a text may be
 //! - `laws`: laws of the definitions (`one_verdict`, `flawless_shapes`, `own_texts_fit`)
 #![tactic(auto)]
 
+mod adding;
 mod effects;
 mod fault;
 mod fields;
@@ -29,4 +30,5 @@ mod uses;
 pub use fault::{ShapeError, ShapeFault, ShapeFaultKind};
 pub use laws::{flawless_shapes, one_verdict, own_texts_fit};
 pub use limits::MOST_PARAMS;
+pub use sg_check_statements::{Tree, parse};
 pub use shaping::shape_of;

@@ -2,6 +2,7 @@
 ghost use Rattle.std.specs.Prelude.{◌≡◌, ◌+◌, ◌<◌, ◌≤◌, ◌^◌, length, IfOk};
 ghost use Rattle.sg_shape.specs.Prototypes.{names_of, number_from, proto_in, protos_of};
 
+use crate::adding::add;
 use sg_check_statements::{Param, Ret, Spelled, Statement};
 use sg_facts::{ListOf, NoMemory};
 use std::alloc::Global;
@@ -36,9 +37,7 @@ pub fn protos_of<'t, 'a>(
 {
     let mut protos = ProtoList::new(alloc);
     'statements: for statement in statements {
-        if let Some(proto) = proto_in(statement) {
-            protos.push(proto)?;
-        }
+        add(&mut protos, proto_in(statement))?;
     }
     Ok(protos)
 }

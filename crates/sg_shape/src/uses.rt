@@ -4,6 +4,7 @@ ghost use Rattle.std.specs.List.{filter_map, flat_map};
 ghost use Rattle.sg_shape.specs.Fields.{param_use, ret_use, uses_of, word_use};
 ghost use Rattle.sg_shape.specs.Prototypes.{protos_of};
 
+use crate::adding::add;
 use crate::protos::Proto;
 use sg_check_statements::{Param, Ret, Spelled, Statement, has_word};
 use sg_facts::{ListOf, NoMemory};
@@ -86,9 +87,7 @@ fn add_of_proto<'a>(uses: &mut UseList<'a>, params: &[Param<'a>]) -> Result<(), 
     ensures { OnOk result (uses.new ≡ uses.old ++ filter_map param_use params.now) }
 {
     'params: for param in params {
-        if let Some(found) = param_use(param) {
-            uses.push(found)?;
-        }
+        add(uses, param_use(param))?;
     }
     Ok(())
 }
@@ -98,9 +97,7 @@ fn add_rets<'a>(uses: &mut UseList<'a>, protos: &[Proto<'_, 'a>]) -> Result<(), 
     ensures { OnOk result (uses.new ≡ uses.old ++ filter_map (λ p. ret_use p.ret) protos.now) }
 {
     'protos: for proto in protos {
-        if let Some(found) = ret_use(proto.ret) {
-            uses.push(found)?;
-        }
+        add(uses, ret_use(proto.ret))?;
     }
     Ok(())
 }
@@ -110,9 +107,7 @@ fn add_words<'a>(uses: &mut UseList<'a>, statements: &[Statement<'a>]) -> Result
     ensures { OnOk result (uses.new ≡ uses.old ++ filter_map word_use statements.now) }
 {
     'statements: for statement in statements {
-        if let Some(found) = word_use(statement) {
-            uses.push(found)?;
-        }
+        add(uses, word_use(statement))?;
     }
     Ok(())
 }

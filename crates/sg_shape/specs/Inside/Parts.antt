@@ -1,8 +1,10 @@
 -- The parts of the definitions, by themselves.
-use Rattle.std.specs.Prelude.{ℕ, Bool, if◌then◌else◌, List, [], ◌∷◌, None, Some, codes}
+use Rattle.std.specs.Prelude.{ℕ, Bool, if◌then◌else◌, List, [], ◌∷◌, None, Some, codes, map}
 use Rattle.std.specs.declared.option.Option.{Option}
 use Rattle.sg_facts.specs.declared.shape.Effect.{Effect}
 use Rattle.sg_facts.specs.declared.shape.Effect.TheVariants.{SetArg, AddArg}
+use Rattle.sg_facts.specs.declared.shape.FieldShape.{FieldShape}
+use Rattle.sg_facts.specs.Facts.{Field}
 use Rattle.sg_check_statements.specs.Params.{has_word}
 use Rattle.sg_check_statements.specs.Says.{says}
 use Rattle.sg_check_statements.specs.sg_parse.declared.tree.Param.{Param}
@@ -20,3 +22,7 @@ flags_said statements f =
     says statements (codes "sm_creation") f ∷ says statements (codes "sm_terminal") f ∷ says statements (codes "sm_block") f
     ∷ says statements (codes "sm_wakeup") f ∷ says statements (codes "sm_query") f ∷ says statements (codes "sm_needs_all") f
     ∷ says statements (codes "resc_data") f ∷ []
+
+-- the fields of a shape as plain data
+abbrev pub fields_in : List FieldShape → List Field
+fields_in fields = map (λ f. record { name = f.name.now; text = f.text }) fields
