@@ -6,7 +6,7 @@ use Rattle.std.specs.Bool.{then_some}
 use Rattle.std.specs.List.{flat_map, list_all, list_any}
 use Rattle.std.specs.Option.{option_map}
 use Rattle.std.specs.Str.{bytes_eq}
-use Rattle.std.proofs.lemmas.Bool.{and_cases, and_from, and_parts, le-leb, leb-true, lt-ltb, not-false, not-true, or_right}
+use Rattle.std.proofs.lemmas.Bool.{and_from, eq-eqb, le-leb, not-false}
 use Rattle.std.proofs.lemmas.Bool.Decides.{nat_tests}
 use Rattle.std.proofs.lemmas.List.{length-map}
 use Rattle.std.proofs.lemmas.List.Folds.{list_all-append, list_all-map}
@@ -154,45 +154,46 @@ module _ (facts : Facts) (good : (k : ℕ) (f : Fun) → slice_get facts.funs k 
       ((good n f.0 f.1).none ReplayWrites) (good n f.0 f.1).among (good n f.0 f.1).callers ((good n f.0 f.1).none ReplayUnknown))
       (each_well n (omega arith))
 
-  -- a recover step makes no descriptor
+  -- a function that is a recover step makes no descriptor
+  not_made : (c s : Bool) → s ≡ true → (c && s) ≡ false → not c ≡ true
+  not_made false s is none = refl
+  not_made true true is none = absurd (cc none)
+  not_made true false is none = absurd (cc is)
+
+  no_maker : (n : ℕ) (o : Option Fun) → slice_get facts.funs n ≡ o → list_any (λ t. t.1 == suc n) facts.steps ≡ true → not (unwrap_or o no_fun).creation ≡ true
+  no_maker n None at told = refl
+  no_maker n (Some f) at told = not_made f.creation (list_any (λ t. t.1 == suc n) facts.steps) told ((good n f at).none RecoverMakes)
+
+  no_step_maker : (n : ℕ) → list_any (λ t. t.1 == n) facts.steps ≡ true → not (fun_at facts.funs n).creation ≡ true
+  no_step_maker zero told = refl
+  no_step_maker (suc n) told = no_maker n (slice_get facts.funs n) refl told
+
   no_step_makes : steps_make_none facts ≡ true
-  no_step_makes = all_pass (λ s. not (fun_at facts.funs s.1).creation) facts.steps (λ k s at. by s.1 (slice_get facts.funs) (some_passes (λ t. t.1 == s.1) facts.steps k s at (own s.1)))
+  no_step_makes =
+      all_pass (λ s. not (fun_at facts.funs s.1).creation) facts.steps
+      (λ k s at. no_step_maker s.1 (some_passes (λ t. t.1 == s.1) facts.steps k s at (eq-eqb s.1 s.1 refl)))
+
+  -- a private service doesn't look around
+  none_looks : not facts.global ≡ true → list_all (λ f. not f.all) facts.funs ≡ true
+  none_looks told = all_pass (λ f. not f.all) facts.funs (λ k f at. not_all f.all (ap (λ b. b && f.all) (sym told) ∙ (good k f at).none PrivateLooksAround))
     where
-      own : (n : ℕ) → (n == n) ≡ true
-      own n = grind (arith, nat_tests)
+      not_all : (a : Bool) → (true && a) ≡ false → not a ≡ true
+      not_all false no = refl
+      not_all true no = absurd (cc no)
 
-      by : (n : ℕ) (found : ℕ → Option Fun) → list_any (λ t. t.1 == n) facts.steps ≡ true → not (fun_at facts.funs n).creation ≡ true
-      by zero found told = refl
-      by (suc n) found told = made (slice_get facts.funs n) refl
-        where
-          made : (o : Option Fun) → slice_get facts.funs n ≡ o → not (unwrap_or (slice_get facts.funs n) no_fun).creation ≡ true
-          made None is = ap (λ o. not (unwrap_or o no_fun).creation) is
-          made (Some f) is =
-              ap (λ o. not (unwrap_or o no_fun).creation) is
-              ∙ not_made f.creation (list_any (λ t. t.1 == suc n) facts.steps) told ((good n f is).none RecoverMakes)
-
-          not_made : (c s : Bool) → s ≡ true → (c && s) ≡ false → not c ≡ true
-          not_made false s is none = refl
-          not_made true true is none = absurd (cc none)
-          not_made true false is none = absurd (cc is)
-
-  private : (not facts.global && is_cross facts.parents) ≡ false → keeps_private facts ≡ true
-  private none = by (not facts.global) (is_cross facts.parents) refl none
+  keeps_apart : (not facts.global && is_cross facts.parents) ≡ false → keeps_private facts ≡ true
+  keeps_apart none = by (not facts.global) (is_cross facts.parents) refl none
     where
       by : (g x : Bool) → not facts.global ≡ g → (g && x) ≡ false → implies g (not x && list_all (λ f. not f.all) facts.funs) ≡ true
       by false x told is = refl
       by true true told is = absurd (cc is)
-      by true false told is = all_pass (λ f. not f.all) facts.funs (λ k f at. not_all f.all (ap (λ b. b && f.all) (sym told) ∙ (good k f at).none PrivateLooksAround))
-        where
-          not_all : (a : Bool) → (true && a) ≡ false → not a ≡ true
-          not_all false no = refl
-          not_all true no = absurd (cc no)
+      by true false told is = none_looks told
 
   pub allowed : length facts.fields ≤ 8 → (not facts.global && is_cross facts.parents) ≡ false → is_allowed facts ≡ true
   allowed few none =
       and_from _ _ (and_from _ _ (and_from _ _ (and_from _ _ (and_from _ _ (and_from _ _
       (le-leb (length facts.fields) 8 few)
-      (private none))
+      (keeps_apart none))
       (all_pass (keeps_to facts) facts.funs (λ k f at. keeps facts (suc k) f (good k f at))))
       (each_carried (length facts.funs) (omega arith)))
       (all_pass (acts_on_one facts) facts.funs (λ k f at. acts facts (suc k) f (good k f at))))

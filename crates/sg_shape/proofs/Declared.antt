@@ -62,19 +62,28 @@ args_among : (most k : ℕ) (params : List Param) → k + count_args (map kind_o
 args_among most k [] within = refl
 args_among most k (p ∷ params) within =
     by (has_word p.form (codes "desc")) (has_word p.form (codes "parent_desc")) (p.ty.stars == 0) (has_word p.form (codes "desc_data")) (has_word p.form (codes "desc_data_add")) within
+    (λ j fits. args_among most j params fits)
   where
+    one : (e : On) (more : List On) → takes_among most e.1 ≡ true → list_all (λ d. takes_among most d.1) more ≡ true → list_all (λ d. takes_among most d.1) (e ∷ more) ≡ true
+    one e more first rest = and_from (takes_among most e.1) (list_all (λ d. takes_among most d.1) more) first rest
+
+    -- an argument, whether it is a number or a text
+    by_effect : (t a : Bool) → k + 1 + count_args (map kind_of params) ≤ most → list_all (λ e. takes_among most e.1) (arg_effects (k + 1) params) ≡ true
+        → list_all (λ e. takes_among most e.1) (if t then (p.name.bytes, SetArg k) ∷ arg_effects (k + 1) params
+        else (if a then (p.name.bytes, AddArg k) ∷ arg_effects (k + 1) params else arg_effects (k + 1) params)) ≡ true
+    by_effect true a fits rest = one (p.name.bytes, SetArg k) (arg_effects (k + 1) params) (lt-ltb k most (omega (arith, fits))) rest
+    by_effect false true fits rest = one (p.name.bytes, AddArg k) (arg_effects (k + 1) params) (lt-ltb k most (omega (arith, fits))) rest
+    by_effect false false fits rest = rest
+
     by : (d q s t a : Bool) → k + count_args ((if d then Desc else (if q then Parent else (if s then Word else Text))) ∷ map kind_of params) ≤ most
+        → ((j : ℕ) → j + count_args (map kind_of params) ≤ most → list_all (λ e. takes_among most e.1) (arg_effects j params) ≡ true)
         → list_all (λ e. takes_among most e.1) (if d || q then arg_effects k params
         else (if t then (p.name.bytes, SetArg k) ∷ arg_effects (k + 1) params
         else (if a then (p.name.bytes, AddArg k) ∷ arg_effects (k + 1) params else arg_effects (k + 1) params))) ≡ true
-    by true q s t a fits = args_among most k params fits
-    by false true s t a fits = args_among most k params fits
-    by false false true true a fits = and_from (nat_lt k most) (list_all (λ e. takes_among most e.1) (arg_effects (k + 1) params)) (lt-ltb k most (omega (arith, fits))) (args_among most (k + 1) params (omega (arith, fits)))
-    by false false false true a fits = and_from (nat_lt k most) (list_all (λ e. takes_among most e.1) (arg_effects (k + 1) params)) (lt-ltb k most (omega (arith, fits))) (args_among most (k + 1) params (omega (arith, fits)))
-    by false false true false true fits = and_from (nat_lt k most) (list_all (λ e. takes_among most e.1) (arg_effects (k + 1) params)) (lt-ltb k most (omega (arith, fits))) (args_among most (k + 1) params (omega (arith, fits)))
-    by false false false false true fits = and_from (nat_lt k most) (list_all (λ e. takes_among most e.1) (arg_effects (k + 1) params)) (lt-ltb k most (omega (arith, fits))) (args_among most (k + 1) params (omega (arith, fits)))
-    by false false true false false fits = args_among most (k + 1) params (omega (arith, fits))
-    by false false false false false fits = args_among most (k + 1) params (omega (arith, fits))
+    by true q s t a fits rest = rest k fits
+    by false true s t a fits rest = rest k fits
+    by false false true t a fits rest = let more : k + 1 + count_args (map kind_of params) ≤ most = omega (arith, fits) in by_effect t a more (rest (k + 1) more)
+    by false false false t a fits rest = let more : k + 1 + count_args (map kind_of params) ≤ most = omega (arith, fits) in by_effect t a more (rest (k + 1) more)
 
 said_among : (most : ℕ) (f : List ℕ) (s : Statement) → list_all (λ e. takes_among most e.1) (statement_effects f s) ≡ true
 said_among most f (One word fun) = refl
@@ -101,15 +110,18 @@ effects_among statements f ret caller later =
 
 args_into : (name : List ℕ) (k : ℕ) (params : List Param) → list_all (into name) (arg_effects k params) ≡ true
 args_into name k [] = refl
-args_into name k (p ∷ params) = by (has_word p.form (codes "desc") || has_word p.form (codes "parent_desc")) (has_word p.form (codes "desc_data")) (has_word p.form (codes "desc_data_add"))
+args_into name k (p ∷ params) =
+    by (has_word p.form (codes "desc") || has_word p.form (codes "parent_desc")) (has_word p.form (codes "desc_data")) (has_word p.form (codes "desc_data_add"))
+    (args_into name k params) (args_into name (k + 1) params)
   where
-    by : (d t a : Bool) → list_all (into name) (if d then arg_effects k params
+    by : (d t a : Bool) → list_all (into name) (arg_effects k params) ≡ true → list_all (into name) (arg_effects (k + 1) params) ≡ true
+        → list_all (into name) (if d then arg_effects k params
         else (if t then (p.name.bytes, SetArg k) ∷ arg_effects (k + 1) params
         else (if a then (p.name.bytes, AddArg k) ∷ arg_effects (k + 1) params else arg_effects (k + 1) params))) ≡ true
-    by true t a = args_into name k params
-    by false true a = args_into name (k + 1) params
-    by false false true = args_into name (k + 1) params
-    by false false false = args_into name (k + 1) params
+    by true t a same next = same
+    by false true a same next = next
+    by false false true same next = next
+    by false false false same next = next
 
 said_into : (name f : List ℕ) (s : Statement) → list_all (into name) (statement_effects f s) ≡ true
 said_into name f (One word fun) = refl
@@ -144,18 +156,22 @@ args_named : (names : List (List ℕ)) (k : ℕ) (params : List Param) → list_
 args_named names k [] all = refl
 args_named names k (p ∷ params) all =
     by (has_word p.form (codes "desc") || has_word p.form (codes "parent_desc")) (has_word p.form (codes "desc_data")) (has_word p.form (codes "desc_data_add")) parts.0
+    (args_named names k params parts.1) (args_named names (k + 1) params parts.1)
   where
     parts : ((u : Use) → param_use p ≡ Some u → named names u ≡ true) × (list_all (named names) (filter_map param_use params) ≡ true)
     parts = one_gathered (named names) (param_use p) (filter_map param_use params) all
 
     by : (d t a : Bool) → ((u : Use) → (if t || a then Some (record { name = p.name; text = Some (not (p.ty.stars == 0)) }) else None) ≡ Some u → named names u ≡ true)
+        → list_all (among names) (arg_effects k params) ≡ true → list_all (among names) (arg_effects (k + 1) params) ≡ true
         → list_all (among names) (if d then arg_effects k params
         else (if t then (p.name.bytes, SetArg k) ∷ arg_effects (k + 1) params
         else (if a then (p.name.bytes, AddArg k) ∷ arg_effects (k + 1) params else arg_effects (k + 1) params))) ≡ true
-    by true t a found = args_named names k params parts.1
-    by false true a found = and_from (has_name names p.name.bytes) (list_all (among names) (arg_effects (k + 1) params)) (found (record { name = p.name; text = Some (not (p.ty.stars == 0)) }) refl) (args_named names (k + 1) params parts.1)
-    by false false true found = and_from (has_name names p.name.bytes) (list_all (among names) (arg_effects (k + 1) params)) (found (record { name = p.name; text = Some (not (p.ty.stars == 0)) }) refl) (args_named names (k + 1) params parts.1)
-    by false false false found = args_named names (k + 1) params parts.1
+    by true t a found same next = same
+    by false true a found same next =
+        and_from (has_name names p.name.bytes) (list_all (among names) (arg_effects (k + 1) params)) (found (record { name = p.name; text = Some (not (p.ty.stars == 0)) }) refl) next
+    by false false true found same next =
+        and_from (has_name names p.name.bytes) (list_all (among names) (arg_effects (k + 1) params)) (found (record { name = p.name; text = Some (not (p.ty.stars == 0)) }) refl) next
+    by false false false found same next = next
 
 caller_named : (names : List (List ℕ)) (caller : Param) → ((u : Use) → param_use caller ≡ Some u → named names u ≡ true) → list_all (among names) (caller_effects (caller ∷ [])) ≡ true
 caller_named names caller found = by (has_word caller.form (codes "desc_data")) (has_word caller.form (codes "desc_data_add")) found

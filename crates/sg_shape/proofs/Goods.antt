@@ -5,7 +5,7 @@ use Rattle.std.specs.declared.option.Option.{Option}
 use Rattle.std.specs.Bool.{then_some}
 use Rattle.std.specs.List.{list_any, list_all}
 use Rattle.std.specs.Option.{option_map}
-use Rattle.std.proofs.lemmas.Bool.{and_parts, le-leb, leb-true, not-false, or_cases, or_left, or_right}
+use Rattle.std.proofs.lemmas.Bool.{and_parts, le-leb, leb-true, not-false, or_left, or_right}
 use Rattle.std.proofs.lemmas.List.{length-map}
 use Rattle.std.proofs.lemmas.List.Sums.{sum_by-cons}
 use Rattle.std.proofs.lemmas.Option.{slice_get-map}
@@ -43,33 +43,35 @@ counted p params = sum_by-cons (λ q. cond (is_id_param q) 1 0) p params
 some_id : (params : List Param) → (list_any is_desc (map kind_of params) || list_any is_parent (map kind_of params)) ≡ true → 1 ≤ count_by is_id_param params
 some_id [] is = absurd (cc is)
 some_id (p ∷ params) is =
-    let most : 1 ≤ cond (is_id_param p) 1 0 + count_by is_id_param params = by (has_word p.form (codes "desc")) (has_word p.form (codes "parent_desc")) (p.ty.stars == 0) is in
+    let most = by (has_word p.form (codes "desc")) (has_word p.form (codes "parent_desc")) (p.ty.stars == 0) is (λ later. some_id params later) in
     omega (arith, most, counted p params)
   where
     by : (d q s : Bool) → (list_any is_desc ((if d then Desc else (if q then Parent else (if s then Word else Text))) ∷ map kind_of params)
         || list_any is_parent ((if d then Desc else (if q then Parent else (if s then Word else Text))) ∷ map kind_of params)) ≡ true
+        → ((list_any is_desc (map kind_of params) || list_any is_parent (map kind_of params)) ≡ true → 1 ≤ count_by is_id_param params)
         → 1 ≤ cond (d || q) 1 0 + count_by is_id_param params
-    by true q s is = omega arith
-    by false true s is = omega arith
-    by false false true is = let rest = some_id params is in omega (arith, rest)
-    by false false false is = let rest = some_id params is in omega (arith, rest)
+    by true q s is later = omega arith
+    by false true s is later = omega arith
+    by false false true is later = let rest = later is in omega (arith, rest)
+    by false false false is later = let rest = later is in omega (arith, rest)
 
 -- where one is a descriptor and one a parent there are two
 two_ids : (params : List Param) → (list_any is_desc (map kind_of params) && list_any is_parent (map kind_of params)) ≡ true → 2 ≤ count_by is_id_param params
 two_ids [] is = absurd (cc is)
 two_ids (p ∷ params) is =
-    let most : 2 ≤ cond (is_id_param p) 1 0 + count_by is_id_param params = by (has_word p.form (codes "desc")) (has_word p.form (codes "parent_desc")) (p.ty.stars == 0) is in
+    let most = by (has_word p.form (codes "desc")) (has_word p.form (codes "parent_desc")) (p.ty.stars == 0) is (λ later. two_ids params later) in
     omega (arith, most, counted p params)
   where
     by : (d q s : Bool) → (list_any is_desc ((if d then Desc else (if q then Parent else (if s then Word else Text))) ∷ map kind_of params)
         && list_any is_parent ((if d then Desc else (if q then Parent else (if s then Word else Text))) ∷ map kind_of params)) ≡ true
+        → ((list_any is_desc (map kind_of params) && list_any is_parent (map kind_of params)) ≡ true → 2 ≤ count_by is_id_param params)
         → 2 ≤ cond (d || q) 1 0 + count_by is_id_param params
-    by true q s is =
+    by true q s is later =
         let rest = some_id params (or_right (list_any is_desc (map kind_of params)) (list_any is_parent (map kind_of params)) is) in omega (arith, rest)
-    by false true s is =
+    by false true s is later =
         let rest = some_id params (or_left (list_any is_desc (map kind_of params)) (list_any is_parent (map kind_of params)) (and_parts (list_any is_desc (map kind_of params)) true is).0) in omega (arith, rest)
-    by false false true is = let rest = two_ids params is in omega (arith, rest)
-    by false false false is = let rest = two_ids params is in omega (arith, rest)
+    by false false true is later = let rest = later is in omega (arith, rest)
+    by false false false is later = let rest = later is in omega (arith, rest)
 
 apart_where : (params : List Param) → nat_le (count_by is_id_param params) 1 ≡ true → (list_any is_desc (map kind_of params) && list_any is_parent (map kind_of params)) ≡ false
 apart_where params few = by (list_any is_desc (map kind_of params) && list_any is_parent (map kind_of params)) refl
@@ -138,13 +140,13 @@ module _ (tree : Tree) (sound : HasNoShapeFlaw tree) where
   not_told true at is = absurd (cc is)
   not_told false at is = refl
 
-  private : (not (shape_of_text tree).global && is_cross (shape_of_text tree).parents) ≡ false
+  apart : (not (shape_of_text tree).global && is_cross (shape_of_text tree).parents) ≡ false
   unfolding place_of
-  private =
+  apart =
       not_told (not (shape_of_text tree).global && is_cross (shape_of_text tree).parents) tree.facts.parent.at
       (neither (then_some (not (shape_of_text tree).global && is_cross (shape_of_text tree).parents) tree.facts.parent.at)
       (first_proto (is_flawed PrivateLooksAround (shape_of_text tree) tree.statements) tree.statements) (sound PrivateLooksAround)).0
 
   -- the shape keeps to what every shape keeps to
   pub keeps : is_allowed (shape_of_text tree) ≡ true
-  keeps = allowed (shape_of_text tree) good few private
+  keeps = allowed (shape_of_text tree) good few apart

@@ -131,12 +131,13 @@ module _ (F : Prototype → Fun) (named : (p : Prototype) → (F p).name ≡ p.n
 pub placed : (n : ℕ) (names : List (List ℕ)) (name : List ℕ) → has_name names name ≡ true
     → (k : ℕ) × (number_from n names name ≡ n + k) × (slice_get names k ≡ Some name)
 placed n [] name among = absurd (cc among)
-placed n (other ∷ names) name among = by (bytes_eq other name) refl among
+placed n (other ∷ names) name among = by (bytes_eq other name) refl among (λ more. placed (n + 1) names name more)
   where
     by : (b : Bool) → bytes_eq other name ≡ b → (b || has_name names name) ≡ true
+        → (has_name names name ≡ true → (k : ℕ) × (number_from (n + 1) names name ≡ n + 1 + k) × (slice_get names k ≡ Some name))
         → (k : ℕ) × ((if b then n else number_from (n + 1) names name) ≡ n + k) × (slice_get (other ∷ names) k ≡ Some name)
-    by true told is = (0, omega arith, ap Some (same_bytes other name told))
-    by false told is =
-        let rest = placed (n + 1) names name is in
+    by true told is later = (0, omega arith, ap Some (same_bytes other name told))
+    by false told is later =
+        let rest = later is in
         let more : n + 1 + rest.0 ≡ n + suc rest.0 = omega arith in
         (suc rest.0, rest.1 ∙ more, rest.2)

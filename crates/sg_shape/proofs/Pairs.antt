@@ -2,7 +2,7 @@
 use Rattle.std.proofs.Common.{◌≡◌, ℕ, zero, suc, ◌+◌, ◌-◌, ◌<◌, ◌≤◌, ◌==◌, Bool, true, false, cond, ◌&&◌, ◌||◌, List, [], ◌∷◌, ◌++◌, map, refl, sym, ◌∙◌, ap, arith}
 use Rattle.std.specs.Prelude.{filter, nat_le}
 use Rattle.std.specs.List.{flat_map, list_all, list_any, range_with_len}
-use Rattle.std.proofs.lemmas.Bool.{and_from, and_parts, eqb-true, eq-eqb, le-leb, leb-true, or_left, or_right}
+use Rattle.std.proofs.lemmas.Bool.{and_from, and_parts, eqb-false, eqb-true, le-leb, or_left, or_right}
 use Rattle.std.proofs.lemmas.List.Folds.{list_all-append}
 use Rattle.sg_facts.specs.Interface.{has_pair}
 use Rattle.sg_check_statements.specs.Shapes.{are_funs, is_fun}
@@ -38,28 +38,23 @@ all_within named count = all_kept (are_funs count) (λ p. has_pair named p.0 p.1
 
 in_range : (a s n : ℕ) → s ≤ a → a < s + n → list_any (λ x. x == a) (range_with_len s n) ≡ true
 in_range a s zero low high = absurd (omega arith)
-in_range a s (suc n) low high = by (s == a) refl
+in_range a s (suc n) low high = by (s == a) refl (λ more. in_range a (s + 1) n more (omega arith))
   where
-    by : (b : Bool) → (s == a) ≡ b → (b || list_any (λ x. x == a) (range_with_len (s + 1) n)) ≡ true
-    by true told = refl
-    by false told = in_range a (s + 1) n (above told) (omega arith)
-      where
-        above : (s == a) ≡ false → s + 1 ≤ a
-        above other = not_equal (λ same. let wrong : true ≡ false = sym (eq-eqb s a same) ∙ other in cc wrong)
-          where
-            not_equal : (s ≡ a → ⊥) → s + 1 ≤ a
-            not_equal apart = omega (arith, apart)
+    by : (b : Bool) → (s == a) ≡ b → (s + 1 ≤ a → list_any (λ x. x == a) (range_with_len (s + 1) n) ≡ true) → (b || list_any (λ x. x == a) (range_with_len (s + 1) n)) ≡ true
+    by true told rest = refl
+    by false told rest = let apart = eqb-false s a told in rest (omega (arith, apart))
 
 -- what passes stays where all that passes is kept
 still_any : {X : Type 0} (test keep : X → Bool) → ((x : X) → test x ≡ true → keep x ≡ true) → (xs : List X) → list_any test xs ≡ true → list_any test (filter keep xs) ≡ true
 still_any test keep kept [] some = some
-still_any test keep kept (x ∷ xs) some = by (test x) (keep x) refl refl some
+still_any test keep kept (x ∷ xs) some = by (test x) (keep x) refl refl some (λ later. still_any test keep kept xs later)
   where
-    by : (b c : Bool) → test x ≡ b → keep x ≡ c → (b || list_any test xs) ≡ true → list_any test (cond c (x ∷ filter keep xs) (filter keep xs)) ≡ true
-    by true true told held is = or_left (test x) (list_any test (filter keep xs)) told
-    by true false told held is = let wrong : true ≡ false = sym (kept x told) ∙ held in absurd (cc wrong)
-    by false true told held is = or_right (test x) (list_any test (filter keep xs)) (still_any test keep kept xs is)
-    by false false told held is = still_any test keep kept xs is
+    by : (b c : Bool) → test x ≡ b → keep x ≡ c → (b || list_any test xs) ≡ true → (list_any test xs ≡ true → list_any test (filter keep xs) ≡ true)
+        → list_any test (cond c (x ∷ filter keep xs) (filter keep xs)) ≡ true
+    by true true told held is rest = or_left (test x) (list_any test (filter keep xs)) told
+    by true false told held is rest = let wrong : true ≡ false = sym (kept x told) ∙ held in absurd (cc wrong)
+    by false true told held is rest = or_right (test x) (list_any test (filter keep xs)) (rest is)
+    by false false told held is rest = rest is
 
 any_agree : {X : Type 0} (p q : X → Bool) → ((x : X) → p x ≡ q x) → (xs : List X) → list_any p xs ≡ list_any q xs
 any_agree p q same [] = refl

@@ -107,8 +107,9 @@ at_split (y ∷ before) x after = at_split before x after
 -- what is found is at a place, and passes
 pub found_at : {X : Type 0} (test : X → Bool) (xs : List X) (x : X) → find test xs ≡ Some x → (k : ℕ) × (slice_get xs k ≡ Some x) × (test x ≡ true)
 found_at test [] x is = absurd (cc is)
-found_at test (y ∷ xs) x is = by (test y) refl is
+found_at test (y ∷ xs) x is = by (test y) refl is (λ found. found_at test xs x found)
   where
-    by : (b : Bool) → test y ≡ b → cond b (Some y) (find test xs) ≡ Some x → (k : ℕ) × (slice_get (y ∷ xs) k ≡ Some x) × (test x ≡ true)
-    by true told found = let same : y ≡ x = cc found in (0, ap Some same, ap test (sym same) ∙ told)
-    by false told found = let rest = found_at test xs x found in (suc rest.0, rest.1, rest.2)
+    by : (b : Bool) → test y ≡ b → cond b (Some y) (find test xs) ≡ Some x → (find test xs ≡ Some x → (k : ℕ) × (slice_get xs k ≡ Some x) × (test x ≡ true))
+        → (k : ℕ) × (slice_get (y ∷ xs) k ≡ Some x) × (test x ≡ true)
+    by true told found later = let same : y ≡ x = cc found in (0, ap Some same, ap test (sym same) ∙ told)
+    by false told found later = let rest = later found in (suc rest.0, rest.1, rest.2)

@@ -38,12 +38,13 @@ use Rattle.sg_shape.proofs.Places.{all_pass, neither}
 pub said_at : (f : List ℕ) (statements : List Statement) (g : List ℕ) → state_of f statements ≡ Some g
     → (k : ℕ) × (s : Statement) × (slice_get statements k ≡ Some s) × (state_in f s ≡ Some g)
 said_at f [] g is = absurd (cc is)
-said_at f (s ∷ statements) g is = by (state_in f s) refl is
+said_at f (s ∷ statements) g is = by (state_in f s) refl is (λ later. said_at f statements g later)
   where
     by : (o : Option (List ℕ)) → state_in f s ≡ o → option_or o (state_of f statements) ≡ Some g
+        → (state_of f statements ≡ Some g → (k : ℕ) × (t : Statement) × (slice_get statements k ≡ Some t) × (state_in f t ≡ Some g))
         → (k : ℕ) × (t : Statement) × (slice_get (s ∷ statements) k ≡ Some t) × (state_in f t ≡ Some g)
-    by None told later = let rest = said_at f statements g later in (suc rest.0, rest.1, rest.2, rest.3)
-    by (Some h) told here = let same : h ≡ g = cc here in (0, s, refl, told ∙ ap Some same)
+    by None told there later = let rest = later there in (suc rest.0, rest.1, rest.2, rest.3)
+    by (Some h) told here later = let same : h ≡ g = cc here in (0, s, refl, told ∙ ap Some same)
 
 not_told : (b : Bool) (at : ℕ) → then_some b at ≡ None → b ≡ false
 not_told true at is = absurd (cc is)

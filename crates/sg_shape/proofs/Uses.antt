@@ -26,32 +26,35 @@ field_names (u ∷ uses) = ap (λ l. u.name.bytes ∷ l) (field_names uses)
 -- a name that isn't among names isn't among those that a filter keeps
 still_none : (keep : Use → Bool) (uses : List Use) (n : List ℕ) → has_name (use_names uses) n ≡ false → has_name (use_names (filter keep uses)) n ≡ false
 still_none keep [] n none = refl
-still_none keep (u ∷ uses) n none = by (keep u) (bytes_eq u.name.bytes n) refl none
+still_none keep (u ∷ uses) n none = by (keep u) (bytes_eq u.name.bytes n) refl none (λ later. still_none keep uses n later)
   where
-    by : (b c : Bool) → bytes_eq u.name.bytes n ≡ c → (c || has_name (use_names uses) n) ≡ false → has_name (use_names (cond b (u ∷ filter keep uses) (filter keep uses))) n ≡ false
-    by b true told is = absurd (cc is)
-    by true false told is = ap (λ d. d || has_name (use_names (filter keep uses)) n) told ∙ still_none keep uses n is
-    by false false told is = still_none keep uses n is
+    by : (b c : Bool) → bytes_eq u.name.bytes n ≡ c → (c || has_name (use_names uses) n) ≡ false
+        → (has_name (use_names uses) n ≡ false → has_name (use_names (filter keep uses)) n ≡ false)
+        → has_name (use_names (cond b (u ∷ filter keep uses) (filter keep uses))) n ≡ false
+    by b true told is rest = absurd (cc is)
+    by true false told is rest = ap (λ d. d || has_name (use_names (filter keep uses)) n) told ∙ rest is
+    by false false told is rest = rest is
 
 still_differ : (keep : Use → Bool) (uses : List Use) → all_differ (use_names uses) ≡ true → all_differ (use_names (filter keep uses)) ≡ true
 still_differ keep [] differ = refl
-still_differ keep (u ∷ uses) differ = by (keep u) (has_name (use_names uses) u.name.bytes) refl differ
+still_differ keep (u ∷ uses) differ = by (keep u) (has_name (use_names uses) u.name.bytes) refl differ (λ later. still_differ keep uses later)
   where
     by : (b c : Bool) → has_name (use_names uses) u.name.bytes ≡ c → (not c && all_differ (use_names uses)) ≡ true
+        → (all_differ (use_names uses) ≡ true → all_differ (use_names (filter keep uses)) ≡ true)
         → all_differ (use_names (cond b (u ∷ filter keep uses) (filter keep uses))) ≡ true
-    by b true told is = absurd (cc is)
-    by true false told is = ap (λ d. not d && all_differ (use_names (filter keep uses))) (still_none keep uses u.name.bytes told) ∙ still_differ keep uses is
-    by false false told is = still_differ keep uses is
+    by b true told is rest = absurd (cc is)
+    by true false told is rest = ap (λ d. not d && all_differ (use_names (filter keep uses))) (still_none keep uses u.name.bytes told) ∙ rest is
+    by false false told is rest = rest is
 
 -- what a filter keeps of uses of other fields has not this one's name
 others_differ : (u : Use) (uses : List Use) → has_name (use_names (filter (is_of_another u) uses)) u.name.bytes ≡ false
 others_differ u [] = refl
-others_differ u (v ∷ uses) = by (bytes_eq v.name.bytes u.name.bytes) refl
+others_differ u (v ∷ uses) = by (bytes_eq v.name.bytes u.name.bytes) refl (others_differ u uses)
   where
-    by : (b : Bool) → bytes_eq v.name.bytes u.name.bytes ≡ b
+    by : (b : Bool) → bytes_eq v.name.bytes u.name.bytes ≡ b → has_name (use_names (filter (is_of_another u) uses)) u.name.bytes ≡ false
         → has_name (use_names (cond (not b) (v ∷ filter (is_of_another u) uses) (filter (is_of_another u) uses))) u.name.bytes ≡ false
-    by true told = others_differ u uses
-    by false told = ap (λ d. d || has_name (use_names (filter (is_of_another u) uses)) u.name.bytes) told ∙ others_differ u uses
+    by true told rest = rest
+    by false told rest = ap (λ d. d || has_name (use_names (filter (is_of_another u) uses)) u.name.bytes) told ∙ rest
 
 -- the first uses are of different fields
 pub first_differ : (uses : List Use) → all_differ (use_names (first_uses uses)) ≡ true
@@ -66,29 +69,33 @@ first_differ (u ∷ uses) =
 still_named : (u : Use) (uses : List Use) (n : List ℕ) → has_name (use_names uses) n ≡ true
     → (bytes_eq u.name.bytes n || has_name (use_names (filter (is_of_another u) uses)) n) ≡ true
 still_named u [] n among = absurd (cc among)
-still_named u (v ∷ uses) n among = by (bytes_eq u.name.bytes n) (bytes_eq v.name.bytes u.name.bytes) (bytes_eq v.name.bytes n) refl refl refl among
+still_named u (v ∷ uses) n among =
+    by (bytes_eq u.name.bytes n) (bytes_eq v.name.bytes u.name.bytes) (bytes_eq v.name.bytes n) refl refl refl among (λ later. still_named u uses n later)
   where
     by : (a b c : Bool) → bytes_eq u.name.bytes n ≡ a → bytes_eq v.name.bytes u.name.bytes ≡ b → bytes_eq v.name.bytes n ≡ c → (c || has_name (use_names uses) n) ≡ true
+        → (has_name (use_names uses) n ≡ true → (bytes_eq u.name.bytes n || has_name (use_names (filter (is_of_another u) uses)) n) ≡ true)
         → (a || has_name (use_names (cond (not b) (v ∷ filter (is_of_another u) uses) (filter (is_of_another u) uses))) n) ≡ true
-    by true b c here same other is = refl
-    by false true true here same other is =
+    by true b c here same other is rest = refl
+    by false true true here same other is rest =
         let one : v.name.bytes ≡ u.name.bytes = same_bytes v.name.bytes u.name.bytes same in
         let wrong : true ≡ false = sym other ∙ ap (λ m. bytes_eq m n) one ∙ here in
         absurd (cc wrong)
-    by false true false here same other is = ap (λ d. d || has_name (use_names (filter (is_of_another u) uses)) n) (sym here) ∙ still_named u uses n is
-    by false false true here same other is = ap (λ d. d || has_name (use_names (filter (is_of_another u) uses)) n) other
-    by false false false here same other is =
+    by false true false here same other is rest = ap (λ d. d || has_name (use_names (filter (is_of_another u) uses)) n) (sym here) ∙ rest is
+    by false false true here same other is rest = ap (λ d. d || has_name (use_names (filter (is_of_another u) uses)) n) other
+    by false false false here same other is rest =
         ap (λ d. d || has_name (use_names (filter (is_of_another u) uses)) n) other
-        ∙ ap (λ d. d || has_name (use_names (filter (is_of_another u) uses)) n) (sym here) ∙ still_named u uses n is
+        ∙ ap (λ d. d || has_name (use_names (filter (is_of_another u) uses)) n) (sym here) ∙ rest is
 
 -- each name of a use is that of a first use
 pub first_named : (uses : List Use) (n : List ℕ) → has_name (use_names uses) n ≡ true → has_name (use_names (first_uses uses)) n ≡ true
 first_named [] n among = among
-first_named (u ∷ uses) n among = by (bytes_eq u.name.bytes n) refl among
+first_named (u ∷ uses) n among = by (bytes_eq u.name.bytes n) refl among (λ later. still_named u (first_uses uses) n (first_named uses n later))
   where
-    by : (a : Bool) → bytes_eq u.name.bytes n ≡ a → (a || has_name (use_names uses) n) ≡ true → (bytes_eq u.name.bytes n || has_name (use_names (filter (is_of_another u) (first_uses uses))) n) ≡ true
-    by true told is = ap (λ d. d || has_name (use_names (filter (is_of_another u) (first_uses uses))) n) told
-    by false told is = still_named u (first_uses uses) n (first_named uses n is)
+    by : (a : Bool) → bytes_eq u.name.bytes n ≡ a → (a || has_name (use_names uses) n) ≡ true
+        → (has_name (use_names uses) n ≡ true → (bytes_eq u.name.bytes n || has_name (use_names (filter (is_of_another u) (first_uses uses))) n) ≡ true)
+        → (bytes_eq u.name.bytes n || has_name (use_names (filter (is_of_another u) (first_uses uses))) n) ≡ true
+    by true told is rest = ap (λ d. d || has_name (use_names (filter (is_of_another u) (first_uses uses))) n) told
+    by false told is rest = rest is
 
 -- each use has a name among those of all
 pub all_named : (uses : List Use) → list_all (λ u. has_name (use_names uses) u.name.bytes) uses ≡ true
