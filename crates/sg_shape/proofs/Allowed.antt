@@ -100,7 +100,9 @@ pub record IsGood (facts : Facts) (n : ℕ) (f : Fun) : Type 0 where
 
 keeps : (facts : Facts) (n : ℕ) (f : Fun) → IsGood facts n f → keeps_to facts f ≡ true
 keeps facts n f good =
-    all_of_six _ _ _ _ _ _
+    all_of_six (implies f.query (not (takes_desc f) && not (takes_parent f))) (implies f.uses_file (facts.resc_data && takes_desc f))
+    (f.creation || list_all (λ e. not (is_text_field facts.fields e.0)) f.effects) (sets_once f.effects)
+    (implies f.block (not f.creation && not f.terminal)) (leaves_own facts.funs f.leaves)
     (takes_none f.query (takes_desc f) (takes_parent f) (good.none QueryTakes))
     (has_both f.uses_file facts.resc_data (takes_desc f) good.file (good.none FileWithoutDesc))
     (ap (λ b. f.creation || b) (not_any (λ e. is_text_field facts.fields e.0) f.effects)
@@ -139,7 +141,7 @@ module _ (facts : Facts) (good : (k : ℕ) (f : Fun) → slice_get facts.funs k 
       let f = there facts.funs n (omega arith) in
       let lost : (is_replayed facts (suc n) && not (each_arg (fun_at facts.funs (suc n)).effects (count_args (fun_at facts.funs (suc n)).kinds))) ≡ false =
       ap (is_forbidden ArgumentLost facts (suc n)) (at_place n f.0 f.1) ∙ (good n f.0 f.1).none ArgumentLost in
-      and_from _ (replays_all facts n)
+      and_from (implies (is_replayed facts (suc n)) (each_arg (fun_at facts.funs (suc n)).effects (count_args (fun_at facts.funs (suc n)).kinds))) (replays_all facts n)
       (then_it (is_replayed facts (suc n)) (each_arg (fun_at facts.funs (suc n)).effects (count_args (fun_at facts.funs (suc n)).kinds)) lost)
       (each_carried n (omega arith))
 
@@ -147,7 +149,7 @@ module _ (facts : Facts) (good : (k : ℕ) (f : Fun) → slice_get facts.funs k 
   each_well zero within = refl
   each_well (suc n) within =
       let f = there facts.funs n (omega arith) in
-      and_from _ (each_replays_well facts n)
+      and_from (implies (is_replayed facts (suc n)) (replays_well facts (fun_at facts.funs (suc n)))) (each_replays_well facts n)
       (ap (λ g. implies (g.creation || list_any (λ s. s.1 == suc n) facts.steps) (replays_well facts g)) (at_place n f.0 f.1)
       ∙ well (f.0.creation || list_any (λ s. s.1 == suc n) facts.steps) (writes f.0) (list_all (λ e. takes_among (count_args f.0.kinds) e.1) f.0.effects)
       (nat_le (count_by (λ e. sets_caller e.1) f.0.effects) 1) (has_no_parents facts) (list_all (λ e. leaves_known e.1) f.0.effects)
@@ -191,9 +193,17 @@ module _ (facts : Facts) (good : (k : ℕ) (f : Fun) → slice_get facts.funs k 
 
   pub allowed : length facts.fields ≤ 8 → (not facts.global && is_cross facts.parents) ≡ false → is_allowed facts ≡ true
   allowed few none =
-      and_from _ _ (and_from _ _ (and_from _ _ (and_from _ _ (and_from _ _ (and_from _ _
-      (le-leb (length facts.fields) 8 few)
-      (keeps_apart none))
+      let small : Bool = nat_le (length facts.fields) 8 in
+      let kept : Bool = list_all (keeps_to facts) facts.funs in
+      let carried : Bool = replays_all facts (length facts.funs) in
+      let acting : Bool = list_all (acts_on_one facts) facts.funs in
+      let wells : Bool = each_replays_well facts (length facts.funs) in
+      and_from (small && keeps_private facts && kept && carried && acting && wells) (steps_make_none facts)
+      (and_from (small && keeps_private facts && kept && carried && acting) wells
+      (and_from (small && keeps_private facts && kept && carried) acting
+      (and_from (small && keeps_private facts && kept) carried
+      (and_from (small && keeps_private facts) kept
+      (and_from small (keeps_private facts) (le-leb (length facts.fields) 8 few) (keeps_apart none))
       (all_pass (keeps_to facts) facts.funs (λ k f at. keeps facts (suc k) f (good k f at))))
       (each_carried (length facts.funs) (omega arith)))
       (all_pass (acts_on_one facts) facts.funs (λ k f at. acts facts (suc k) f (good k f at))))

@@ -187,26 +187,22 @@ module _ (tree : Tree) (sound : HasNoShapeFlaw tree) where
     unfolding is_declared
     declared_own =
         and_from (fit_flags tree.statements p.name.bytes (fun_of_name (shape_of_text tree) p.name.bytes)) (fit_leaves (shape_of_text tree) tree.statements p.name.bytes (fun_of_name (shape_of_text tree) p.name.bytes).leaves)
-        (ap (fit_flags tree.statements p.name.bytes) (of_name tree sound k p at) ∙ flags p.name.bytes)
+        (ap (fit_flags tree.statements p.name.bytes) (of_name tree sound k p at)
+        ∙ flags (says tree.statements (codes "sm_creation") p.name.bytes) (says tree.statements (codes "sm_terminal") p.name.bytes) (says tree.statements (codes "sm_block") p.name.bytes)
+        (says tree.statements (codes "sm_wakeup") p.name.bytes) (says tree.statements (codes "sm_query") p.name.bytes) (says tree.statements (codes "sm_needs_all") p.name.bytes) (says tree.statements (codes "resc_data") p.name.bytes))
         (ap (λ f. fit_leaves (shape_of_text tree) tree.statements p.name.bytes f.leaves) (of_name tree sound k p at) ∙ own_leaves p.name.bytes (agreed tree sound k p at))
       where
         both : (b : Bool) → agree b b ≡ true
         both true = refl
         both false = refl
 
-        flags : (f : List ℕ) → (agree (says tree.statements (codes "sm_creation") f) (says tree.statements (codes "sm_creation") f)
-            && agree (says tree.statements (codes "sm_terminal") f) (says tree.statements (codes "sm_terminal") f)
-            && agree (says tree.statements (codes "sm_block") f) (says tree.statements (codes "sm_block") f)
-            && agree (says tree.statements (codes "sm_wakeup") f) (says tree.statements (codes "sm_wakeup") f)
-            && agree (says tree.statements (codes "sm_query") f) (says tree.statements (codes "sm_query") f)
-            && agree (says tree.statements (codes "sm_needs_all") f) (says tree.statements (codes "sm_needs_all") f)
-            && agree (says tree.statements (codes "resc_data") f) (says tree.statements (codes "resc_data") f)) ≡ true
-        flags f =
-            and_from _ _ (and_from _ _ (and_from _ _ (and_from _ _ (and_from _ _ (and_from _ _
-            (both (says tree.statements (codes "sm_creation") f)) (both (says tree.statements (codes "sm_terminal") f)))
-            (both (says tree.statements (codes "sm_block") f))) (both (says tree.statements (codes "sm_wakeup") f)))
-            (both (says tree.statements (codes "sm_query") f))) (both (says tree.statements (codes "sm_needs_all") f)))
-            (both (says tree.statements (codes "resc_data") f))
+        flags : (a b c d e g h : Bool) → (agree a a && agree b b && agree c c && agree d d && agree e e && agree g g && agree h h) ≡ true
+        flags a b c d e g h =
+            and_from (agree a a && agree b b && agree c c && agree d d && agree e e && agree g g) (agree h h)
+            (and_from (agree a a && agree b b && agree c c && agree d d && agree e e) (agree g g)
+            (and_from (agree a a && agree b b && agree c c && agree d d) (agree e e)
+            (and_from (agree a a && agree b b && agree c c) (agree d d)
+            (and_from (agree a a && agree b b) (agree c c) (and_from (agree a a) (agree b b) (both a) (both b)) (both c)) (both d)) (both e)) (both g)) (both h)
 
     own_effects : same_effects (declared_effects tree.statements p.name.bytes p.ret p.params) (map (λ e. (field_name (shape_of_text tree).fields e.0, e.1)) (fun_of_name (shape_of_text tree) p.name.bytes).effects) ≡ true
     unfolding shape_of_text

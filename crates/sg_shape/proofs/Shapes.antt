@@ -117,7 +117,8 @@ fits tree sound =
     let narrow : length fields ≤ most_fields = omega (arith, some, few_fields tree (sound Limit)) in
     let moves = filter_map (pair_in (codes "sm_transition") ss) ss in
     let steps = filter_map (pair_in (codes "sm_recover") ss) ss in
-    all_six _ _ _ _ _ _
+    all_six (nat_le (length funs) most_funs) (nat_le (length fields) most_fields) (all_differ (map (λ f. f.name) funs))
+    (list_all (are_funs (length funs)) (in_order moves (length ps))) (list_all (are_funs (length funs)) (in_order steps (length ps))) (list_all (λ f. leaves_fun (length funs) f.leaves) funs)
     (le-leb (length funs) most_funs few) (le-leb (length fields) most_fields narrow)
     (ap all_differ (funs_named ss ps) ∙ names_differ tree sound)
     (ap (λ n. list_all (are_funs n) (in_order moves (length ps))) count ∙ all_within moves (length ps))
