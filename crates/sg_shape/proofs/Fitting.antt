@@ -1,6 +1,6 @@
 -- A text with which nothing is wrong by itself is what its shape says.
 use Rattle.std.proofs.Common.{◌≡◌, ◌⊎◌, ℕ, zero, suc, ◌+◌, ◌<◌, ◌≤◌, ◌==◌, Bool, true, false, cond, ◌&&◌, ◌||◌, not, List, [], ◌∷◌, ◌++◌, map, drop, length, None, Some, codes, refl, sym, ◌∙◌, ap, subst, inl, inr, arith}
-use Rattle.std.specs.Prelude.{find, if◌then◌else◌, nat_le, slice_get, unwrap_or}
+use Rattle.std.specs.Prelude.{count_by, find, if◌then◌else◌, nat_le, slice_get, unwrap_or}
 use Rattle.std.specs.declared.option.Option.{Option}
 use Rattle.std.specs.Bool.{then_some}
 use Rattle.std.specs.Cmp.Lexicographic.{pointwise}
@@ -94,7 +94,7 @@ own_kinds (p ∷ params) all =
 own_params : (statements : List Statement) (p : Prototype) (params : List Param) → p.params ≡ params → not (are_params params) ≡ false → fit_params (function_of statements p) params ≡ true
 own_params statements p [] is good = absurd (cc good)
 own_params statements p (caller ∷ later) is good =
-    let parts = and_parts (is_caller caller && list_all has_its_type later) _ (not-false (are_params (caller ∷ later)) good) in
+    let parts = and_parts (is_caller caller && list_all has_its_type later) (nat_le (count_by is_id_param later) 1) (not-false (are_params (caller ∷ later)) good) in
     let both = and_parts (is_caller caller) (list_all has_its_type later) parts.0 in
     and_from (is_caller caller) (pointwise is_of_kind later (function_of statements p).kinds) both.0
     (ap (λ l. pointwise is_of_kind later (map kind_of (drop 1 l))) is ∙ own_kinds later both.1)
@@ -246,8 +246,8 @@ module _ (tree : Tree) (sound : HasNoShapeFlaw tree) where
       → has_pair (in_order (filter_map (pair_in w tree.statements) tree.statements) (length (protos_of tree.statements))) (function_number tree.statements first.bytes) (function_number tree.statements second.bytes) ≡ true
   pair_listed w k word first second at told two =
       let known = known_pair w word first second told two (all_known tree sound k (Two word first second) at) in
-      let one = and_parts _ _ (number_is tree sound first.bytes known.0) in
-      let other = and_parts _ _ (number_is tree sound second.bytes known.1) in
+      let one = and_parts (nat_le 1 (function_number tree.statements first.bytes)) (nat_le (function_number tree.statements first.bytes) (length (protos_of tree.statements))) (number_is tree sound first.bytes known.0) in
+      let other = and_parts (nat_le 1 (function_number tree.statements second.bytes)) (nat_le (function_number tree.statements second.bytes) (length (protos_of tree.statements))) (number_is tree sound second.bytes known.1) in
       listed (filter_map (pair_in w tree.statements) tree.statements) (length (protos_of tree.statements)) (function_number tree.statements first.bytes) (function_number tree.statements second.bytes)
       (leb-true 1 (function_number tree.statements first.bytes) one.0) (leb-true (function_number tree.statements first.bytes) (length (protos_of tree.statements)) one.1)
       (leb-true 1 (function_number tree.statements second.bytes) other.0) (leb-true (function_number tree.statements second.bytes) (length (protos_of tree.statements)) other.1)
