@@ -117,8 +117,8 @@ keeps facts n f good =
 
 acts : (facts : Facts) (n : ℕ) (f : Fun) → IsGood facts n f → acts_on_one facts f ≡ true
 acts facts n f good =
-    and_from _ _
-    (and_from _ _
+    and_from (implies f.creation (not f.query && not f.terminal && not (takes_desc f)) && (f.creation || f.query || (takes_desc f && not (takes_parent f)))) (implies (is_never facts.parents) (not (takes_parent f)))
+    (and_from (implies f.creation (not f.query && not f.terminal && not (takes_desc f))) (f.creation || f.query || (takes_desc f && not (takes_parent f)))
     (none_of_three f.creation f.query f.terminal (takes_desc f) (good.none MakesOn))
     (some_of_three f.creation f.query (takes_desc f) (takes_parent f) (good.none ActsOnNone) good.apart))
     (not_both (is_never facts.parents) (takes_parent f) (good.none NoParents))
@@ -180,8 +180,8 @@ module _ (facts : Facts) (good : (k : ℕ) (f : Fun) → slice_get facts.funs k 
   none_looks told = all_pass (λ f. not f.all) facts.funs (λ k f at. not_all f.all (ap (λ b. b && f.all) (sym told) ∙ (good k f at).none PrivateLooksAround))
     where
       not_all : (a : Bool) → (true && a) ≡ false → not a ≡ true
-      not_all false no = refl
-      not_all true no = absurd (cc no)
+      not_all false told = refl
+      not_all true told = absurd (cc told)
 
   keeps_apart : (not facts.global && is_cross facts.parents) ≡ false → keeps_private facts ≡ true
   keeps_apart none = by (not facts.global) (is_cross facts.parents) refl none

@@ -212,16 +212,16 @@ effects_named statements k p at = let names = use_names (uses_of statements) in
     whole = sym (list_all-append (named (use_names (uses_of statements))) (flat_map (λ q. filter_map param_use q.params) (protos_of statements) ++ filter_map (λ q. ret_use q.ret) (protos_of statements)) (filter_map word_use statements)) ∙ all_named (uses_of statements)
 
     in_words : list_all (named (use_names (uses_of statements))) (filter_map word_use statements) ≡ true
-    in_words = (and_parts _ _ whole).1
+    in_words = (and_parts (list_all (named (use_names (uses_of statements))) (flat_map (λ q. filter_map param_use q.params) (protos_of statements) ++ filter_map (λ q. ret_use q.ret) (protos_of statements))) (list_all (named (use_names (uses_of statements))) (filter_map word_use statements)) whole).1
 
     two : (list_all (named (use_names (uses_of statements))) (flat_map (λ q. filter_map param_use q.params) (protos_of statements)) && list_all (named (use_names (uses_of statements))) (filter_map (λ q. ret_use q.ret) (protos_of statements))) ≡ true
-    two = sym (list_all-append (named (use_names (uses_of statements))) (flat_map (λ q. filter_map param_use q.params) (protos_of statements)) (filter_map (λ q. ret_use q.ret) (protos_of statements))) ∙ (and_parts _ _ whole).0
+    two = sym (list_all-append (named (use_names (uses_of statements))) (flat_map (λ q. filter_map param_use q.params) (protos_of statements)) (filter_map (λ q. ret_use q.ret) (protos_of statements))) ∙ (and_parts (list_all (named (use_names (uses_of statements))) (flat_map (λ q. filter_map param_use q.params) (protos_of statements) ++ filter_map (λ q. ret_use q.ret) (protos_of statements))) (list_all (named (use_names (uses_of statements))) (filter_map word_use statements)) whole).0
 
     in_rets : list_all (named (use_names (uses_of statements))) (filter_map (λ q. ret_use q.ret) (protos_of statements)) ≡ true
-    in_rets = (and_parts _ _ two).1
+    in_rets = (and_parts (list_all (named (use_names (uses_of statements))) (flat_map (λ q. filter_map param_use q.params) (protos_of statements))) (list_all (named (use_names (uses_of statements))) (filter_map (λ q. ret_use q.ret) (protos_of statements))) two).1
 
     in_params : list_all (named (use_names (uses_of statements))) (filter_map param_use p.params) ≡ true
-    in_params = all_of_each (named (use_names (uses_of statements))) (λ q. filter_map param_use q.params) (protos_of statements) k p (and_parts _ _ two).0 at
+    in_params = all_of_each (named (use_names (uses_of statements))) (λ q. filter_map param_use q.params) (protos_of statements) k p (and_parts (list_all (named (use_names (uses_of statements))) (flat_map (λ q. filter_map param_use q.params) (protos_of statements))) (list_all (named (use_names (uses_of statements))) (filter_map (λ q. ret_use q.ret) (protos_of statements))) two).0 at
 
     firsts : (params : List Param) → list_all (named (use_names (uses_of statements))) (filter_map param_use params) ≡ true → list_all (among (use_names (uses_of statements))) (caller_effects params) ≡ true
     firsts [] all = refl

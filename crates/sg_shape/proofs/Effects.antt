@@ -178,7 +178,10 @@ name_at (g ∷ all) zero f fields is =
     let same : g ≡ f = cc is in
     let rest : all ≡ fields = cc is in
     (ap (λ h. h.name) same, rest)
-name_at (g ∷ all) (suc x) f fields is = name_at all x f fields is
+name_at (g ∷ all) (suc x) f fields is =
+    let rest = name_at all x f fields is in
+    let more : suc x + 1 ≡ suc (x + 1) = omega arith in
+    (rest.0, ap (λ n. drop n (g ∷ all)) more ∙ rest.1)
 
 pub named_again : (all : List Field) (x : ℕ) (fields : List Field) (effects : List On) → drop x all ≡ fields
     → map (λ e. (field_name all e.0, e.1)) (numbered x fields effects) ≡ by_names fields effects

@@ -118,9 +118,9 @@ said_some f (s ∷ statements) none =
     not_this (Two word first second) is = by (bytes_eq word.bytes (codes "sm_state")) (bytes_eq first.bytes f) is
       where
         by : (a b : Bool) → (if a then (if b then Some second.bytes else None) else None) ≡ None → (a && b) ≡ false
-        by false b no = refl
-        by true false no = refl
-        by true true no = absurd (cc no)
+        by false b none = refl
+        by true false none = refl
+        by true true none = absurd (cc none)
 
 said_state : (f g : List ℕ) (statements : List Statement) → state_of f statements ≡ Some g → says_of statements (codes "sm_state") f g ≡ true
 said_state f g statements is =
@@ -133,9 +133,9 @@ said_state f g statements is =
     this (Two word first second) told = by (bytes_eq word.bytes (codes "sm_state")) (bytes_eq first.bytes f) told
       where
         by : (a b : Bool) → (if a then (if b then Some second.bytes else None) else None) ≡ Some g → (a && b && bytes_eq second.bytes g) ≡ true
-        by false b no = absurd (cc no)
-        by true false no = absurd (cc no)
-        by true true yes = let same : second.bytes ≡ g = cc yes in ap (λ m. bytes_eq m g) same ∙ own_bytes g
+        by false b some = absurd (cc some)
+        by true false some = absurd (cc some)
+        by true true some = let same : second.bytes ≡ g = cc some in ap (λ m. bytes_eq m g) same ∙ own_bytes g
 
 -- the name of a prototype isn't that of one before it
 not_before : (ps : List Prototype) (p : Prototype) (qs : List Prototype) → all_differ (names_of (ps ++ p ∷ qs)) ≡ true → has_name (names_of ps) p.name.bytes ≡ false
@@ -165,17 +165,17 @@ module _ (tree : Tree) (sound : HasNoShapeFlaw tree) where
       by : (b : Bool) (o : Option (List ℕ)) → says tree.statements (codes "sm_keep") f ≡ b → state_of f tree.statements ≡ o
           → option_map_or (λ g. b || list_any (leaves_another f g) tree.statements) o false ≡ false
           → fit_leaves (shape_of_text tree) tree.statements f (if b then Same else option_map_or (λ g. Of (function_number tree.statements g)) o Own) ≡ true
-      by true (Some g) keeps told no = absurd (cc no)
-      by true None keeps told no =
+      by true (Some g) keeps told flaw = absurd (cc flaw)
+      by true None keeps told flaw =
           and_from (says tree.statements (codes "sm_keep") f) (not (list_any (leaves_some f) tree.statements)) keeps (ap not (said_some f tree.statements told))
-      by false None keeps told no =
+      by false None keeps told flaw =
           and_from (not (says tree.statements (codes "sm_keep") f)) (not (list_any (leaves_some f) tree.statements)) (ap not keeps) (ap not (said_some f tree.statements told))
-      by false (Some g) keeps told no =
+      by false (Some g) keeps told flaw =
           let same = name_again g (known_state tree sound f g told) in
           subst (λ m. (not (says tree.statements (codes "sm_keep") f) && says_of tree.statements (codes "sm_state") f m && not (list_any (leaves_another f m) tree.statements)) ≡ true) (sym same)
           (and_from (not (says tree.statements (codes "sm_keep") f) && says_of tree.statements (codes "sm_state") f g) (not (list_any (leaves_another f g) tree.statements))
           (and_from (not (says tree.statements (codes "sm_keep") f)) (says_of tree.statements (codes "sm_state") f g) (ap not keeps) (said_state f g tree.statements told))
-          (ap not no))
+          (ap not flaw))
 
   -- ---- flags, and the whole of a prototype
 
@@ -251,7 +251,7 @@ module _ (tree : Tree) (sound : HasNoShapeFlaw tree) where
       listed (filter_map (pair_in w tree.statements) tree.statements) (length (protos_of tree.statements)) (function_number tree.statements first.bytes) (function_number tree.statements second.bytes)
       (leb-true 1 (function_number tree.statements first.bytes) one.0) (leb-true (function_number tree.statements first.bytes) (length (protos_of tree.statements)) one.1)
       (leb-true 1 (function_number tree.statements second.bytes) other.0) (leb-true (function_number tree.statements second.bytes) (length (protos_of tree.statements)) other.1)
-      (gathered_some (λ p. (p.0 == function_number tree.statements first.bytes) && (p.1 == function_number tree.statements second.bytes)) (pair_in w tree.statements) tree.statements k (Two word first second)
+      (gathered_some (λ (p : ℕ × ℕ). (p.0 == function_number tree.statements first.bytes) && (p.1 == function_number tree.statements second.bytes)) (pair_in w tree.statements) tree.statements k (Two word first second)
       (function_number tree.statements first.bytes, function_number tree.statements second.bytes) at
       (ap (λ b. if b then Some (function_number tree.statements first.bytes, function_number tree.statements second.bytes) else None) told)
       (and_from (function_number tree.statements first.bytes == function_number tree.statements first.bytes) (function_number tree.statements second.bytes == function_number tree.statements second.bytes)

@@ -63,8 +63,8 @@ any_agree p q same (x ∷ xs) = ap (λ b. b || list_any p xs) (same x) ∙ ap (�
 -- a pair of numbers up to the count is one of their pairs
 among : (count a b : ℕ) → 1 ≤ a → a ≤ count → 1 ≤ b → b ≤ count → has_pair (pairs_to count) a b ≡ true
 among count a b first last low high =
-    any_flat_map (λ p. (p.0 == a) && (p.1 == b)) (λ x. map (λ y. (x, y)) (range_with_len 1 count)) (range_with_len 1 count)
-    ∙ any_agree (λ x. list_any (λ p. (p.0 == a) && (p.1 == b)) (map (λ y. (x, y)) (range_with_len 1 count))) (λ x. x == a) (λ x. row x) (range_with_len 1 count)
+    any_flat_map (λ (p : ℕ × ℕ). (p.0 == a) && (p.1 == b)) (λ x. map (λ y. (x, y)) (range_with_len 1 count)) (range_with_len 1 count)
+    ∙ any_agree (λ x. list_any (λ (p : ℕ × ℕ). (p.0 == a) && (p.1 == b)) (map (λ y. (x, y)) (range_with_len 1 count))) (λ x. x == a) (λ x. row x) (range_with_len 1 count)
     ∙ in_range a 1 count first (omega arith)
   where
     seconds : (x : ℕ) (c : Bool) → (x == a) ≡ c → (ys : List ℕ) → list_any (λ y. (x == a) && (y == b)) ys ≡ (c && list_any (λ y. y == b) ys)
@@ -77,16 +77,16 @@ among count a b first last low high =
     and_true true d is = is
     and_true false d is = refl
 
-    row : (x : ℕ) → list_any (λ p. (p.0 == a) && (p.1 == b)) (map (λ y. (x, y)) (range_with_len 1 count)) ≡ (x == a)
+    row : (x : ℕ) → list_any (λ (p : ℕ × ℕ). (p.0 == a) && (p.1 == b)) (map (λ y. (x, y)) (range_with_len 1 count)) ≡ (x == a)
     row x =
-        any_map (λ p. (p.0 == a) && (p.1 == b)) (λ y. (x, y)) (range_with_len 1 count)
+        any_map (λ (p : ℕ × ℕ). (p.0 == a) && (p.1 == b)) (λ y. (x, y)) (range_with_len 1 count)
         ∙ seconds x (x == a) refl (range_with_len 1 count)
         ∙ and_true (x == a) (list_any (λ y. y == b) (range_with_len 1 count)) (in_range b 1 count low (omega arith))
 
 -- a pair that is named, of numbers up to the count, is one of those that are listed
 pub listed : (named : List (ℕ × ℕ)) (count a b : ℕ) → 1 ≤ a → a ≤ count → 1 ≤ b → b ≤ count → has_pair named a b ≡ true → has_pair (in_order named count) a b ≡ true
 listed named count a b first last low high told =
-    still_any (λ p. (p.0 == a) && (p.1 == b)) (λ p. has_pair named p.0 p.1)
+    still_any (λ (p : ℕ × ℕ). (p.0 == a) && (p.1 == b)) (λ (p : ℕ × ℕ). has_pair named p.0 p.1)
     (λ p is. let parts = and_parts (p.0 == a) (p.1 == b) is in
     ap (λ n. has_pair named n p.1) (eqb-true p.0 a parts.0) ∙ ap (has_pair named a) (eqb-true p.1 b parts.1) ∙ told)
     (pairs_to count) (among count a b first last low high)

@@ -81,7 +81,7 @@ gathered_some test h [] k x y at is passes = absurd (cc at)
 gathered_some test h (z ∷ xs) zero x y at is passes =
     let same : z ≡ x = cc at in
     ap (λ o. list_any test (cons_option o (filter_map h xs))) (ap h same ∙ is) ∙ ap (λ b. b || list_any test (filter_map h xs)) passes
-gathered_some test h (z ∷ xs) (suc k) x y at is passes = by (h z) (gathered_some test h xs k x y at is passes)
+gathered_some {Y = Y} test h (z ∷ xs) (suc k) x y at is passes = by (h z) (gathered_some test h xs k x y at is passes)
   where
     by : (o : Option Y) → list_any test (filter_map h xs) ≡ true → list_any test (cons_option o (filter_map h xs)) ≡ true
     by None rest = rest
