@@ -14,7 +14,7 @@ use crate::adding::add;
 use crate::keeping::kept;
 use crate::params::is_id_param;
 use crate::protos::Proto;
-use sg_check_statements::{Param, Ret, Statement, has_word};
+use sg_check_statements::{Param, Ret, Spelled, Statement, has_word};
 use sg_facts::{Effect, FieldShape, ListOf, NoMemory};
 use std::alloc::Global;
 use std::marker::Model;
@@ -22,8 +22,8 @@ use std::marker::Model;
 /// What a function does to the field of a name. Contracts see a pair of both.
 #[derive(Drop)]
 pub struct NamedEffect<'a> {
-    pub field: &'a [u8],
-    pub effect: Effect,
+    field: &'a [u8],
+    effect: Effect,
 }
 
 /// Effects on fields by their names, in their order.
@@ -38,6 +38,32 @@ impl<'a> Model for NamedEffect<'a> {
     ghost view = { λ e. (e.field.now, e.effect) };
 }
 
+impl<'a> NamedEffect<'a> {
+    // What is done to the field of a name.
+    fn new(field: &Spelled<'a>, effect: Effect) -> NamedEffect<'a>
+        ensures { result ≡ (field.now.bytes, effect) }
+    {
+        NamedEffect {
+            field: field.slice,
+            effect,
+        }
+    }
+
+    // The field's name.
+    fn field(&self) -> &'a [u8]
+        ensures { result.now ≡ self.now.0 }
+    {
+        self.field
+    }
+
+    // What is done to it.
+    fn effect(&self) -> Effect
+        ensures { result ≡ self.now.1 }
+    {
+        self.effect
+    }
+}
+
 /// All that a text declares for the function of a prototype, which has at most `MOST_PARAMS` parameters.
 pub fn effects_of<'a>(
     alloc: Global,
@@ -48,9 +74,9 @@ pub fn effects_of<'a>(
     ensures { IfOk result (λ effects. effects ≡ declared_effects statements.now proto.now.name.bytes proto.now.ret proto.now.params) }
 {
     let mut effects = EffectList::new(alloc);
-    add_params(&mut effects, proto.params)?;
-    add(&mut effects, ret_effect(proto.ret))?;
-    add_words(&mut effects, statements, proto.name.slice)?;
+    add_params(&mut effects, proto.params())?;
+    add(&mut effects, ret_effect(proto.ret()))?;
+    add_words(&mut effects, statements, proto.name())?;
     Ok(effects)
 }
 
@@ -103,10 +129,7 @@ fn caller_effect<'a>(caller: &Param<'a>) -> Option<NamedEffect<'a>>
     ensures { option_to_list result ≡ caller_effects (caller.now ∷ []) }
 {
     if has_word(&caller.form, b"desc_data") {
-        Some(NamedEffect {
-            field: caller.name.slice,
-            effect: Effect::SetCaller,
-        })
+        Some(NamedEffect::new(&caller.name, Effect::SetCaller))
     } else {
         None
     }
@@ -117,15 +140,9 @@ fn arg_effect<'a>(number: u8, param: &Param<'a>) -> Option<NamedEffect<'a>>
     ensures { result ≡ arg_effect number param.now }
 {
     if has_word(&param.form, b"desc_data") {
-        Some(NamedEffect {
-            field: param.name.slice,
-            effect: Effect::SetArg(number),
-        })
+        Some(NamedEffect::new(&param.name, Effect::SetArg(number)))
     } else if has_word(&param.form, b"desc_data_add") {
-        Some(NamedEffect {
-            field: param.name.slice,
-            effect: Effect::AddArg(number),
-        })
+        Some(NamedEffect::new(&param.name, Effect::AddArg(number)))
     } else {
         None
     }
@@ -137,18 +154,9 @@ fn ret_effect<'a>(ret: &Ret<'a>) -> Option<NamedEffect<'a>>
 {
     match ret {
         Ret::Plain(_) => None,
-        Ret::Set { field, .. } => Some(NamedEffect {
-            field: field.slice,
-            effect: Effect::SetRet,
-        }),
-        Ret::Add { field, .. } => Some(NamedEffect {
-            field: field.slice,
-            effect: Effect::AddRet,
-        }),
-        Ret::Sub { field, .. } => Some(NamedEffect {
-            field: field.slice,
-            effect: Effect::SubRet,
-        }),
+        Ret::Set { field, .. } => Some(NamedEffect::new(field, Effect::SetRet)),
+        Ret::Add { field, .. } => Some(NamedEffect::new(field, Effect::AddRet)),
+        Ret::Sub { field, .. } => Some(NamedEffect::new(field, Effect::SubRet)),
     }
 }
 
@@ -165,15 +173,9 @@ fn word_effect<'a>(statement: &Statement<'a>, fun: &[u8]) -> Option<NamedEffect<
             if first.slice != fun {
                 None
             } else if word.slice == b"desc_data_clear".as_slice() {
-                Some(NamedEffect {
-                    field: second.slice,
-                    effect: Effect::Clear,
-                })
+                Some(NamedEffect::new(second, Effect::Clear))
             } else if word.slice == b"desc_data_sub".as_slice() {
-                Some(NamedEffect {
-                    field: second.slice,
-                    effect: Effect::SubOne,
-                })
+                Some(NamedEffect::new(second, Effect::SubOne))
             } else {
                 None
             }
@@ -219,8 +221,8 @@ fn effect_on(effects: &[NamedEffect], name: &[u8]) -> Option<Effect>
     ensures { result ≡ effect_on_name effects.now name.now }
 {
     'effects: for one in effects {
-        if one.field == name {
-            return Some(one.effect);
+        if one.field() == name {
+            return Some(one.effect());
         }
     }
     None
@@ -237,5 +239,5 @@ pub fn has_two(effects: &[NamedEffect]) -> bool
 fn clashes(one: &NamedEffect, effects: &[NamedEffect]) -> bool
     ensures { result ≡ list_any (clash one.now) effects.now }
 {
-    effects.iter().any(|other| other.field == one.field && other.effect != one.effect)
+    effects.iter().any(|other| other.field() == one.field() && other.effect() != one.effect())
 }

@@ -26,13 +26,13 @@ pub fn fields_of<'a>(alloc: Global, uses: &[FieldUse<'a>]) -> Result<Fields<'a>,
 {
     let mut first = UseList::new(alloc);
     'uses: for one in uses {
-        if has_use(first.as_slice(), one.name) {
+        if has_use(first.as_slice(), one.name()) {
             continue;
         }
         if first.len() == MOST_FIELDS {
             return Ok(Fields {
                 first,
-                next: Some(one.at),
+                next: Some(one.at()),
             });
         }
         first.push(one.same())?;
@@ -44,7 +44,7 @@ pub fn fields_of<'a>(alloc: Global, uses: &[FieldUse<'a>]) -> Result<Fields<'a>,
 fn has_use(uses: &[FieldUse], name: &[u8]) -> bool
     ensures { result ≡ list_any (λ u. bytes_eq u.name.bytes name.now) uses.now }
 {
-    uses.iter().any(|one| one.name == name)
+    uses.iter().any(|one| one.name() == name)
 }
 
 /// The fields that uses have, kept to the end of the program.
@@ -54,8 +54,8 @@ pub fn field_shapes(alloc: Global, uses: &[FieldUse]) -> Result<&'static [FieldS
     let mut fields = Vec::new(alloc);
     'uses: for one in uses {
         fields.push(FieldShape {
-            name: kept_name(alloc, one.name)?,
-            text: one.text.unwrap_or(false),
+            name: kept_name(alloc, one.name())?,
+            text: one.text().unwrap_or(false),
         })?;
     }
     Ok(kept(fields))

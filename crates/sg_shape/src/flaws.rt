@@ -78,8 +78,8 @@ fn second_place(protos: &[Proto]) -> Option<usize>
     ensures { result ≡ second_place [] protos.now }
 {
     'protos: for (number, proto) in protos.iter().enumerate() {
-        if has_name(&protos[..number], proto.name.slice) {
-            return Some(proto.name.at);
+        if has_name(&protos[..number], proto.name()) {
+            return Some(proto.at());
         }
     }
     None
@@ -91,7 +91,7 @@ fn has_name(protos: &[Proto], name: &[u8]) -> bool
 {
     match protos {
         [] => false,
-        [proto, rest @ ..] => proto.name.slice == name || has_name(rest, name),
+        [proto, rest @ ..] => proto.name() == name || has_name(rest, name),
     }
 }
 
@@ -136,7 +136,7 @@ fn mixed_place(fields: &[FieldShape], uses: &[FieldUse]) -> Option<usize>
 {
     'uses: for one in uses {
         if is_mixed(fields, one) {
-            return Some(one.at);
+            return Some(one.at());
         }
     }
     None
@@ -146,8 +146,8 @@ fn mixed_place(fields: &[FieldShape], uses: &[FieldUse]) -> Option<usize>
 fn is_mixed(fields: &[FieldShape], one: &FieldUse) -> bool
     ensures { result ≡ is_mixed (fields_in fields.now) one.now }
 {
-    match one.text {
-        Some(text) => text != is_text_name(fields, one.name),
+    match one.text() {
+        Some(text) => text != is_text_name(fields, one.name()),
         None => false,
     }
 }
@@ -202,7 +202,7 @@ fn flawed_place(
 {
     'protos: for proto in protos {
         if is_flawed(kind, alloc, shape, statements, proto)? {
-            return Ok(Some(proto.name.at));
+            return Ok(Some(proto.at()));
         }
     }
     Ok(None)
@@ -220,10 +220,10 @@ fn is_flawed(
     ensures { IfOk result (λ flawed. flawed ≡ is_flawed kind (facts_of shape.now) statements.now proto.now) }
 {
     match kind {
-        ShapeFaultKind::BadParams => Ok(!are_params(proto.params)),
+        ShapeFaultKind::BadParams => Ok(!are_params(proto.params())),
         ShapeFaultKind::TwoEffects => has_two_effects(alloc, statements, proto),
-        ShapeFaultKind::Contradiction => Ok(contradicts(statements, proto.name.slice)),
-        _ => Ok(is_of_forbidden(kind, shape, proto.name.slice)),
+        ShapeFaultKind::Contradiction => Ok(contradicts(statements, proto.name())),
+        _ => Ok(is_of_forbidden(kind, shape, proto.name())),
     }
 }
 

@@ -54,11 +54,11 @@ fn fun_shape(
     requires few_fields { length fields.now ≤ most_fields }
     ensures { IfOk result (λ f. fun_of_shape f ≡ function_of statements.now proto.now) }
 {
-    let name = proto.name.slice;
+    let name = proto.name();
     let effects = effects_of(alloc, statements, proto)?;
     Ok(FunShape {
         name: kept_name(alloc, name)?,
-        kinds: kinds_of(alloc, later(proto.params))?,
+        kinds: kinds_of(alloc, later(proto.params()))?,
         flags: flags_of(statements, name),
         leaves: leaves_of(statements, protos, name),
         effects: numbered(alloc, fields, effects.as_slice())?,

@@ -11,10 +11,9 @@ use std::marker::Model;
 /// A prototype of a text, lent by its parts. Contracts see the parts.
 #[derive(Drop)]
 pub struct Proto<'t, 'a> {
-    pub ret: &'t Ret<'a>,
-    pub name: &'t Spelled<'a>,
-    /// The first is the caller.
-    pub params: &'t [Param<'a>],
+    ret: &'t Ret<'a>,
+    name: &'t Spelled<'a>,
+    params: &'t [Param<'a>],
 }
 
 /// Prototypes, in their order.
@@ -26,6 +25,36 @@ impl<'t, 'a> Model for Proto<'t, 'a> {
     ghost Value = { Prototype };
 
     ghost view = { λ p. record { ret = p.ret.now; name = p.name.now; params = p.params.now } };
+}
+
+impl<'t, 'a> Proto<'t, 'a> {
+    /// What it returns.
+    pub fn ret(&self) -> &'t Ret<'a>
+        ensures { result.now ≡ self.now.ret }
+    {
+        self.ret
+    }
+
+    /// The function's name.
+    pub fn name(&self) -> &'a [u8]
+        ensures { result.now ≡ self.now.name.bytes }
+    {
+        self.name.slice
+    }
+
+    /// The place of the function's name.
+    pub fn at(&self) -> usize
+        ensures { result ≡ self.now.name.at }
+    {
+        self.name.at
+    }
+
+    /// Its parameters, of which the first is the caller.
+    pub fn params(&self) -> &'t [Param<'a>]
+        ensures { result.now ≡ self.now.params }
+    {
+        self.params
+    }
 }
 
 /// The prototypes of a text.
@@ -71,7 +100,7 @@ fn number_from(first: u8, protos: &[Proto], name: &[u8]) -> u8
 {
     match protos {
         [] => 0,
-        [proto, ..] if proto.name.slice == name => first,
+        [proto, ..] if proto.name() == name => first,
         [_, rest @ ..] => number_from(first + 1, rest, name),
     }
 }

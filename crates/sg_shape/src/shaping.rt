@@ -113,7 +113,7 @@ fn extra_proto(protos: &[Proto]) -> Option<usize>
     ensures { result ≡ option_map (λ p. p.name.at) (slice_get protos.now most_funs) }
 {
     match protos.get(usize::from(MOST_FUNS)) {
-        Some(proto) => Some(proto.name.at),
+        Some(proto) => Some(proto.at()),
         None => None,
     }
 }
@@ -123,8 +123,8 @@ fn first_long(protos: &[Proto]) -> Option<usize>
     ensures { result ≡ option_map (λ p. p.name.at) (find (λ p. nat_lt most_params (length p.params)) protos.now) }
 {
     'protos: for proto in protos {
-        if proto.params.len() > MOST_PARAMS {
-            return Some(proto.name.at);
+        if proto.params().len() > MOST_PARAMS {
+            return Some(proto.at());
         }
     }
     None

@@ -14,11 +14,9 @@ use std::marker::Model;
 /// A use of a field in a text. Contracts see the name with its place, and whether the field is a text there.
 #[derive(Drop)]
 pub struct FieldUse<'a> {
-    pub name: &'a [u8],
-    /// The place of the name, counted from 0.
-    pub at: usize,
-    /// Whether the field is a text there, where the use tells that.
-    pub text: Option<bool>,
+    name: &'a [u8],
+    at: usize,
+    text: Option<bool>,
 }
 
 /// Uses of fields, in their order.
@@ -33,8 +31,8 @@ impl<'a> Model for FieldUse<'a> {
 }
 
 impl<'a> FieldUse<'a> {
-    /// A use at a name.
-    pub fn at(name: &Spelled<'a>, text: Option<bool>) -> FieldUse<'a>
+    /// A use at a name; whether the field is a text there, where the use tells that.
+    pub fn new(name: &Spelled<'a>, text: Option<bool>) -> FieldUse<'a>
         ensures { result ≡ record { name = name.now; text = text } }
     {
         FieldUse {
@@ -42,6 +40,27 @@ impl<'a> FieldUse<'a> {
             at: name.at,
             text,
         }
+    }
+
+    /// The field's name.
+    pub fn name(&self) -> &'a [u8]
+        ensures { result.now ≡ self.now.name.bytes }
+    {
+        self.name
+    }
+
+    /// The place of the name, counted from 0.
+    pub fn at(&self) -> usize
+        ensures { result ≡ self.now.name.at }
+    {
+        self.at
+    }
+
+    /// Whether the field is a text there, where the use tells that.
+    pub fn text(&self) -> Option<bool>
+        ensures { result ≡ self.now.text }
+    {
+        self.text
     }
 
     /// The same use.
@@ -77,7 +96,7 @@ fn add_params<'a>(uses: &mut UseList<'a>, protos: &[Proto<'_, 'a>]) -> Result<()
     ensures { OnOk result (uses.new ≡ uses.old ++ flat_map (λ p. filter_map param_use p.params) protos.now) }
 {
     'protos: for proto in protos {
-        add_of_proto(uses, proto.params)?;
+        add_of_proto(uses, proto.params())?;
     }
     Ok(())
 }
@@ -97,7 +116,7 @@ fn add_rets<'a>(uses: &mut UseList<'a>, protos: &[Proto<'_, 'a>]) -> Result<(), 
     ensures { OnOk result (uses.new ≡ uses.old ++ filter_map (λ p. ret_use p.ret) protos.now) }
 {
     'protos: for proto in protos {
-        add(uses, ret_use(proto.ret))?;
+        add(uses, ret_use(proto.ret()))?;
     }
     Ok(())
 }
@@ -117,7 +136,7 @@ fn param_use<'a>(param: &Param<'a>) -> Option<FieldUse<'a>>
     ensures { result ≡ param_use param.now }
 {
     if has_word(&param.form, b"desc_data") || has_word(&param.form, b"desc_data_add") {
-        Some(FieldUse::at(&param.name, Some(param.ty.stars != 0)))
+        Some(FieldUse::new(&param.name, Some(param.ty.stars != 0)))
     } else {
         None
     }
@@ -130,7 +149,7 @@ fn ret_use<'a>(ret: &Ret<'a>) -> Option<FieldUse<'a>>
     match ret {
         Ret::Plain(_) => None,
         Ret::Set { field, .. } | Ret::Add { field, .. } | Ret::Sub { field, .. } => {
-            Some(FieldUse::at(field, Some(false)))
+            Some(FieldUse::new(field, Some(false)))
         }
     }
 }
@@ -142,9 +161,9 @@ fn word_use<'a>(statement: &Statement<'a>) -> Option<FieldUse<'a>>
     match statement {
         Statement::Two { word, second, .. } => {
             if word.slice == b"desc_data_clear".as_slice() {
-                Some(FieldUse::at(second, None))
+                Some(FieldUse::new(second, None))
             } else if word.slice == b"desc_data_sub".as_slice() {
-                Some(FieldUse::at(second, Some(false)))
+                Some(FieldUse::new(second, Some(false)))
             } else {
                 None
             }
