@@ -20,9 +20,9 @@ use Rattle.sg_check_statements.specs.sg_parse.declared.tree.Statement.TheVariant
 use Rattle.sg_shape.specs.Fields.{Use, param_use, ret_use, uses_of, word_use}
 use Rattle.sg_shape.specs.Prototypes.{Prototype, protos_of}
 use Rattle.sg_shape.specs.ShapeOfText.{kind_of}
-use Rattle.sg_shape.proofs.Effects.{On, into}
+use Rattle.sg_shape.proofs.OnFields.{On, into}
 use Rattle.sg_shape.proofs.Names.{own_bytes}
-use Rattle.sg_shape.proofs.Uses.{all_named, all_of_each, gathered_passes, one_gathered, use_names}
+use Rattle.sg_shape.proofs.Naming.{all_named, all_of_each, gathered_passes, one_gathered, use_names}
 
 -- ---- part by part
 

@@ -42,13 +42,13 @@ use Rattle.sg_shape.specs.Flaws.{are_params, contradicts, has_its_type, has_two,
 use Rattle.sg_shape.specs.Prototypes.{Prototype, function_number, names_of, number_from, proto_in, protos_of}
 use Rattle.sg_shape.specs.ShapeOfText.{function_of, in_order, kind_of, leaves_of, numbered, pair_in, shape_of_text, state_in, state_of}
 use Rattle.sg_shape.proofs.Declared.{effects_named}
-use Rattle.sg_shape.proofs.Effects.{by_names, from_effects, named_again, to_effects}
+use Rattle.sg_shape.proofs.OnFields.{by_names, from_effects, named_again, to_effects}
 use Rattle.sg_shape.proofs.Flawless.{agreed, all_known, good_params, names_differ, of_name, one_each, own_funs, own_name, own_number}
 use Rattle.sg_shape.proofs.Names.{differs, own_bytes, placed, proto_names, rest_differ, same_number}
-use Rattle.sg_shape.proofs.Pairs.{listed}
+use Rattle.sg_shape.proofs.Listing.{listed}
 use Rattle.sg_shape.proofs.Places.{all_pass, at_split, each_passes, gathered_some, neither, some_passes}
 use Rattle.sg_shape.proofs.Shapes.{known_state, number_is, said_at}
-use Rattle.sg_shape.proofs.Uses.{field_names, first_named, use_names}
+use Rattle.sg_shape.proofs.Naming.{field_names, first_named, use_names}
 
 -- ---- a prototype among statements
 

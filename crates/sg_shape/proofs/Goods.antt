@@ -29,10 +29,10 @@ use Rattle.sg_shape.specs.Prototypes.{Prototype, protos_of}
 use Rattle.sg_shape.specs.ShapeOfText.{function_of, kind_of, numbered, shape_of_text}
 use Rattle.sg_shape.proofs.Allowed.{IsGood, allowed}
 use Rattle.sg_shape.proofs.Declared.{effects_among, effects_into}
-use Rattle.sg_shape.proofs.Effects.{numbered_pass, once, one_caller}
+use Rattle.sg_shape.proofs.OnFields.{numbered_pass, once, one_caller}
 use Rattle.sg_shape.proofs.Flawless.{few_fields, good_params, not_forbidden, own_funs}
 use Rattle.sg_shape.proofs.Places.{neither, some_passes}
-use Rattle.sg_shape.proofs.Uses.{field_names, first_differ}
+use Rattle.sg_shape.proofs.Naming.{field_names, first_differ}
 
 -- ---- descriptors and parents
 

@@ -1,8 +1,8 @@
 pub mod Places
 pub mod Names
-pub mod Uses
-pub mod Effects
-pub mod Pairs
+pub mod Naming
+pub mod OnFields
+pub mod Listing
 pub mod Clear
 pub mod Flawless
 pub mod Shapes

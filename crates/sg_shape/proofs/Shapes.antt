@@ -29,7 +29,7 @@ use Rattle.sg_shape.specs.Prototypes.{Prototype, function_number, names_of, numb
 use Rattle.sg_shape.specs.ShapeOfText.{function_of, in_order, leaves_of, pair_in, shape_of_text, state_in, state_of}
 use Rattle.sg_shape.proofs.Flawless.{all_known, few_fields, few_protos, names_differ}
 use Rattle.sg_shape.proofs.Names.{placed, proto_names}
-use Rattle.sg_shape.proofs.Pairs.{all_within}
+use Rattle.sg_shape.proofs.Listing.{all_within}
 use Rattle.sg_shape.proofs.Places.{all_pass, neither}
 
 -- ---- states

@@ -39,14 +39,16 @@ impl<'t, 'a> Proto<'t, 'a> {
     pub fn name(&self) -> &'a [u8]
         ensures { result.now ≡ self.now.name.bytes }
     {
-        self.name.slice
+        let name = self.name;
+        name.slice
     }
 
     /// The place of the function's name.
     pub fn at(&self) -> usize
         ensures { result ≡ self.now.name.at }
     {
-        self.name.at
+        let name = self.name;
+        name.at
     }
 
     /// Its parameters, of which the first is the caller.

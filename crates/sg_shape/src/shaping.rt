@@ -1,10 +1,10 @@
 // The shape of a text, or what is first wrong with it.
-ghost use Rattle.std.specs.Prelude.{◌≡◌, ◌×◌, ℕ, ◌<◌, ◌≤◌, List, None, Some, true, length, nat_lt, find, slice_get, All, IfErr, IfOk, OnOk};
+ghost use Rattle.std.specs.Prelude.{◌≡◌, ℕ, ◌<◌, ◌≤◌, List, None, Some, true, length, nat_lt, find, slice_get, All, IfErr, IfOk, OnOk};
 ghost use Rattle.std.specs.Option.{option_map};
 ghost use Rattle.std.specs.Result.{MatchResult};
 ghost use Rattle.sg_facts.specs.Allowed.{is_allowed};
 ghost use Rattle.sg_facts.specs.Facts.{facts_of};
-ghost use Rattle.sg_facts.specs.Limits.{most_fields};
+ghost use Rattle.sg_facts.specs.Limits.{most_fields, most_funs};
 ghost use Rattle.sg_check_statements.specs.Shapes.{is_shape};
 ghost use Rattle.sg_check_statements.specs.sg_parse.declared.tree.Statement.{Statement as One};
 ghost use Rattle.sg_shape.specs.declared.fault.ShapeError.TheVariants.{Fault};
