@@ -32,7 +32,7 @@ use Rattle.sg_check_statements.specs.NameSet.{has_name}
 use Rattle.sg_check_statements.specs.Stages.{IsClear}
 use Rattle.sg_check_statements.proofs.Firsts.{none_at_all, none_more}
 use Rattle.sg_check.specs.Inside.Candidates.{HasReach, HasWalks}
-use Rattle.sg_check.specs.Shapes.{all_differ, are_funs, is_fun, is_shape, leaves_fun}
+use Rattle.sg_check_statements.specs.Shapes.{all_differ, are_funs, is_fun, is_shape, leaves_fun}
 use Rattle.sg_check.proofs.Bits.{declared_one, one_declared}
 use Rattle.sg_check.proofs.Calls.{or_cases, or_right, same_number}
 

@@ -34,7 +34,7 @@ use Rattle.sg_check.specs.Inside.Candidates.{HasReach, HasWalks, IsCandidate}
 use Rattle.sg_check.specs.Inside.Numbers.{has_number, marked}
 use Rattle.sg_check.specs.Inside.Reached.{AreTriples, AreUnreached}
 use Rattle.sg_check.specs.Inside.Stuck.{AreStuck}
-use Rattle.sg_check.specs.Shapes.{IsSmall, all_differ, are_funs, are_shapes, is_shape, leaves_fun}
+use Rattle.sg_check_statements.specs.Shapes.{IsSmall, all_differ, are_funs, are_shapes, is_shape, leaves_fun}
 use Rattle.sg_check.proofs.Bits.{declared_one}
 use Rattle.sg_check.proofs.Fitting.{all_six, fits}
 use Rattle.sg_check.proofs.Marked.{first_where}

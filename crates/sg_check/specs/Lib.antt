@@ -1,5 +1,5 @@
 pub mod Inside
-pub mod Shapes
 pub use Rattle.sg_check_statements.specs as sg_check_statements
+pub use Rattle.sg_check_statements.specs.Shapes
 pub use Rattle.sg_check_statements.specs.sg_parse
 pub use Rattle.sg_walk.specs as sg_walk

@@ -13,7 +13,7 @@ pub struct Accepted {
 impl Model for Accepted {
     ghost use Rattle.sg_facts.specs.Fits.{Fits};
     ghost use Rattle.sg_facts.specs.Interface.{Declared};
-    ghost use Rattle.sg_check.specs.Shapes.{IsSmall};
+    ghost use Rattle.sg_check_statements.specs.Shapes.{IsSmall};
 
     ghost Value = { Declared };
 
@@ -25,7 +25,7 @@ impl Model for Accepted {
 impl Accepted {
     ghost use Rattle.std.specs.Prelude.{◌≡◌};
     ghost use Rattle.sg_facts.specs.Fits.{Fits};
-    ghost use Rattle.sg_check.specs.Shapes.{IsSmall};
+    ghost use Rattle.sg_check_statements.specs.Shapes.{IsSmall};
 
     /// An interface that fits, of a shape within the limits.
     pub fn new(iface: Interface) -> Accepted

@@ -9,7 +9,7 @@ ghost use Rattle.sg_check_statements.specs.declared.fault.CheckKind.{CheckKind a
 ghost use Rattle.sg_check.specs.Inside.Answers.{IsThisFault};
 ghost use Rattle.sg_check.specs.Inside.Reached.{AreTriples};
 ghost use Rattle.sg_check.specs.Inside.Candidates.{HasReach, HasWalks, IsCandidate, IsStageOf};
-ghost use Rattle.sg_check.specs.Shapes.{are_shapes};
+ghost use Rattle.sg_check_statements.specs.Shapes.{are_shapes};
 
 use crate::accepted::Accepted;
 use crate::candidate::Candidate;

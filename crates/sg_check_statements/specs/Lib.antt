@@ -5,5 +5,6 @@ pub mod Inside
 pub mod NameSet
 pub mod Params
 pub mod Says
+pub mod Shapes
 pub mod Stages
 pub use Rattle.sg_parse.specs as sg_parse

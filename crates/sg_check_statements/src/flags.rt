@@ -9,7 +9,7 @@ ghost use Rattle.sg_check_statements.specs.Flaws.{fit_leaves, leaves_another, le
 
 use crate::funs::fun_of_name;
 use crate::judge::{Judge, first_flaw};
-use crate::says::{says, says_of};
+use crate::said::{says, says_of};
 use sg_facts::{FunShape, Leaves, Shape};
 use sg_parse::Statement;
 
@@ -104,8 +104,8 @@ fn leaves_some(statements: &[Statement], fun: &[u8]) -> bool
     })
 }
 
-// Whether a statement names a state, other than this, that a function leaves.
-fn leaves_another(statements: &[Statement], fun: &[u8], state: &[u8]) -> bool
+/// Whether a statement names a state, other than this, that a function leaves.
+pub fn leaves_another(statements: &[Statement], fun: &[u8], state: &[u8]) -> bool
     ensures { result ≡ list_any (leaves_another fun.now state.now) statements.now }
 {
     statements.iter().any(|statement| match statement {

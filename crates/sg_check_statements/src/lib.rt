@@ -11,7 +11,7 @@
 //! - `pairs`: transitions and recover steps that the service hasn't
 //! - `unknown`: names without a prototype; `protos`: the prototypes (`Protos`), and one that is there twice; `names`: sets of
 //!   names
-//! - `says`: what statements say of functions (`says_of`); `funs`: functions by their names (`fun_number`)
+//! - `said`: what statements say of functions (`says_of`); `funs`: functions by their names (`fun_number`)
 //! - `laws`: a law of the definitions (`accepted_anywhere`)
 #![tactic(auto)]
 
@@ -28,16 +28,20 @@ mod names;
 mod pairs;
 mod params;
 mod protos;
-mod says;
+mod said;
 mod services;
 mod stages;
 mod unknown;
 
 pub use fault::{CheckError, CheckFault, CheckKind};
-pub use funs::fun_number;
+pub use flags::leaves_another;
+pub use funs::{fun_number, fun_of_name};
+pub use heads::wrong_fact;
 pub use judge::{Judge, first_flaw};
 pub use laws::accepted_anywhere;
-pub use protos::Protos;
-pub use says::says_of;
-pub use sg_parse::{Statement, Tree, parse};
+pub use params::{has_word, is_caller};
+pub use protos::{Protos, duplicate_in};
+pub use said::{says, says_of};
+pub use sg_parse::{Facts, Param, Ret, Spelled, Statement, Tree, TypeName, parse};
 pub use stages::{fit_one_by_one, unless};
+pub use unknown::{bare, bare_second};

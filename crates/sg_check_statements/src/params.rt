@@ -54,9 +54,9 @@ fn fit(fun: &FunShape, params: &[Param]) -> bool
     }
 }
 
-// Whether the first parameter is the caller: it is of a client type, is neither descriptor nor parent, and isn't added to
-// a field.
-fn is_caller(param: &Param) -> bool
+/// Whether the first parameter is the caller: it is of a client type, is neither descriptor nor parent, and isn't added to
+/// a field.
+pub fn is_caller(param: &Param) -> bool
     ensures { result ≡ is_caller param.now }
 {
     is_client_type(&param.ty)

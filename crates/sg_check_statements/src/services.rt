@@ -6,7 +6,7 @@ ghost use Rattle.sg_facts.specs.Facts.{facts_of, fun_of_shape};
 ghost use Rattle.sg_check_statements.specs.Inside.Pieces.{no_creation};
 ghost use Rattle.sg_check_statements.specs.Says.{has_proto, service_of};
 
-use crate::says::has_proto;
+use crate::said::has_proto;
 use sg_facts::{FunShape, Shape};
 use sg_parse::Statement;
 

@@ -39,8 +39,8 @@ impl Judge for Unknown<'_, '_, '_> {
     }
 }
 
-// The place of the name of a function that has no prototype.
-fn bare(protos: &Protos, name: &Spelled) -> Option<usize>
+/// The place of the name of a function that has no prototype.
+pub fn bare(protos: &Protos, name: &Spelled) -> Option<usize>
     ensures { result ≡ then_some (not (has_proto protos.now name.now.bytes)) name.now.at }
 {
     if protos.has(name.slice) {
@@ -50,8 +50,8 @@ fn bare(protos: &Protos, name: &Spelled) -> Option<usize>
     }
 }
 
-// The place of a second name, where a word says that this is a function's, and the function has no prototype.
-fn bare_second(protos: &Protos, word: &[u8], name: &Spelled) -> Option<usize>
+/// The place of a second name, where a word says that this is a function's, and the function has no prototype.
+pub fn bare_second(protos: &Protos, word: &[u8], name: &Spelled) -> Option<usize>
     ensures { result ≡ then_some (names_two word.now && not (has_proto protos.now name.now.bytes)) name.now.at }
 {
     if names_two(word) {

@@ -13,7 +13,7 @@ use Rattle.sg_check_statements.specs.Flaws.{HasNoWalk}
 use Rattle.sg_check_statements.specs.Stages.{IsClear, IsFirstFault}
 use Rattle.sg_check.specs.declared.candidate.Candidate.{Candidate}
 use Rattle.sg_check.specs.Inside.Reached.{AreTriples}
-use Rattle.sg_check.specs.Shapes.{is_shape}
+use Rattle.sg_check_statements.specs.Shapes.{is_shape}
 use Rattle.sg_check.specs.Inside.Stuck.{HasWalk}
 
 -- what a text declares of its service, with all that descriptors can come to; none of the first kinds of faults is there, so

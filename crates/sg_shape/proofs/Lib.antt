@@ -1,0 +1,13 @@
+pub mod Places
+pub mod Names
+pub mod Naming
+pub mod OnFields
+pub mod Listing
+pub mod Clear
+pub mod Flawless
+pub mod Shapes
+pub mod Allowed
+pub mod Declared
+pub mod Goods
+pub mod Fitting
+pub mod Loops

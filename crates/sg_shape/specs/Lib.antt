@@ -1,0 +1,8 @@
+pub mod Faults
+pub mod Fields
+pub mod Flaws
+pub mod Inside
+pub mod Limits
+pub mod Prototypes
+pub mod ShapeOfText
+pub use Rattle.sg_check_statements.specs as sg_check_statements

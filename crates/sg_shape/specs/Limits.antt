@@ -1,0 +1,6 @@
+-- How large a text may be that declares a shape by itself.
+use Rattle.std.specs.Prelude.{ℕ}
+
+-- the greatest number of parameters of a function, the caller among them
+abbrev pub most_params : ℕ
+most_params = 256
