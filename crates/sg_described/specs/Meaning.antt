@@ -14,7 +14,7 @@ use Rattle.sg_facts.specs.declared.row.Row.{Row}
 use Rattle.sg_facts.specs.declared.shape.Effect.{Effect}
 use Rattle.sg_facts.specs.Facts.{fun_at}
 use Rattle.sg_facts.specs.Legal.{Table}
-use Rattle.sg_facts.specs.Track.{row_at, word_of, field_at, fields_after}
+use Rattle.sg_facts.specs.Track.{row_at, word_of, effect_of, field_at}
 use Rattle.sg_facts.specs.Inside.Rows.{empty_field}
 use Rattle.sg_described.specs.declared.description.Operand.{Operand}
 use Rattle.sg_described.specs.declared.description.Operand.TheVariants.{Number, Caller, State, Argument, Own}
@@ -88,10 +88,6 @@ said desc words = record { desc = desc; words = words; bytes = [] }
 abbrev pub call_in : Env → Call
 call_in e = record { client = e.client; seq = 0; fun = 0; desc = 0; args = e.args }
 
--- the fields after an Ok by a verdict
-abbrev pub fields_left : Described → ℕ → Env → Option Verdict → List Value
-fields_left d fun e v = fields_after (call_in e) (said 0 (words_in e v)) (fun_at d.facts.funs fun).effects e.fields
-
 -- the greatest number of a field; 0 where there is no such field
 abbrev pub most_at : List ℕ → ℕ → ℕ
 most_at most x = unwrap_or (slice_get most x) 0
@@ -101,9 +97,13 @@ abbrev pub is_up_to : ℕ → Value → Bool
 is_up_to m (Word n) = nat_le n m
 is_up_to m (Text bytes) = false
 
--- whether effects left each of their fields a word, up to its greatest
-abbrev pub fits : List ℕ → List (ℕ × Effect) → List Value → Bool
-fits most effects fields = list_all (λ e. is_up_to (most_at most e.0) (field_at fields e.0)) effects
+-- whether each effect leaves its field a word, up to its greatest
+abbrev pub fits : List ℕ → Call → Good → List (ℕ × Effect) → List Value → Bool
+fits most call good effects fields = list_all (λ e. is_up_to (most_at most e.0) (effect_of call good e.1 (field_at fields e.0))) effects
+
+-- whether an Ok by a verdict leaves fields that fit
+abbrev pub leaves_fit : Described → ℕ → Env → Option Verdict → Bool
+leaves_fit d fun e v = fits d.most (call_in e) (said 0 (words_in e v)) (fun_at d.facts.funs fun).effects e.fields
 
 -- ---- answers
 
@@ -116,7 +116,7 @@ judged None fit good = Some (if fit then Ok good else Refused Overflow)
 
 -- what a function answers by a verdict, with the descriptor of its Ok
 abbrev pub answer_by : Described → ℕ → ℕ → Env → Option Verdict → Option Reply
-answer_by d fun desc e v = judged v (fits d.most (fun_at d.facts.funs fun).effects (fields_left d fun e v)) (said desc (words_in e v))
+answer_by d fun desc e v = judged v (leaves_fit d fun e v) (said desc (words_in e v))
 
 -- what a function answers, by what its rules see
 abbrev pub answer_in : Described → ℕ → ℕ → Env → Option Reply

@@ -1,6 +1,8 @@
 -- Which descriptions are of services that can be recovered.
 use Rattle.std.specs.Prelude.{ℕ, ◌≡◌, zero, suc, ◌^◌, ◌==◌, ◌&&◌, ◌||◌, Bool, true, false, not, nat_le, nat_lt, if◌then◌else◌, List, [], ◌∷◌, length}
 use Rattle.std.specs.List.{list_all, list_any}
+use Rattle.sg_facts.specs.declared.shape.Effect.{Effect}
+use Rattle.sg_facts.specs.declared.shape.Effect.TheVariants.{AddArg, AddRet}
 use Rattle.sg_facts.specs.declared.shape.Kind.{Kind}
 use Rattle.sg_facts.specs.declared.shape.Kind.TheVariants.{Desc, Word}
 use Rattle.sg_facts.specs.Allowed.{implies, is_allowed, is_never, is_replayed, wants_word}
@@ -68,10 +70,21 @@ is_plain d =
 abbrev pub counts_slowly : Described → ℕ → ℕ → Bool
 counts_slowly d x most = implies (is_counted d.facts x) (nat_le most slow)
 
+-- whether an effect adds
+abbrev pub adds : Effect → Bool
+adds (AddArg k) = true
+adds AddRet = true
+adds _ = false
+
+-- a replayed function adds to no field that counts
+abbrev pub replays_slowly : Described → ℕ → Fun → Bool
+replays_slowly d fun f = implies (is_replayed d.facts fun) (list_all (λ e. implies (is_counted d.facts e.0) (not (adds e.1))) f.effects)
+
 -- a description is of a service that can be recovered
 pub record IsSafe (d : Described) : Type 0 where
   pub plain : IsPlain d
   pub counts : all_from (counts_slowly d) 0 d.most ≡ true
+  pub recounts : all_from (replays_slowly d) 1 d.facts.funs ≡ true
   pub waits : all_from (waits_well d) 1 d.facts.funs ≡ true
   pub begins : all_from (begins_well d) 1 d.facts.funs ≡ true
   pub walks : list_all (walks_well d) (spots_of d) ≡ true
@@ -79,7 +92,8 @@ pub record IsSafe (d : Described) : Type 0 where
 -- whether a description is of a service that can be recovered
 abbrev pub is_safe : Described → Bool
 is_safe d =
-    is_plain d && all_from (counts_slowly d) 0 d.most && all_from (waits_well d) 1 d.facts.funs && all_from (begins_well d) 1 d.facts.funs && list_all (walks_well d) (spots_of d)
+    is_plain d && all_from (counts_slowly d) 0 d.most && all_from (replays_slowly d) 1 d.facts.funs && all_from (waits_well d) 1 d.facts.funs && all_from (begins_well d) 1 d.facts.funs
+    && list_all (walks_well d) (spots_of d)
 
 -- a description without functions
 abbrev pub described_nothing : Described

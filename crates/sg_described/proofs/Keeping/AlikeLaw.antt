@@ -17,7 +17,7 @@ use Rattle.sg_described.specs.declared.description.Verdict.{Verdict}
 use Rattle.sg_described.specs.declared.description.Verdict.TheVariants.{Refuse, Wait, Give}
 use Rattle.sg_described.specs.Described.{Described, rules_at}
 use Rattle.sg_described.specs.DescribedSound.{IsDescribedSound}
-use Rattle.sg_described.specs.Meaning.{Env, answer_in, answer_of, described_table, env_of, fields_left, fits, judged, said, verdict_of, words_in}
+use Rattle.sg_described.specs.Meaning.{Env, answer_in, answer_of, described_table, env_of, judged, leaves_fit, said, verdict_of, words_in}
 use Rattle.sg_described.specs.Safe.{IsPlain}
 use Rattle.sg_described.proofs.Keeping.Answering.{IsPlainFun, plain_fun}
 
@@ -50,7 +50,7 @@ module _ (d : Described) (plain : IsPlain d) (names : List (ℕ × ℕ)) (o held
   alike_with : (makes : Bool) (desc desc' : ℕ) (e : Env) → (makes ≡ false → desc' ≡ named names desc) → SameReply names makes (answer_in d call.fun desc e) (answer_in d call.fun desc' e)
   alike_with makes desc desc' e same =
       same_judged names makes desc desc' (words_in e (verdict_of e (rules_at d call.fun))) (verdict_of e (rules_at d call.fun))
-      (fits d.most (fun_at d.facts.funs call.fun).effects (fields_left d call.fun e (verdict_of e (rules_at d call.fun)))) same
+      (leaves_fit d call.fun e (verdict_of e (rules_at d call.fun))) same
 
   abbrev seen : ℕ → List Value → Env
   seen state fields = record { client = call.client; args = call.args; state = state; fields = fields }

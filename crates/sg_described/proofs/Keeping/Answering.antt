@@ -15,7 +15,7 @@ use Rattle.sg_facts.proofs.Replaying.Steps.{each_fun}
 use Rattle.sg_described.specs.declared.description.Verdict.{Verdict}
 use Rattle.sg_described.specs.declared.description.Verdict.TheVariants.{Refuse, Wait, Give}
 use Rattle.sg_described.specs.Described.{Described, Rule, rules_at}
-use Rattle.sg_described.specs.Meaning.{Env, answer_by, answer_in, applies, fields_left, fits, judged, said, verdict_of, words_in}
+use Rattle.sg_described.specs.Meaning.{Env, answer_by, answer_in, applies, judged, leaves_fit, said, verdict_of, words_in}
 use Rattle.sg_described.specs.Safe.{IsPlain, is_plain_fun, is_plain_kind}
 use Rattle.sg_described.proofs.Keeping.Basics.{both_true, fun_in, implied, no_it}
 
@@ -30,13 +30,13 @@ module _ (d : Described) (fun desc : ℕ) (e : Env) where
   -- an Ok: the verdict lets it be done, and it leaves fields that fit
   pub record IsDone (good : Good) : Type 0 where
     pub done : lets_do (verdict_of e (rules_at d fun)) ≡ true
-    pub left : fits d.most (fun_at d.facts.funs fun).effects (fields_left d fun e (verdict_of e (rules_at d fun))) ≡ true
+    pub left : leaves_fit d fun e (verdict_of e (rules_at d fun)) ≡ true
     pub is : said desc (words_in e (verdict_of e (rules_at d fun))) ≡ good
 
   pub done_tells : (good : Good) → answer_in d fun desc e ≡ Some (Ok good) → IsDone good
-  done_tells good is = at (verdict_of e (rules_at d fun)) (fits d.most (fun_at d.facts.funs fun).effects (fields_left d fun e (verdict_of e (rules_at d fun)))) refl refl is
+  done_tells good is = at (verdict_of e (rules_at d fun)) (leaves_fit d fun e (verdict_of e (rules_at d fun))) refl refl is
     where
-      at : (v : Option Verdict) (b : Bool) → verdict_of e (rules_at d fun) ≡ v → fits d.most (fun_at d.facts.funs fun).effects (fields_left d fun e (verdict_of e (rules_at d fun))) ≡ b
+      at : (v : Option Verdict) (b : Bool) → verdict_of e (rules_at d fun) ≡ v → leaves_fit d fun e (verdict_of e (rules_at d fun)) ≡ b
           → judged v b (said desc (words_in e (verdict_of e (rules_at d fun)))) ≡ Some (Ok good) → IsDone good
       at None true none left is = record { done = ap lets_do none; left = left; is = cc is }
       at None false none left is = absurd (cc is)
@@ -45,9 +45,9 @@ module _ (d : Described) (fun desc : ℕ) (e : Env) where
       at (Some (Refuse code)) b some left is = absurd (cc is)
       at (Some Wait) b some left is = absurd (cc is)
 
-  pub done_is : lets_do (verdict_of e (rules_at d fun)) ≡ true → fits d.most (fun_at d.facts.funs fun).effects (fields_left d fun e (verdict_of e (rules_at d fun))) ≡ true
+  pub done_is : lets_do (verdict_of e (rules_at d fun)) ≡ true → leaves_fit d fun e (verdict_of e (rules_at d fun)) ≡ true
       → answer_in d fun desc e ≡ Some (Ok (said desc (words_in e (verdict_of e (rules_at d fun)))))
-  done_is done left = at (verdict_of e (rules_at d fun)) (fits d.most (fun_at d.facts.funs fun).effects (fields_left d fun e (verdict_of e (rules_at d fun)))) done left
+  done_is done left = at (verdict_of e (rules_at d fun)) (leaves_fit d fun e (verdict_of e (rules_at d fun))) done left
     where
       at : (v : Option Verdict) (b : Bool) → lets_do v ≡ true → b ≡ true
           → judged v b (said desc (words_in e (verdict_of e (rules_at d fun)))) ≡ Some (Ok (said desc (words_in e (verdict_of e (rules_at d fun)))))
@@ -60,7 +60,7 @@ module _ (d : Described) (fun desc : ℕ) (e : Env) where
 
   -- a wait: the first rule that applies says so
   pub wait_tells : answer_in d fun desc e ≡ None → verdict_of e (rules_at d fun) ≡ Some Wait
-  wait_tells is = at (verdict_of e (rules_at d fun)) (fits d.most (fun_at d.facts.funs fun).effects (fields_left d fun e (verdict_of e (rules_at d fun)))) is
+  wait_tells is = at (verdict_of e (rules_at d fun)) (leaves_fit d fun e (verdict_of e (rules_at d fun))) is
     where
       at : (v : Option Verdict) (b : Bool) → judged v b (said desc (words_in e (verdict_of e (rules_at d fun)))) ≡ None → v ≡ Some Wait
       at None b is = absurd (cc is)

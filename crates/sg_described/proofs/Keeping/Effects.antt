@@ -13,6 +13,7 @@ use Rattle.sg_facts.specs.declared.shape.Effect.TheVariants.{SetCaller, SetArg, 
 use Rattle.sg_facts.specs.Allowed.{sets_once}
 use Rattle.sg_facts.specs.Track.{effect_of, field_at, fields_after, word_of}
 use Rattle.sg_facts.specs.Walks.{effect_on}
+use Rattle.sg_described.specs.Meaning.{fits, is_up_to, most_at}
 use Rattle.sg_described.proofs.Keeping.Basics.{apart_of, both_true, no_it, same_of}
 
 -- ---- one field of several
@@ -53,6 +54,14 @@ fields_same call call' reply reply' client args words [] fs = refl
 fields_same call call' reply reply' client args words (e ∷ es) fs =
     fields_same call call' reply reply' client args words es (slice_set fs e.0 (effect_of call reply e.1 (field_at fs e.0)))
     ∙ ap (λ v. fields_after call' reply' es (slice_set fs e.0 v)) (effect_same call call' reply reply' e.1 (field_at fs e.0) client args words)
+
+-- they fit alike
+pub fits_same : (most : List ℕ) (call call' : Call) (reply reply' : Good) → call.client ≡ call'.client → call.args ≡ call'.args → reply.words ≡ reply'.words
+    → (es : List (ℕ × Effect)) (fs : List Value) → fits most call reply es fs ≡ fits most call' reply' es fs
+fits_same most call call' reply reply' client args words [] fs = refl
+fits_same most call call' reply reply' client args words (e ∷ es) fs =
+    ap (λ v. is_up_to (most_at most e.0) v && fits most call reply es fs) (effect_same call call' reply reply' e.1 (field_at fs e.0) client args words)
+    ∙ ap (λ b. is_up_to (most_at most e.0) (effect_of call' reply' e.1 (field_at fs e.0)) && b) (fits_same most call call' reply reply' client args words es fs)
 
 module _ (call : Call) (reply : Good) where
   pub after_length : (es : List (ℕ × Effect)) (ws : List Value) → length (fields_after call reply es ws) ≡ length ws

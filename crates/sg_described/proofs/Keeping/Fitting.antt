@@ -6,18 +6,20 @@ use Rattle.std.specs.declared.option.Option.{Option}
 use Rattle.std.proofs.lemmas.Bool.Decides.{nat_tests}
 use Rattle.sg_facts.specs.sg_base.declared.value.Value.{Value}
 use Rattle.sg_facts.specs.sg_base.declared.value.Value.TheVariants.{Word, Text}
+use Rattle.sg_facts.specs.sg_base.declared.call.Call.{Call}
+use Rattle.sg_facts.specs.sg_base.declared.reply.Good.{Good}
 use Rattle.sg_facts.specs.declared.shape.Effect.{Effect}
 use Rattle.sg_facts.specs.Facts.{Facts, Field}
 use Rattle.sg_facts.specs.Inside.Rows.{empty_field}
 use Rattle.sg_facts.specs.Limits.{last_client}
 use Rattle.sg_facts.specs.Sound.{AreFields, IsOfField}
-use Rattle.sg_facts.specs.Track.{field_at, word_of}
+use Rattle.sg_facts.specs.Track.{effect_of, field_at, word_of}
 use Rattle.sg_facts.specs.Walks.{effect_on}
 use Rattle.sg_described.specs.Described.{Described}
 use Rattle.sg_described.specs.DescribedSound.{are_up_to}
 use Rattle.sg_described.specs.Known.{greatest, greatest_from, has_client}
 use Rattle.sg_described.specs.Meaning.{fits, is_up_to, last_word, most_at}
-use Rattle.sg_described.proofs.Keeping.Basics.{both_true, effect_passes, no_it, or_true, own_test}
+use Rattle.sg_described.proofs.Keeping.Basics.{both_true, effect_passes, no_it}
 
 -- a field is a word up to a number
 abbrev pub IsWordTo : ℕ → List Value → ℕ → Type 0
@@ -156,28 +158,10 @@ module _ (d : Described) where
   pub greatest_up : (x n : ℕ) → n ≤ most_at d.most x → (has_client d.facts x ≡ true → n ≤ last_client) → n ≤ most_at (greatest d) x
   greatest_up x n low client = let same : 0 + x ≡ x = omega arith in from_up d.facts 0 d.most x n low (λ is. client (ap (has_client d.facts) (sym same) ∙ is))
 
--- ---- fields that effects left
+-- ---- what effects leave
 
--- a field that an effect is on is up to its greatest, where fields fit
-pub fits_on : (most : List ℕ) (es : List (ℕ × Effect)) (vs : List Value) → fits most es vs ≡ true → (x : ℕ) (e : Effect) → effect_on es x ≡ Some e → IsWordTo (most_at most x) vs x
-fits_on most es vs fit x e some = up_to_word (most_at most x) (field_at vs x) (effect_passes (λ o. is_up_to (most_at most o.0) (field_at vs o.0)) es fit x e some)
-
-listed_on : (es : List (ℕ × Effect)) (x : ℕ) → list_any (λ e. e.0 == x) es ≡ true → (e : Effect) × (effect_on es x ≡ Some e)
-listed_on [] x any = absurd (cc any)
-listed_on (o ∷ es) x any = at (o.0 == x) any (listed_on es x)
-  where
-    at : (b : Bool) → (b || list_any (λ e. e.0 == x) es) ≡ true → (list_any (λ e. e.0 == x) es ≡ true → (e : Effect) × (effect_on es x ≡ Some e)) → (e : Effect) × (cond b (Some o.1) (effect_on es x) ≡ Some e)
-    at true any rest = (o.1, refl)
-    at false any rest = rest any
-
-each_listed : (q : ℕ → Bool) (es : List (ℕ × Effect)) → ((x : ℕ) → list_any (λ e. e.0 == x) es ≡ true → q x ≡ true) → list_all (λ e. q e.0) es ≡ true
-each_listed q [] each = refl
-each_listed q (o ∷ es) each =
-    let own = each o.0 (ap (λ b. b || list_any (λ e. e.0 == o.0) es) (own_test o.0)) in
-    ap (λ b. b && list_all (λ e. q e.0) es) own ∙ each_listed q es (λ x any. each x (ap (λ b. (o.0 == x) || b) any ∙ or_true (o.0 == x)))
-
--- fields fit where each that an effect is on is up to its greatest
-pub fits_from : (most : List ℕ) (es : List (ℕ × Effect)) (vs : List Value) → ((x : ℕ) (e : Effect) → effect_on es x ≡ Some e → IsWordTo (most_at most x) vs x) → fits most es vs ≡ true
-fits_from most es vs each =
-    each_listed (λ x. is_up_to (most_at most x) (field_at vs x)) es
-    (λ x any. let on = listed_on es x any in let is = each x on.0 on.1 in word_up_to (most_at most x) is.0 (field_at vs x) is.1 is.2)
+-- what an effect leaves is up to the greatest of its field, where effects fit
+pub fits_on : (most : List ℕ) (call : Call) (good : Good) (es : List (ℕ × Effect)) (vs : List Value) → fits most call good es vs ≡ true → (x : ℕ) (e : Effect) → effect_on es x ≡ Some e
+    → (n : ℕ) × (effect_of call good e (field_at vs x) ≡ Word n) × (n ≤ most_at most x)
+fits_on most call good es vs fit x e some =
+    up_to_word (most_at most x) (effect_of call good e (field_at vs x)) (effect_passes (λ o. is_up_to (most_at most o.0) (effect_of call good o.1 (field_at vs o.0))) es fit x e some)

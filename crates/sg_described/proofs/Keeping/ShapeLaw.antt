@@ -22,7 +22,7 @@ use Rattle.sg_described.specs.declared.description.Verdict.{Verdict}
 use Rattle.sg_described.specs.declared.description.Verdict.TheVariants.{Refuse, Wait, Give}
 use Rattle.sg_described.specs.Described.{Described, Rule, rules_among, rules_at}
 use Rattle.sg_described.specs.Known.{is_give}
-use Rattle.sg_described.specs.Meaning.{Env, answer_in, applies, described_table, env_of, fields_left, fits, holds, judged, said, verdict_of, words_in}
+use Rattle.sg_described.specs.Meaning.{Env, answer_in, applies, described_table, env_of, holds, judged, leaves_fit, said, verdict_of, words_in}
 use Rattle.sg_described.specs.Safe.{IsPlain, always_gives, are_plain_rules, is_plain_rule}
 use Rattle.sg_described.proofs.Keeping.Answering.{IsBy, done_tells, judged_by, lets_do, wait_tells}
 use Rattle.sg_described.proofs.Keeping.Basics.{OneOf, both_true, first, fun_in, implied, no_it, one_of, second}
@@ -58,7 +58,7 @@ module _ (d : Described) (plain : IsPlain d) (fun : ℕ) (low : 1 ≤ fun) (high
 
   -- no refusal is the guard's
   pub not_guards : (desc : ℕ) (e : Env) → NotGuards (answer_in d fun desc e)
-  not_guards desc e = at (verdict_of e (rules_at d fun)) (fits d.most (fun_at d.facts.funs fun).effects (fields_left d fun e (verdict_of e (rules_at d fun)))) (λ code is.
+  not_guards desc e = at (verdict_of e (rules_at d fun)) (leaves_fit d fun e (verdict_of e (rules_at d fun))) (λ code is.
       let by = judged_by e (is_plain_rule (fun_at d.facts.funs fun)) (rules_at d fun) (Refuse code) plain_rules is in
       no_it (is_guards code) (ap (λ v. is_plain_rule (fun_at d.facts.funs fun) (record { tests = by.rule.tests; verdict = v })) (sym by.verdict) ∙ by.passes)) refl
     where
@@ -142,7 +142,7 @@ module _ (d : Described) (plain : IsPlain d) (fun desc : ℕ) (e : Env) where
 
   refuses_where : IsOfFun d fun → NotGuards (answer_in d fun desc e)
   refuses_where (named low high) = not_guards d plain fun low high desc e
-  refuses_where (none no_rules no_flags) = at (verdict_of e (rules_at d fun)) (fits d.most (fun_at d.facts.funs fun).effects (fields_left d fun e (verdict_of e (rules_at d fun)))) (ap (verdict_of e) no_rules)
+  refuses_where (none no_rules no_flags) = at (verdict_of e (rules_at d fun)) (leaves_fit d fun e (verdict_of e (rules_at d fun))) (ap (verdict_of e) no_rules)
     where
       at : (v : Option Verdict) (fit : Bool) → v ≡ None → NotGuards (judged v fit (said desc (words_in e (verdict_of e (rules_at d fun)))))
       at None true is = tt

@@ -27,13 +27,13 @@ use Rattle.sg_slots.proofs.RowLaws.{childless, sound_more, sound_changed, sound_
 use Rattle.sg_described.specs.Described.{Described, rules_at}
 use Rattle.sg_described.specs.DescribedSound.{IsDescribedRow, IsDescribedSound, are_up_to}
 use Rattle.sg_described.specs.Known.{greatest, has_client, leaves_client}
-use Rattle.sg_described.specs.Meaning.{Env, answer_of, call_in, described_table, env_of, fields_left, fits, last_word, most_at, said, verdict_of, words_in}
+use Rattle.sg_described.specs.Meaning.{Env, answer_of, call_in, described_table, env_of, fits, last_word, most_at, said, verdict_of, words_in}
 use Rattle.sg_described.specs.NeverZero.{AreNeverZero, all_from, is_listed, is_never_zero, leaves_some, makes_some, moves_some, never_zero, stays_listed}
 use Rattle.sg_described.specs.Safe.{IsPlain}
 use Rattle.sg_described.proofs.Keeping.Answering.{IsDone, IsPlainFun, done_tells, plain_fun}
 use Rattle.sg_described.proofs.Keeping.Basics.{both_true, effect_passes, fun_in, implied, no_it, own_test, pair_passes}
 use Rattle.sg_described.proofs.Keeping.Guarded.{in_its_state}
-use Rattle.sg_described.proofs.Keeping.Effects.{after_length, by_effect, cleared_none, fields_same, left_none, left_some}
+use Rattle.sg_described.proofs.Keeping.Effects.{after_length, by_effect, cleared_none, fits_same, left_none, left_some}
 use Rattle.sg_described.proofs.Keeping.Fitting.{IsWordTo, empty_at, empty_length, fields_from, fits_on, greatest_client, greatest_length, greatest_low, greatest_up, most_small, up_at, up_from, up_length, word_low}
 use Rattle.sg_described.proofs.Keeping.NeverZeros.{never_zero_keeps}
 
@@ -58,19 +58,12 @@ module _ (facts : Facts) (o : Object) (call : Call) (good : Good) where
 
 -- ---- what an Ok leaves of a row
 
-module _ (d : Described) (call : Call) (good : Good) where
-  -- the fields that the shape's effects leave are those that the answer looked at
-  pub left_is : (makes : Bool) (row : Option Row) (desc : ℕ) → IsDone d call.fun desc (env_of d call makes row) good
-      → fields_after call good (fun_at d.facts.funs call.fun).effects (env_of d call makes row).fields
-      ≡ fields_left d call.fun (env_of d call makes row) (verdict_of (env_of d call makes row) (rules_at d call.fun))
-  left_is makes row desc done =
-      fields_same call (call_in (env_of d call makes row)) good (said 0 (words_in (env_of d call makes row) (verdict_of (env_of d call makes row) (rules_at d call.fun)))) refl refl
-      (sym (ap (λ (g : Good). g.words) done.is)) (fun_at d.facts.funs call.fun).effects (env_of d call makes row).fields
-
-  -- they fit
-  pub left_fits : (makes : Bool) (row : Option Row) (desc : ℕ) → IsDone d call.fun desc (env_of d call makes row) good
-      → fits d.most (fun_at d.facts.funs call.fun).effects (fields_after call good (fun_at d.facts.funs call.fun).effects (env_of d call makes row).fields) ≡ true
-  left_fits makes row desc done = ap (fits d.most (fun_at d.facts.funs call.fun).effects) (left_is makes row desc done) ∙ done.left
+-- the effects fit, as the answer found
+pub left_fits : (d : Described) (call : Call) (good : Good) (makes : Bool) (row : Option Row) (desc : ℕ) → IsDone d call.fun desc (env_of d call makes row) good
+    → fits d.most call good (fun_at d.facts.funs call.fun).effects (env_of d call makes row).fields ≡ true
+left_fits d call good makes row desc done =
+    fits_same d.most call (call_in (env_of d call makes row)) good (said 0 (words_in (env_of d call makes row) (verdict_of (env_of d call makes row) (rules_at d call.fun)))) refl refl
+    (sym (ap (λ (g : Good). g.words) done.is)) (fun_at d.facts.funs call.fun).effects (env_of d call makes row).fields ∙ done.left
 
 -- an effect that leaves a client or none
 client_left : (call : Call) (good : Good) (e : Effect) (v : Value) → leaves_client e ≡ true → call.client ≤ last_client → word_of v ≤ last_client → word_of (effect_of call good e v) ≤ last_client
@@ -114,33 +107,37 @@ module _ (d : Described) (plain : IsPlain d) (call : Call) (good : Good) (low : 
   after_some ws same x e some = left_some call good (length d.most) es ws x e some its.once its.within same
 
   -- fields that were words below the end are so still, where those with effects on them fit
-  pub words_left : (ws : List Value) → length ws ≡ length d.most → ((x : ℕ) → IsWordTo last_word ws x) → fits d.most (fun_at d.facts.funs call.fun).effects (fields_after call good (fun_at d.facts.funs call.fun).effects ws) ≡ true
+  pub words_left : (ws : List Value) → length ws ≡ length d.most → ((x : ℕ) → IsWordTo last_word ws x) → fits d.most call good (fun_at d.facts.funs call.fun).effects ws ≡ true
       → AreFields d.facts.fields (fields_after call good (fun_at d.facts.funs call.fun).effects ws)
   words_left ws same old fit = fields_from d.facts.fields (fields_after call good es ws) plain.words (after_length call good es ws ∙ same ∙ plain.fields) each
     where
       each : (x : ℕ) → IsWordTo last_word (fields_after call good es ws) x
       each x = by_effect es x (IsWordTo last_word (fields_after call good es ws) x)
           (λ none. let was = old x in (was.0, left_none call good es ws x none ∙ was.1, was.2))
-          (λ e some. let new = fits_on d.most es (fields_after call good es ws) fit x e some in let most = most_small d.most plain.most x in let up = new.2 in (new.0, new.1, omega (arith, most, up)))
+          (λ e some.
+          let new = fits_on d.most call good es ws fit x e some in
+          let most = most_small d.most plain.most x in
+          let up = new.2 in
+          (new.0, after_some ws same x e some ∙ new.1, omega (arith, most, up)))
 
   -- fields that were up to their greatest are so still
   pub up_left : (ws : List Value) → length ws ≡ length d.most → ((x : ℕ) → IsWordTo (most_at (greatest d) x) ws x) → call.client ≤ last_client
-      → fits d.most (fun_at d.facts.funs call.fun).effects (fields_after call good (fun_at d.facts.funs call.fun).effects ws) ≡ true
+      → fits d.most call good (fun_at d.facts.funs call.fun).effects ws ≡ true
       → are_up_to (greatest d) (fields_after call good (fun_at d.facts.funs call.fun).effects ws) ≡ true
   up_left ws same old client fit = up_from (greatest d) (fields_after call good es ws) (after_length call good es ws ∙ same ∙ sym (greatest_length d)) each
     where
-      few : (x : ℕ) (e : Effect) (n : ℕ) → effect_on es x ≡ Some e → field_at (fields_after call good es ws) x ≡ Word n → has_client d.facts x ≡ true → n ≤ last_client
+      few : (x : ℕ) (e : Effect) (n : ℕ) → effect_on es x ≡ Some e → effect_of call good e (field_at ws x) ≡ Word n → has_client d.facts x ≡ true → n ≤ last_client
       few x e n some is its_client =
           let was = word_low (most_at (greatest d) x) x ws (old x) in
           let top = greatest_client d x its_client in
           let new = client_left call good e (field_at ws x) (client_effect d.facts call.fun x e its_client low high some) client (omega (arith, was, top)) in
-          let same_word : n ≡ word_of (effect_of call good e (field_at ws x)) = ap word_of (sym is) ∙ ap word_of (after_some ws same x e some) in
+          let same_word : n ≡ word_of (effect_of call good e (field_at ws x)) = ap word_of (sym is) in
           omega (arith, new, same_word)
 
       each : (x : ℕ) → IsWordTo (most_at (greatest d) x) (fields_after call good es ws) x
       each x = by_effect es x (IsWordTo (most_at (greatest d) x) (fields_after call good es ws) x)
           (λ none. let was = old x in (was.0, left_none call good es ws x none ∙ was.1, was.2))
-          (λ e some. let new = fits_on d.most es (fields_after call good es ws) fit x e some in (new.0, new.1, greatest_up d x new.0 new.2 (few x e new.0 some new.1)))
+          (λ e some. let new = fits_on d.most call good es ws fit x e some in (new.0, after_some ws same x e some ∙ new.1, greatest_up d x new.0 new.2 (few x e new.0 some new.1)))
 
   -- a field that isn't left 0
   pub some_after : (ws : List Value) → length ws ≡ length d.most → (x : ℕ) (some : Bool) → leaves_some (effect_on (fun_at d.facts.funs call.fun).effects x) some ≡ true → 1 ≤ call.client
