@@ -7,6 +7,7 @@ use Rattle.sg_facts.specs.declared.shape.Effect.TheVariants.{SetCaller, SetArg, 
 use Rattle.sg_facts.specs.Allowed.{implies}
 use Rattle.sg_facts.specs.Facts.{Facts}
 use Rattle.sg_facts.specs.Limits.{last_client}
+use Rattle.sg_described.specs.declared.bounds.Bounds.{Bounds}
 use Rattle.sg_described.specs.declared.description.Operand.{Operand}
 use Rattle.sg_described.specs.declared.description.Operand.TheVariants.{Number, Caller, State, Argument, Own}
 use Rattle.sg_described.specs.declared.description.Term.{Term}
@@ -19,51 +20,51 @@ use Rattle.sg_described.specs.declared.description.Verdict.TheVariants.{Refuse, 
 use Rattle.sg_described.specs.Described.{Described, Rule}
 use Rattle.sg_described.specs.Meaning.{last_word, most_at}
 
--- the least and the greatest that a number can be
-abbrev pub Range : Type 0
-Range = ℕ × ℕ
+-- a number is at least one and at most another
+abbrev pub between : ℕ → ℕ → Bounds
+between least most = record { least = least; most = most }
 
 -- what is known of a call and its row: of the arguments, the state, and the fields
 pub record Known : Type 0 where
-  pub args : ℕ → Range
-  pub state : Range
-  pub fields : ℕ → Range
+  pub args : ℕ → Bounds
+  pub state : Bounds
+  pub fields : ℕ → Bounds
 
 -- ---- terms and tests
 
-abbrev pub operand_in : Known → Operand → Range
-operand_in k (Number n) = (n, n)
-operand_in k Caller = (1, last_client)
+abbrev pub operand_in : Known → Operand → Bounds
+operand_in k (Number n) = between n n
+operand_in k Caller = between 1 last_client
 operand_in k State = k.state
 operand_in k (Argument a) = k.args a
 operand_in k (Own x) = k.fields x
 
-abbrev pub term_in : Known → Term → Range
+abbrev pub term_in : Known → Term → Bounds
 term_in k (Only a) = operand_in k a
-term_in k (Plus a b) = (min ((operand_in k a).0 + (operand_in k b).0) last_word, min ((operand_in k a).1 + (operand_in k b).1) last_word)
-term_in k (Minus a b) = ((operand_in k a).0 - (operand_in k b).1, (operand_in k a).1 - (operand_in k b).0)
-term_in k (Least a b) = (min (operand_in k a).0 (operand_in k b).0, min (operand_in k a).1 (operand_in k b).1)
-term_in k (Greatest a b) = (max (operand_in k a).0 (operand_in k b).0, max (operand_in k a).1 (operand_in k b).1)
+term_in k (Plus a b) = between (min ((operand_in k a).least + (operand_in k b).least) last_word) (min ((operand_in k a).most + (operand_in k b).most) last_word)
+term_in k (Minus a b) = between ((operand_in k a).least - (operand_in k b).most) ((operand_in k a).most - (operand_in k b).least)
+term_in k (Least a b) = between (min (operand_in k a).least (operand_in k b).least) (min (operand_in k a).most (operand_in k b).most)
+term_in k (Greatest a b) = between (max (operand_in k a).least (operand_in k b).least) (max (operand_in k a).most (operand_in k b).most)
 
--- whether two numbers of these ranges are surely one number, and whether they surely aren't
-abbrev pub surely_same : Range → Range → Bool
-surely_same m n = (m.0 == m.1) && (n.0 == n.1) && (m.0 == n.0)
+-- whether two numbers within these bounds are surely one number, and whether they surely aren't
+abbrev pub surely_same : Bounds → Bounds → Bool
+surely_same m n = (m.least == m.most) && (n.least == n.most) && (m.least == n.least)
 
-abbrev pub surely_apart : Range → Range → Bool
-surely_apart m n = nat_lt m.1 n.0 || nat_lt n.1 m.0
+abbrev pub surely_apart : Bounds → Bounds → Bool
+surely_apart m n = nat_lt m.most n.least || nat_lt n.most m.least
 
--- whether two numbers of these ranges surely stand so to each other, and whether they surely don't
-abbrev pub surely_stands : Relation → Range → Range → Bool
+-- whether two numbers within these bounds surely stand so to each other, and whether they surely don't
+abbrev pub surely_stands : Relation → Bounds → Bounds → Bool
 surely_stands Is m n = surely_same m n
 surely_stands IsNot m n = surely_apart m n
-surely_stands Below m n = nat_lt m.1 n.0
-surely_stands Above m n = nat_lt n.1 m.0
+surely_stands Below m n = nat_lt m.most n.least
+surely_stands Above m n = nat_lt n.most m.least
 
-abbrev pub never_stands : Relation → Range → Range → Bool
+abbrev pub never_stands : Relation → Bounds → Bounds → Bool
 never_stands Is m n = surely_apart m n
 never_stands IsNot m n = surely_same m n
-never_stands Below m n = nat_le n.1 m.0
-never_stands Above m n = nat_le m.1 n.0
+never_stands Below m n = nat_le n.most m.least
+never_stands Above m n = nat_le m.most n.least
 
 -- whether a test surely holds, and whether it surely doesn't
 abbrev pub surely : Known → Test → Bool
@@ -103,7 +104,7 @@ surely_stops k (r ∷ rules) = if is_give r.verdict then never_applies k r && su
 
 -- the greatest word that rules give
 abbrev pub word_by : Known → Verdict → ℕ
-word_by k (Give t) = (term_in k t).1
+word_by k (Give t) = (term_in k t).most
 word_by k Wait = 0
 word_by k (Refuse code) = 0
 
@@ -113,17 +114,17 @@ word_most k (r ∷ rules) = max (word_by k r.verdict) (word_most k rules)
 
 -- ---- what tests that hold tell
 
--- what a number is that stands so to another, if it was in a range
-abbrev pub told_by : Relation → ℕ → Range → Range
-told_by Is n r = (n, n)
-told_by IsNot n r = (if n == r.0 then min (n + 1) last_word else r.0, if n == r.1 then n - 1 else r.1)
-told_by Below n r = (r.0, min r.1 (n - 1))
-told_by Above n r = (max r.0 (min (n + 1) last_word), r.1)
+-- what is known of a number that stands so to another, by what was known of it
+abbrev pub told_by : Relation → ℕ → Bounds → Bounds
+told_by Is n r = between n n
+told_by IsNot n r = between (if n == r.least then min (n + 1) last_word else r.least) (if n == r.most then n - 1 else r.most)
+told_by Below n r = between r.least (min r.most (n - 1))
+told_by Above n r = between (max r.least (min (n + 1) last_word)) r.most
 
-abbrev pub with_field : Known → ℕ → Range → Known
+abbrev pub with_field : Known → ℕ → Bounds → Known
 with_field k x r = record { args = k.args; state = k.state; fields = λ y. if y == x then r else k.fields y }
 
-abbrev pub with_state : Known → Range → Known
+abbrev pub with_state : Known → Bounds → Known
 with_state k r = record { args = k.args; state = r; fields = k.fields }
 
 -- an operand that stands so to a number; there are so many fields
@@ -168,13 +169,13 @@ greatest d = greatest_from d.facts 0 d.most
 -- ---- fields after effects
 
 -- a field after the effect on it, or none, where the effect's Ok leaves it up to its greatest
-abbrev pub range_after : Option Effect → ℕ → Range → Range
-range_after None most r = r
-range_after (Some SetCaller) most r = (1, min most last_client)
-range_after (Some (SetArg k)) most r = (0, most)
-range_after (Some (AddArg k)) most r = (r.0, most)
-range_after (Some SetRet) most r = (0, most)
-range_after (Some AddRet) most r = (r.0, most)
-range_after (Some Clear) most r = (0, 0)
-range_after (Some SubOne) most r = (r.0 - 1, r.1 - 1)
-range_after (Some SubRet) most r = (0, r.1)
+abbrev pub bounds_after : Option Effect → ℕ → Bounds → Bounds
+bounds_after None most r = r
+bounds_after (Some SetCaller) most r = between 1 (min most last_client)
+bounds_after (Some (SetArg k)) most r = between 0 most
+bounds_after (Some (AddArg k)) most r = between r.least most
+bounds_after (Some SetRet) most r = between 0 most
+bounds_after (Some AddRet) most r = between r.least most
+bounds_after (Some Clear) most r = between 0 0
+bounds_after (Some SubOne) most r = between (r.least - 1) (r.most - 1)
+bounds_after (Some SubRet) most r = between 0 r.most

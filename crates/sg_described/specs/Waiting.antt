@@ -8,6 +8,7 @@ use Rattle.sg_facts.specs.Allowed.{implies}
 use Rattle.sg_facts.specs.Facts.{Fun, fun_at, state_after}
 use Rattle.sg_facts.specs.Interface.{has_pair}
 use Rattle.sg_facts.specs.Walks.{effect_on}
+use Rattle.sg_described.specs.declared.bounds.Bounds.{Bounds}
 use Rattle.sg_described.specs.declared.description.Operand.{Operand}
 use Rattle.sg_described.specs.declared.description.Operand.TheVariants.{Own}
 use Rattle.sg_described.specs.declared.description.Term.{Term}
@@ -16,7 +17,7 @@ use Rattle.sg_described.specs.declared.description.Relation.{Relation}
 use Rattle.sg_described.specs.declared.description.Relation.TheVariants.{Is, IsNot, Below, Above}
 use Rattle.sg_described.specs.declared.description.Test.{Test}
 use Rattle.sg_described.specs.Described.{Described, Rule, rules_at}
-use Rattle.sg_described.specs.Known.{Known, Range, after_tests, greatest, is_wait, range_after, surely_applies, surely_stops}
+use Rattle.sg_described.specs.Known.{Known, after_tests, between, bounds_after, greatest, is_wait, surely_applies, surely_stops}
 use Rattle.sg_described.specs.Meaning.{last_word, most_at}
 use Rattle.sg_described.specs.NeverZero.{all_from}
 
@@ -82,7 +83,7 @@ stays_out effects r = is_wait r.verdict || list_all (test_is_left effects) r.tes
 
 -- of any call on any row
 abbrev pub known_of_all : Described → Known
-known_of_all d = record { args = λ a. (0, last_word); state = (0, length d.facts.funs); fields = λ x. (0, most_at (greatest d) x) }
+known_of_all d = record { args = λ a. between 0 last_word; state = between 0 (length d.facts.funs); fields = λ x. between 0 (most_at (greatest d) x) }
 
 -- where a rule applies
 abbrev pub known_where : Described → Rule → Known
@@ -93,24 +94,24 @@ abbrev pub known_after : Described → ℕ → Known → Known
 known_after d fun k = record {
   args = k.args;
   state = k.state;
-  fields = λ x. range_after (effect_on (fun_at d.facts.funs fun).effects x) (most_at (greatest d) x) (k.fields x);
+  fields = λ x. bounds_after (effect_on (fun_at d.facts.funs fun).effects x) (most_at (greatest d) x) (k.fields x);
 }
 
 -- ---- who waits
 
 -- a pair of a state and the other function, where both may be called in it
-abbrev pub is_within : Range → ℕ → Bool
-is_within r n = nat_le r.0 n && nat_le n r.1
+abbrev pub is_within : Bounds → ℕ → Bool
+is_within r n = nat_le r.least n && nat_le n r.most
 
-abbrev pub is_met_at : Described → ℕ → ℕ → Range → ℕ × ℕ → Bool
+abbrev pub is_met_at : Described → ℕ → ℕ → Bounds → ℕ × ℕ → Bool
 is_met_at d waiter fun states m = (m.1 == fun) && is_within states m.0 && has_pair d.facts.moves m.0 waiter
 
 -- the two are never called in one state
-abbrev pub never_meet : Described → ℕ → ℕ → Range → Bool
+abbrev pub never_meet : Described → ℕ → ℕ → Bounds → Bool
 never_meet d waiter fun states = list_all (λ m. not (is_met_at d waiter fun states m)) d.facts.moves
 
 -- the other leaves the state where the two meet
-abbrev pub keeps_state : Described → ℕ → ℕ → Range → Bool
+abbrev pub keeps_state : Described → ℕ → ℕ → Bounds → Bool
 keeps_state d waiter fun states = list_all (λ m. implies (is_met_at d waiter fun states m) (state_after d.facts fun m.0 == m.0)) d.facts.moves
 
 -- a rule that makes wait goes on to do so after an Ok of the other: neither a rule before it comes in between, nor does it cease to apply

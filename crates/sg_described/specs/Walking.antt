@@ -9,8 +9,9 @@ use Rattle.sg_facts.specs.Facts.{Fun, fun_at}
 use Rattle.sg_facts.specs.Limits.{last_client}
 use Rattle.sg_facts.specs.Walks.{FieldMark, Spot, unset, good, unknown}
 use Rattle.sg_facts.specs.Inside.Walking.{carries_arg, first_spot, next_spot, sets_caller}
+use Rattle.sg_described.specs.declared.bounds.Bounds.{Bounds}
 use Rattle.sg_described.specs.Described.{Described, rules_at}
-use Rattle.sg_described.specs.Known.{Known, Range, greatest, may_stop, word_most}
+use Rattle.sg_described.specs.Known.{Known, between, greatest, may_stop, word_most}
 use Rattle.sg_described.specs.Meaning.{last_word, most_at}
 use Rattle.sg_described.specs.NeverZero.{all_from, is_never_zero}
 
@@ -90,23 +91,28 @@ abbrev pub blank : Described → ℕ → Spot
 blank d fun = record { state = fun; marks = map (λ f. unset) d.facts.fields }
 
 -- a field that is restored isn't 0 where it never is
-abbrev pub range_at : FieldMark → Bool → ℕ → Range
-range_at m some most = elim m [ unset ↦ (0, 0) | good ↦ (if some then 1 else 0, most) | unknown ↦ (0, last_word) ]
+abbrev pub bounds_at : FieldMark → Bool → ℕ → Bounds
+bounds_at m some most = elim m [ unset ↦ between 0 0 | good ↦ between (if some then 1 else 0) most | unknown ↦ between 0 last_word ]
 
-abbrev pub field_known : Described → Spot → ℕ → Range
-field_known d s x = range_at (mark_at s.marks x) (is_never_zero d.facts s.state x) (most_at (greatest d) x)
+abbrev pub field_known : Described → Spot → ℕ → Bounds
+field_known d s x = bounds_at (mark_at s.marks x) (is_never_zero d.facts s.state x) (most_at (greatest d) x)
 
 -- the field that carries an argument
 abbrev pub carrier : List (ℕ × Effect) → ℕ → Option ℕ
 carrier [] k = None
 carrier (e ∷ es) k = if carries_arg k e.1 then Some e.0 else carrier es k
 
-abbrev pub arg_known : Described → ℕ → ℕ → Range
-arg_known d fun k = elim (carrier (fun_at d.facts.funs fun).effects k) [ None ↦ (0, 0) | Some x ↦ (0, most_at (greatest d) x) ]
+-- an argument that a field carries, or none
+abbrev pub carried_known : Described → Option ℕ → Bounds
+carried_known d None = between 0 0
+carried_known d (Some x) = between 0 (most_at (greatest d) x)
+
+abbrev pub arg_known : Described → ℕ → ℕ → Bounds
+arg_known d fun k = carried_known d (carrier (fun_at d.facts.funs fun).effects k)
 
 -- of the replayed call of a function
 abbrev pub known_at : Described → ℕ → Spot → Known
-known_at d fun s = record { args = arg_known d fun; state = (s.state, s.state); fields = field_known d s }
+known_at d fun s = record { args = arg_known d fun; state = between s.state s.state; fields = field_known d s }
 
 -- ---- replayed calls
 
@@ -124,7 +130,7 @@ left_most SubRet old own word = old
 -- an effect of a replayed call leaves its field up to its greatest
 abbrev pub effect_fits : Described → ℕ → Spot → ℕ × Effect → Bool
 effect_fits d fun s e =
-    nat_le (left_most e.1 (field_known d s e.0).1 (most_at (greatest d) e.0) (word_most (known_at d fun s) (rules_at d fun))) (most_at d.most e.0)
+    nat_le (left_most e.1 (field_known d s e.0).most (most_at (greatest d) e.0) (word_most (known_at d fun s) (rules_at d fun))) (most_at d.most e.0)
 
 -- the caller of a replayed call is a client: the field that the function sets to it is never 0 in the state that it leaves, and up to the last client
 abbrev pub caller_fits : Described → ℕ → ℕ × Effect → Bool

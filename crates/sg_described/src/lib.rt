@@ -1,6 +1,7 @@
 //! Services that are described: each is data, a shape with rules, and is of the same kind as a service that is written.
 //!
 //! - `description`: a service as data (`Description`, `AnswerShape`, `RuleShape`, `Test`, `Term`, `Operand`)
+//! - `bounds`: what is known of a number (`Bounds`)
 //! - `laws`: laws of the definitions (`safe_services_keep_laws`, `never_zero_is_greatest`)
 //!
 //! The definitions stand in `specs/`: a description as plain data (`Described`), what it answers (`Meaning`), what is known of
@@ -8,9 +9,11 @@
 //! which descriptions are safe (`Safe`).
 #![tactic(auto)]
 
+mod bounds;
 mod description;
 mod laws;
 
+pub use bounds::Bounds;
 pub use description::{
     AnswerShape, Description, Operand, Relation, RuleShape, Term, Test, Verdict,
 };

@@ -22,10 +22,11 @@ use Rattle.sg_facts.specs.Walks.{effect_on}
 use Rattle.sg_facts.proofs.RowLists.{id_of_row, row_at-more, row_at-changed, row_at-left}
 use Rattle.sg_facts.proofs.Replaying.Found.{met, to_map}
 use Rattle.sg_slots.proofs.RowLaws.{row_of_call}
+use Rattle.sg_described.specs.declared.bounds.Bounds.{Bounds}
 use Rattle.sg_described.specs.declared.description.Verdict.TheVariants.{Wait}
 use Rattle.sg_described.specs.Described.{Described, Rule, rules_at}
 use Rattle.sg_described.specs.DescribedSound.{IsDescribedRow, IsDescribedSound, are_up_to}
-use Rattle.sg_described.specs.Known.{Known, after_tests, greatest, is_wait, range_after, surely_applies, surely_stops}
+use Rattle.sg_described.specs.Known.{Known, after_tests, bounds_after, greatest, is_wait, surely_applies, surely_stops}
 use Rattle.sg_described.specs.Meaning.{Env, answer_of, applies, described_table, env_of, fits, most_at, verdict_of}
 use Rattle.sg_described.specs.NeverZero.{all_from}
 use Rattle.sg_described.specs.Safe.{IsPlain, is_plain_move}
@@ -36,7 +37,7 @@ use Rattle.sg_described.proofs.Keeping.Effects.{by_effect, left_none, untouched}
 use Rattle.sg_described.proofs.Keeping.Fitting.{greatest_length, up_at, up_length, word_low}
 use Rattle.sg_described.proofs.Keeping.Guarded.{in_its_state}
 use Rattle.sg_described.proofs.Keeping.InRanges.{AreArgsIn, IsEnv, IsIn, IsRowIn, applies_surely, args_small, stops_surely, tests_args, tests_tell}
-use Rattle.sg_described.proofs.Keeping.Lasting.{Follow, WaitsBy, lowered, raised, range_left, rule_in, tests_last, waits_again, waits_by}
+use Rattle.sg_described.proofs.Keeping.Lasting.{Follow, WaitsBy, lowered, raised, bounds_left, rule_in, tests_last, waits_again, waits_by}
 use Rattle.sg_described.proofs.Keeping.ShapeLaw.{wait_is_plain}
 use Rattle.sg_described.proofs.Keeping.SoundLaw.{after_is, after_some, left_fits, turned, up_left}
 
@@ -71,17 +72,17 @@ module _ (d : Described) (plain : IsPlain d) (o : Object) (other call : Call) (g
   row_in = tests_tell (length d.most) e (known_of_all d) by.rule.tests by.applies_so row_in_all
 
   args_in : (args : List Value) → AreArgsIn (known_of_all d) args → AreArgsIn (known_where d by.rule) args
-  args_in args are = subst (λ (f : ℕ → ℕ × ℕ). (a : ℕ) → IsIn (f a) (word_of (unwrap_or (slice_get args a) (Word 0)))) (sym (tests_args (length d.most) e (known_of_all d) by.rule.tests)) are
+  args_in args are = subst (λ (f : ℕ → Bounds). (a : ℕ) → IsIn (f a) (word_of (unwrap_or (slice_get args a) (Word 0)))) (sym (tests_args (length d.most) e (known_of_all d) by.rule.tests)) are
 
   -- the two meet in this state
   meet : is_met_at d other.fun call.fun (known_where d by.rule).state (row.state, call.fun) ≡ true
   meet =
       let low = row_in.state.0 in
       let high = row_in.state.1 in
-      let from : nat_le (known_where d by.rule).state.0 row.state ≡ true = grind (arith, nat_tests, low) in
-      let to : nat_le row.state (known_where d by.rule).state.1 ≡ true = grind (arith, nat_tests, high) in
+      let from : nat_le (known_where d by.rule).state.least row.state ≡ true = grind (arith, nat_tests, low) in
+      let to : nat_le row.state (known_where d by.rule).state.most ≡ true = grind (arith, nat_tests, high) in
       ap (λ b. b && is_within (known_where d by.rule).state row.state && has_pair d.facts.moves row.state other.fun) (own_test call.fun)
-      ∙ ap (λ b. b && nat_le row.state (known_where d by.rule).state.1 && has_pair d.facts.moves row.state other.fun) from
+      ∙ ap (λ b. b && nat_le row.state (known_where d by.rule).state.most && has_pair d.facts.moves row.state other.fun) from
       ∙ ap (λ b. b && has_pair d.facts.moves row.state other.fun) to ∙ waits_in
 
   they_meet : never_meet d other.fun call.fun (known_where d by.rule).state ≡ true → ⊥
@@ -123,17 +124,17 @@ module _ (d : Described) (plain : IsPlain d) (o : Object) (other call : Call) (g
   row_after_in : IsRowIn (known_after d call.fun (known_where d by.rule)) row.state left
   row_after_in = record { state = row_in.state; fields = each }
     where
-      each : (x : ℕ) → IsIn (range_after (effect_on es x) (most_at (greatest d) x) ((known_where d by.rule).fields x)) (word_of (field_at left x))
-      each x = by_effect es x (IsIn (range_after (effect_on es x) (most_at (greatest d) x) ((known_where d by.rule).fields x)) (word_of (field_at left x)))
+      each : (x : ℕ) → IsIn (bounds_after (effect_on es x) (most_at (greatest d) x) ((known_where d by.rule).fields x)) (word_of (field_at left x))
+      each x = by_effect es x (IsIn (bounds_after (effect_on es x) (most_at (greatest d) x) ((known_where d by.rule).fields x)) (word_of (field_at left x)))
           (λ none.
-          subst (λ f. IsIn (range_after f (most_at (greatest d) x) ((known_where d by.rule).fields x)) (word_of (field_at left x))) (sym none)
+          subst (λ f. IsIn (bounds_after f (most_at (greatest d) x) ((known_where d by.rule).fields x)) (word_of (field_at left x))) (sym none)
           (subst (λ v. IsIn ((known_where d by.rule).fields x) (word_of v)) (sym (left_none call good es row.fields x none)) (row_in.fields x)))
           (λ f some.
           let new = changed x f some in
           let up = word_low (most_at (greatest d) x) x left (up_at (greatest d) left left_up x) in
-          subst (λ g. IsIn (range_after g (most_at (greatest d) x) ((known_where d by.rule).fields x)) (word_of (field_at left x))) (sym some)
-          (subst (IsIn (range_after (Some f) (most_at (greatest d) x) ((known_where d by.rule).fields x))) (sym new)
-          (range_left call good f (field_at row.fields x) (most_at (greatest d) x) ((known_where d by.rule).fields x) passes_too.within.client_first passes_too.within.client_last (omega (arith, new, up)) (row_in.fields x))))
+          subst (λ g. IsIn (bounds_after g (most_at (greatest d) x) ((known_where d by.rule).fields x)) (word_of (field_at left x))) (sym some)
+          (subst (IsIn (bounds_after (Some f) (most_at (greatest d) x) ((known_where d by.rule).fields x))) (sym new)
+          (bounds_left call good f (field_at row.fields x) (most_at (greatest d) x) ((known_where d by.rule).fields x) passes_too.within.client_first passes_too.within.client_last (omega (arith, new, up)) (row_in.fields x))))
 
   abbrev later : Env
   later = record { client = other.client; args = other.args; state = row.state; fields = fields_after call good (fun_at d.facts.funs call.fun).effects row.fields }

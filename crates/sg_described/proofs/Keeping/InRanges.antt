@@ -9,6 +9,7 @@ use Rattle.sg_facts.specs.sg_base.declared.value.Value.TheVariants.{Word, Text}
 use Rattle.sg_facts.specs.Kinds.{AreWords}
 use Rattle.sg_facts.specs.Limits.{last_client}
 use Rattle.sg_facts.specs.Track.{field_at, first_word, word_of}
+use Rattle.sg_described.specs.declared.bounds.Bounds.{Bounds}
 use Rattle.sg_described.specs.declared.description.Operand.{Operand}
 use Rattle.sg_described.specs.declared.description.Operand.TheVariants.{Number, Caller, State, Argument, Own}
 use Rattle.sg_described.specs.declared.description.Term.{Term}
@@ -19,13 +20,13 @@ use Rattle.sg_described.specs.declared.description.Test.{Test}
 use Rattle.sg_described.specs.declared.description.Verdict.{Verdict}
 use Rattle.sg_described.specs.declared.description.Verdict.TheVariants.{Refuse, Wait, Give}
 use Rattle.sg_described.specs.Described.{Rule}
-use Rattle.sg_described.specs.Known.{Known, Range, after_test, after_tests, after_told, is_give, may_stop, never, never_applies, never_stands, operand_in, surely, surely_apart, surely_applies, surely_same, surely_stands, surely_stops, term_in, told_by, with_field, with_state, word_by, word_most}
+use Rattle.sg_described.specs.Known.{Known, after_test, after_tests, after_told, between, is_give, may_stop, never, never_applies, never_stands, operand_in, surely, surely_apart, surely_applies, surely_same, surely_stands, surely_stops, term_in, told_by, with_field, with_state, word_by, word_most}
 use Rattle.sg_described.specs.Meaning.{Env, applies, holds, last_word, operand_of, said, stands, term_of, verdict_of, words_in}
 use Rattle.sg_described.proofs.Keeping.Answering.{lets_do}
 use Rattle.sg_described.proofs.Keeping.Basics.{OneOf, both_true, clash, first, no_it, one_of, same_of, second}
 
-abbrev pub IsIn : Range → ℕ → Type 0
-IsIn r n = (r.0 ≤ n) × (n ≤ r.1)
+abbrev pub IsIn : Bounds → ℕ → Type 0
+IsIn r n = (r.least ≤ n) × (n ≤ r.most)
 
 -- a row of this state with these fields is as it is known to be
 pub record IsRowIn (k : Known) (its_state : ℕ) (its_fields : List Value) : Type 0 where
@@ -43,7 +44,7 @@ pub record IsEnv (k : Known) (e : Env) : Type 0 where
   pub args : AreArgsIn k e.args
   pub row : IsRowIn k e.state e.fields
 
-pub args_small : (args : List Value) → AreWords args → (k : ℕ) → IsIn (0, last_word) (word_of (unwrap_or (slice_get args k) (Word 0)))
+pub args_small : (args : List Value) → AreWords args → (k : ℕ) → IsIn (between 0 last_word) (word_of (unwrap_or (slice_get args k) (Word 0)))
 args_small [] are k = (omega arith, omega arith)
 args_small (Word n ∷ args) are zero = let low = are.0 in (omega arith, omega (arith, low))
 args_small (Word n ∷ args) are (suc k) = args_small args are.1 k
@@ -52,47 +53,47 @@ args_small (Text bytes ∷ args) are (suc k) = args_small args are k
 
 -- ---- two numbers
 
-same_so : (p q : Range) (m n : ℕ) → IsIn p m → IsIn q n → surely_same p q ≡ true → (m == n) ≡ true
+same_so : (p q : Bounds) (m n : ℕ) → IsIn p m → IsIn q n → surely_same p q ≡ true → (m == n) ≡ true
 same_so p q m n in_p in_q is =
-    let two = both_true ((p.0 == p.1) && (q.0 == q.1)) (p.0 == q.0) is in
-    let one = both_true (p.0 == p.1) (q.0 == q.1) two.0 in
-    let a = same_of p.0 p.1 one.0 in
-    let c = same_of q.0 q.1 one.1 in
-    let f = same_of p.0 q.0 two.1 in
+    let two = both_true ((p.least == p.most) && (q.least == q.most)) (p.least == q.least) is in
+    let one = both_true (p.least == p.most) (q.least == q.most) two.0 in
+    let a = same_of p.least p.most one.0 in
+    let c = same_of q.least q.most one.1 in
+    let f = same_of p.least q.least two.1 in
     let same : m ≡ n = omega (arith, a, c, f, in_p.0, in_p.1, in_q.0, in_q.1) in
     grind (arith, nat_tests, same)
 
-apart_so : (p q : Range) (m n : ℕ) → IsIn p m → IsIn q n → surely_apart p q ≡ true → (m == n) ≡ false
-apart_so p q m n in_p in_q is = elim (one_of (nat_lt p.1 q.0) (nat_lt q.1 p.0) is) [
+apart_so : (p q : Bounds) (m n : ℕ) → IsIn p m → IsIn q n → surely_apart p q ≡ true → (m == n) ≡ false
+apart_so p q m n in_p in_q is = elim (one_of (nat_lt p.most q.least) (nat_lt q.most p.least) is) [
   | first below ↦
-      let a : p.1 < q.0 = grind (arith, nat_tests, below) in
+      let a : p.most < q.least = grind (arith, nat_tests, below) in
       let less : m < n = omega (arith, a, in_p.1, in_q.0) in
       grind (arith, nat_tests, less)
   | second above ↦
-      let a : q.1 < p.0 = grind (arith, nat_tests, above) in
+      let a : q.most < p.least = grind (arith, nat_tests, above) in
       let less : n < m = omega (arith, a, in_p.0, in_q.1) in
       grind (arith, nat_tests, less)
 ]
 
-below_so : (p q : Range) (m n : ℕ) → IsIn p m → IsIn q n → nat_lt p.1 q.0 ≡ true → nat_lt m n ≡ true
+below_so : (p q : Bounds) (m n : ℕ) → IsIn p m → IsIn q n → nat_lt p.most q.least ≡ true → nat_lt m n ≡ true
 below_so p q m n in_p in_q is =
-    let a : p.1 < q.0 = grind (arith, nat_tests, is) in
+    let a : p.most < q.least = grind (arith, nat_tests, is) in
     let less : m < n = omega (arith, a, in_p.1, in_q.0) in
     grind (arith, nat_tests, less)
 
-not_below : (p q : Range) (m n : ℕ) → IsIn p m → IsIn q n → nat_le q.1 p.0 ≡ true → nat_lt m n ≡ false
+not_below : (p q : Bounds) (m n : ℕ) → IsIn p m → IsIn q n → nat_le q.most p.least ≡ true → nat_lt m n ≡ false
 not_below p q m n in_p in_q is =
-    let a : q.1 ≤ p.0 = grind (arith, nat_tests, is) in
+    let a : q.most ≤ p.least = grind (arith, nat_tests, is) in
     let less : n ≤ m = omega (arith, a, in_p.0, in_q.1) in
     grind (arith, nat_tests, less)
 
-stands_so : (r : Relation) (p q : Range) (m n : ℕ) → IsIn p m → IsIn q n → surely_stands r p q ≡ true → stands r m n ≡ true
+stands_so : (r : Relation) (p q : Bounds) (m n : ℕ) → IsIn p m → IsIn q n → surely_stands r p q ≡ true → stands r m n ≡ true
 stands_so Is p q m n in_p in_q is = same_so p q m n in_p in_q is
 stands_so IsNot p q m n in_p in_q is = ap not (apart_so p q m n in_p in_q is)
 stands_so Below p q m n in_p in_q is = below_so p q m n in_p in_q is
 stands_so Above p q m n in_p in_q is = below_so q p n m in_q in_p is
 
-stands_never : (r : Relation) (p q : Range) (m n : ℕ) → IsIn p m → IsIn q n → never_stands r p q ≡ true → stands r m n ≡ false
+stands_never : (r : Relation) (p q : Bounds) (m n : ℕ) → IsIn p m → IsIn q n → never_stands r p q ≡ true → stands r m n ≡ false
 stands_never Is p q m n in_p in_q is = apart_so p q m n in_p in_q is
 stands_never IsNot p q m n in_p in_q is = ap not (same_so p q m n in_p in_q is)
 stands_never Below p q m n in_p in_q is = not_below p q m n in_p in_q is
@@ -200,25 +201,25 @@ module _ (k : Known) (e : Env) (env : IsEnv k e) where
 
 -- ---- what tests that hold tell
 
-told_is : (relation : Relation) (n v : ℕ) (r : Range) → stands relation v n ≡ true → IsIn r v → IsIn (told_by relation n r) v
+told_is : (relation : Relation) (n v : ℕ) (r : Bounds) → stands relation v n ≡ true → IsIn r v → IsIn (told_by relation n r) v
 told_is Is n v r is in_r = let same = same_of v n is in (omega (arith, same), omega (arith, same))
-told_is IsNot n v r is in_r = (low (n == r.0) refl, high (n == r.1) refl)
+told_is IsNot n v r is in_r = (low (n == r.least) refl, high (n == r.most) refl)
   where
     other : v ≡ n → ⊥
     other same = grind (arith, nat_tests, is, same)
 
-    low : (b : Bool) → (n == r.0) ≡ b → cond b (min (n + 1) last_word) r.0 ≤ v
-    low true same = let one = same_of n r.0 same in let from = in_r.0 in omega (arith, one, from, other)
+    low : (b : Bool) → (n == r.least) ≡ b → cond b (min (n + 1) last_word) r.least ≤ v
+    low true same = let one = same_of n r.least same in let from = in_r.0 in omega (arith, one, from, other)
     low false same = in_r.0
 
-    high : (b : Bool) → (n == r.1) ≡ b → v ≤ cond b (n - 1) r.1
-    high true same = let one = same_of n r.1 same in let to = in_r.1 in omega (arith, one, to, other)
+    high : (b : Bool) → (n == r.most) ≡ b → v ≤ cond b (n - 1) r.most
+    high true same = let one = same_of n r.most same in let to = in_r.1 in omega (arith, one, to, other)
     high false same = in_r.1
 told_is Below n v r is in_r = let less : v < n = grind (arith, nat_tests, is) in let from = in_r.0 in let to = in_r.1 in (from, omega (arith, less, to))
 told_is Above n v r is in_r = let less : n < v = grind (arith, nat_tests, is) in let from = in_r.0 in let to = in_r.1 in (omega (arith, less, from), to)
 
 module _ (state : ℕ) (fields : List Value) where
-  field_told : (k : Known) (x : ℕ) (r : Range) → IsRowIn k state fields → IsIn r (word_of (field_at fields x)) → IsRowIn (with_field k x r) state fields
+  field_told : (k : Known) (x : ℕ) (r : Bounds) → IsRowIn k state fields → IsIn r (word_of (field_at fields x)) → IsRowIn (with_field k x r) state fields
   field_told k x r row is = record { state = row.state; fields = each }
     where
       each : (y : ℕ) → IsIn ((with_field k x r).fields y) (word_of (field_at fields y))

@@ -12,6 +12,7 @@ use Rattle.sg_facts.specs.declared.shape.Effect.TheVariants.{SetCaller, SetArg, 
 use Rattle.sg_facts.specs.Limits.{last_client}
 use Rattle.sg_facts.specs.Track.{effect_of, field_at, first_word, word_of}
 use Rattle.sg_facts.specs.Walks.{effect_on}
+use Rattle.sg_described.specs.declared.bounds.Bounds.{Bounds}
 use Rattle.sg_described.specs.declared.description.Operand.{Operand}
 use Rattle.sg_described.specs.declared.description.Operand.TheVariants.{Number, Caller, State, Argument, Own}
 use Rattle.sg_described.specs.declared.description.Term.{Term}
@@ -22,7 +23,7 @@ use Rattle.sg_described.specs.declared.description.Test.{Test}
 use Rattle.sg_described.specs.declared.description.Verdict.{Verdict}
 use Rattle.sg_described.specs.declared.description.Verdict.TheVariants.{Refuse, Wait, Give}
 use Rattle.sg_described.specs.Described.{Rule}
-use Rattle.sg_described.specs.Known.{Range, is_wait, range_after}
+use Rattle.sg_described.specs.Known.{bounds_after, is_wait}
 use Rattle.sg_described.specs.Meaning.{Env, applies, holds, operand_of, stands, term_of, verdict_of}
 use Rattle.sg_described.specs.NeverZero.{all_from}
 use Rattle.sg_described.specs.Waiting.{field_where, is_left, never_falls, never_lowers, never_raises, never_rises, stands_on, stays_out, term_is_left, test_is_left, test_lasts}
@@ -33,16 +34,16 @@ use Rattle.sg_described.proofs.Keeping.InRanges.{IsIn}
 -- ---- one field
 
 -- a field after the effect on it, by where it was
-pub range_left : (call : Call) (good : Good) (e : Effect) (v : Value) (most : ℕ) (r : Range) → 1 ≤ call.client → call.client ≤ last_client → word_of (effect_of call good e v) ≤ most → IsIn r (word_of v)
-    → IsIn (range_after (Some e) most r) (word_of (effect_of call good e v))
-range_left call good SetCaller v most r low high up in_r = (low, omega (arith, high, up))
-range_left call good (SetArg k) v most r low high up in_r = (omega arith, up)
-range_left call good (AddArg k) v most r low high up in_r = let from = in_r.0 in (omega (arith, from), up)
-range_left call good SetRet v most r low high up in_r = (omega arith, up)
-range_left call good AddRet v most r low high up in_r = let from = in_r.0 in (omega (arith, from), up)
-range_left call good Clear v most r low high up in_r = let none = cleared_none call good v in (omega (arith, none), omega (arith, none))
-range_left call good SubOne v most r low high up in_r = let from = in_r.0 in let to = in_r.1 in (omega (arith, from), omega (arith, to))
-range_left call good SubRet v most r low high up in_r = let to = in_r.1 in (omega arith, omega (arith, to))
+pub bounds_left : (call : Call) (good : Good) (e : Effect) (v : Value) (most : ℕ) (r : Bounds) → 1 ≤ call.client → call.client ≤ last_client → word_of (effect_of call good e v) ≤ most → IsIn r (word_of v)
+    → IsIn (bounds_after (Some e) most r) (word_of (effect_of call good e v))
+bounds_left call good SetCaller v most r low high up in_r = (low, omega (arith, high, up))
+bounds_left call good (SetArg k) v most r low high up in_r = (omega arith, up)
+bounds_left call good (AddArg k) v most r low high up in_r = let from = in_r.0 in (omega (arith, from), up)
+bounds_left call good SetRet v most r low high up in_r = (omega arith, up)
+bounds_left call good AddRet v most r low high up in_r = let from = in_r.0 in (omega (arith, from), up)
+bounds_left call good Clear v most r low high up in_r = let none = cleared_none call good v in (omega (arith, none), omega (arith, none))
+bounds_left call good SubOne v most r low high up in_r = let from = in_r.0 in let to = in_r.1 in (omega (arith, from), omega (arith, to))
+bounds_left call good SubRet v most r low high up in_r = let to = in_r.1 in (omega arith, omega (arith, to))
 
 -- one that its effect never raises, and one that it never lowers
 pub lowered : (call : Call) (good : Good) (e : Effect) (v : Value) → never_raises (Some e) ≡ true → word_of (effect_of call good e v) ≤ word_of v

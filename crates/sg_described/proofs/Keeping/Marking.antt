@@ -26,11 +26,11 @@ use Rattle.sg_facts.specs.Walks.{FieldMark, good, unknown, unset, replay_arg, re
 use Rattle.sg_facts.proofs.Replaying.Marks.{IsFrom}
 use Rattle.sg_described.specs.Described.{Described}
 use Rattle.sg_described.specs.DescribedSound.{IsDescribedRow}
-use Rattle.sg_described.specs.Known.{Range, greatest}
+use Rattle.sg_described.specs.Known.{greatest}
 use Rattle.sg_described.specs.Meaning.{last_word, most_at}
 use Rattle.sg_described.specs.NeverZero.{is_never_zero}
 use Rattle.sg_described.specs.Safe.{is_plain_kind}
-use Rattle.sg_described.specs.Walking.{arg_known, caller_fits, carrier, left_most, mark_at, range_at}
+use Rattle.sg_described.specs.Walking.{arg_known, bounds_at, caller_fits, carried_known, carrier, left_most, mark_at}
 use Rattle.sg_described.proofs.Keeping.Basics.{OneOf, both_true, first, implied, one_of, second}
 use Rattle.sg_described.proofs.Keeping.Fitting.{IsWordTo, up_at, word_low}
 use Rattle.sg_described.proofs.Keeping.InRanges.{IsIn}
@@ -55,7 +55,7 @@ unset_at (f ∷ fs) (suc x) = unset_at fs x
 
 -- a field whose row's is a word up to a number, and not 0 where it is restored and never is
 pub mark_in : (m : FieldMark) (some : Bool) (most : ℕ) (v w : Value) → FieldHolds m v w → (n : ℕ) × (v ≡ Word n) × (n ≤ most) → (n : ℕ) × (w ≡ Word n) × (n ≤ last_word) → (m ≡ good → some ≡ true → 1 ≤ word_of v)
-    → IsIn (range_at m some most) (word_of w)
+    → IsIn (bounds_at m some most) (word_of w)
 mark_in unset some most v w holds own word never =
     let none : word_of w ≡ 0 = ap word_of holds ∙ ap (λ x. word_of (cleared x)) own.1 in
     (omega (arith, none), omega (arith, none))
@@ -113,32 +113,32 @@ module _ (d : Described) (r : Row) (row : IsDescribedRow d r) where
           (never e.0 two.0, omega (arith, most, own))
       at false is rest = rest
 
-  carried : (es : List (ℕ × Effect)) (k : ℕ) → (n : ℕ) × (replay_arg es r k ≡ Word n) × (n ≤ (elim (carrier es k) as (λ o. Range) [ None ↦ (0, 0) | Some x ↦ (0, most_at (greatest d) x) ]).1)
+  carried : (es : List (ℕ × Effect)) (k : ℕ) → (n : ℕ) × (replay_arg es r k ≡ Word n) × (n ≤ (carried_known d (carrier es k)).most)
   carried [] k = (0, refl, omega arith)
   carried (e ∷ es) k = at (carries_arg k e.1) (carried es k)
     where
-      at : (b : Bool) → (n : ℕ) × (replay_arg es r k ≡ Word n) × (n ≤ (elim (carrier es k) as (λ o. Range) [ None ↦ (0, 0) | Some x ↦ (0, most_at (greatest d) x) ]).1)
+      at : (b : Bool) → (n : ℕ) × (replay_arg es r k ≡ Word n) × (n ≤ (carried_known d (carrier es k)).most)
           → (n : ℕ) × (cond b (field_at r.fields e.0) (replay_arg es r k) ≡ Word n)
-          × (n ≤ (elim (cond b (Some e.0) (carrier es k)) as (λ o. Range) [ None ↦ (0, 0) | Some x ↦ (0, most_at (greatest d) x) ]).1)
+          × (n ≤ (carried_known d (cond b (Some e.0) (carrier es k))).most)
       at true rest = own_word e.0
       at false rest = rest
 
-  no_less : (o : Option ℕ) → (elim o as (λ o. Range) [ None ↦ (0, 0) | Some x ↦ (0, most_at (greatest d) x) ]).0 ≡ 0
+  no_less : (o : Option ℕ) → (carried_known d o).least ≡ 0
   no_less None = refl
   no_less (Some x) = refl
 
   listed_in : (es : List (ℕ × Effect)) (from : ℕ) (kinds : List Kind) (k : ℕ)
-      → word_of (unwrap_or (slice_get (map (λ p. replay_arg es r p.0) (enumerate_from from kinds)) k) (Word 0)) ≤ (elim (carrier es (from + k)) as (λ o. Range) [ None ↦ (0, 0) | Some x ↦ (0, most_at (greatest d) x) ]).1
+      → word_of (unwrap_or (slice_get (map (λ p. replay_arg es r p.0) (enumerate_from from kinds)) k) (Word 0)) ≤ (carried_known d (carrier es (from + k))).most
   listed_in es from [] k = omega arith
   listed_in es from (kind ∷ kinds) zero =
       let same : from ≡ from + 0 = omega arith in
       let own = carried es from in
       let word = ap word_of own.1 in
       let up = own.2 in
-      subst (λ n. word_of (replay_arg es r from) ≤ (elim (carrier es n) as (λ o. Range) [ None ↦ (0, 0) | Some x ↦ (0, most_at (greatest d) x) ]).1) same (omega (arith, word, up))
+      subst (λ n. word_of (replay_arg es r from) ≤ (carried_known d (carrier es n)).most) same (omega (arith, word, up))
   listed_in es from (kind ∷ kinds) (suc k) =
       let same : from + 1 + k ≡ from + suc k = omega arith in
-      subst (λ n. word_of (unwrap_or (slice_get (map (λ p. replay_arg es r p.0) (enumerate_from (from + 1) kinds)) k) (Word 0)) ≤ (elim (carrier es n) as (λ o. Range) [ None ↦ (0, 0) | Some x ↦ (0, most_at (greatest d) x) ]).1) same
+      subst (λ n. word_of (unwrap_or (slice_get (map (λ p. replay_arg es r p.0) (enumerate_from (from + 1) kinds)) k) (Word 0)) ≤ (carried_known d (carrier es n)).most) same
       (listed_in es (from + 1) kinds k)
 
   -- arguments are as they are known to be
@@ -149,7 +149,7 @@ module _ (d : Described) (r : Row) (row : IsDescribedRow d r) where
       let up = listed_in (fun_at d.facts.funs fun).effects 0 (filter (λ kind. not (is_id kind)) (fun_at d.facts.funs fun).kinds) k in (
         omega (arith, none),
         subst (λ n. word_of (unwrap_or (slice_get (replay_args (fun_at d.facts.funs fun).effects r 0 (fun_at d.facts.funs fun).kinds) k) (Word 0))
-            ≤ (elim (carrier (fun_at d.facts.funs fun).effects n) as (λ o. Range) [ None ↦ (0, 0) | Some x ↦ (0, most_at (greatest d) x) ]).1) same up,
+            ≤ (carried_known d (carrier (fun_at d.facts.funs fun).effects n)).most) same up,
       )
 
   abbrev kind_fits : Kind → Value → Bool

@@ -113,10 +113,10 @@ module _ (d : Described) (plain : IsPlain d) where
     all_fit (e ∷ xs) each all =
         let parts = both_true (effect_fits d fun s e) (list_all (effect_fits d fun s) xs) all in
         let held = field_in e.0 in
-        let one = effect_left (call_in seen) (said 0 (words_in seen (verdict_of seen (rules_at d fun)))) e.1 (field_at r.fields e.0) (field_at ws e.0) (field_known d s e.0).1 (most_at (greatest d) e.0)
+        let one = effect_left (call_in seen) (said 0 (words_in seen (verdict_of seen (rules_at d fun)))) e.1 (field_at r.fields e.0) (field_at ws e.0) (field_known d s e.0).most (most_at (greatest d) e.0)
         (word_most (known_at d fun s) (rules_at d fun)) each.0 (up_at (greatest d) r.fields row.fields e.0) (words e.0) held.1 (word_low (known_at d fun s) seen env (rules_at d fun)) in
         let fit = parts.0 in
-        let most : left_most e.1 (field_known d s e.0).1 (most_at (greatest d) e.0) (word_most (known_at d fun s) (rules_at d fun)) ≤ most_at d.most e.0 = grind (arith, nat_tests, fit) in
+        let most : left_most e.1 (field_known d s e.0).most (most_at (greatest d) e.0) (word_most (known_at d fun s) (rules_at d fun)) ≤ most_at d.most e.0 = grind (arith, nat_tests, fit) in
         let up = one.2 in
         let own = word_up_to (most_at d.most e.0) one.0 (effect_of (call_in seen) (said 0 (words_in seen (verdict_of seen (rules_at d fun)))) e.1 (field_at ws e.0)) one.1 (omega (arith, most, up)) in
         ap (λ b. b && fits d.most (call_in seen) (said 0 (words_in seen (verdict_of seen (rules_at d fun)))) xs ws) own ∙ all_fit xs each.1 parts.1
