@@ -171,7 +171,7 @@ greatest d = greatest_from d.facts 0 d.most
 -- a field after the effect on it, or none, where the effect's Ok leaves it up to its greatest
 abbrev pub bounds_after : Option Effect → ℕ → Bounds → Bounds
 bounds_after None most r = r
-bounds_after (Some SetCaller) most r = between 1 (min most last_client)
+bounds_after (Some SetCaller) most r = between (min most 1) (min most last_client)
 bounds_after (Some (SetArg k)) most r = between 0 most
 bounds_after (Some (AddArg k)) most r = between r.least most
 bounds_after (Some SetRet) most r = between 0 most

@@ -69,9 +69,10 @@ module _ (d : Described) (plain : IsPlain d) (names : List (ℕ × ℕ)) (o held
       = ap (λ s. answer_in d call.fun 0 (seen s v.fields)) needed.alike.state ∙ ap (λ fields. answer_in d call.fun 0 (seen r.state fields)) needed.alike.fields in
       let one : SameReply names false (answer_in d call.fun 0 (seen r.state r.fields)) (answer_in d call.fun 0 (seen r.state r.fields))
       = alike_with false 0 0 (seen r.state r.fields) (λ no. sym serves.names_are.none) in
-      subst (λ row. SameReply names false (answer_of d call false o.given row) (answer_of d (under_names names call) false held.given (row_at held.rows (named names call.desc)))) (sym found.1)
-      (subst (λ row. SameReply names false (answer_in d call.fun 0 (seen r.state r.fields)) (answer_of d (under_names names call) false held.given row)) (sym there)
-      (subst (λ reply. SameReply names false (answer_in d call.fun 0 (seen r.state r.fields)) reply) (sym same) one))
+      let held_row = row_at held.rows (named names call.desc) in
+      subst (λ row. SameReply names false (answer_of d call false o.given row) (answer_of d (under_names names call) false held.given held_row)) {y = row_at o.rows call.desc} (sym found.1)
+      (subst (λ row. SameReply names false (answer_in d call.fun 0 (seen r.state r.fields)) (answer_of d (under_names names call) false held.given row)) {y = held_row} (sym there)
+      (subst (λ reply. SameReply names false (answer_in d call.fun 0 (seen r.state r.fields)) reply) {y = answer_in d call.fun 0 (seen v.state v.fields)} (sym same) one))
 
   pub alike : SameReply names (fun_at d.facts.funs call.fun).creation (described_table d o call) (described_table d held (under_names names call))
   alike = alike_at (fun_at d.facts.funs call.fun).creation refl

@@ -132,19 +132,19 @@ module _ (d : Described) (plain : IsPlain d) (counts : all_from (counts_slowly d
     -- a counted field after an effect of a replayed call
     effect_low : (y : ℕ) (e : Effect) (v : Value) (most : ℕ) → is_counted d.facts y ≡ true → is_up_to (most_at d.most y) (effect_of call good e (field_at fs y)) ≡ true
         → implies (is_counted d.facts y) (not (adds e)) ≡ true → set_to call e ≤ most → word_of (effect_of call good e v) ≤ max (max slow most) (word_of v)
-    effect_low y SetCaller v most is fit no set = omega (arith, client)
-    effect_low y (SetArg k) v most is fit no set = omega (arith, set)
-    effect_low y (AddArg k) v most is fit no set = let none = implied (is_counted d.facts y) false no is in absurd (cc none)
-    effect_low y SetRet v most is fit no set =
+    effect_low y SetCaller v most is fit adds_none set = omega (arith, client)
+    effect_low y (SetArg k) v most is fit adds_none set = omega (arith, set)
+    effect_low y (AddArg k) v most is fit adds_none set = let none = implied (is_counted d.facts y) false adds_none is in absurd (cc none)
+    effect_low y SetRet v most is fit adds_none set =
         let own = up_to_word (most_at d.most y) (Word (first_word good)) fit in
         let word = ap word_of own.1 in
         let up = own.2 in
         let few = slow_field y is in
         omega (arith, word, up, few)
-    effect_low y AddRet v most is fit no set = let none = implied (is_counted d.facts y) false no is in absurd (cc none)
-    effect_low y Clear v most is fit no set = let none = cleared_none call good v in omega (arith, none)
-    effect_low y SubOne v most is fit no set = omega arith
-    effect_low y SubRet v most is fit no set = omega arith
+    effect_low y AddRet v most is fit adds_none set = let none = implied (is_counted d.facts y) false adds_none is in absurd (cc none)
+    effect_low y Clear v most is fit adds_none set = let none = cleared_none call good v in omega (arith, none)
+    effect_low y SubOne v most is fit adds_none set = omega arith
+    effect_low y SubRet v most is fit adds_none set = omega arith
 
     effects_low : (es : List (ℕ × Effect)) (ws : List Value) (most : ℕ) → fits d.most call good es fs ≡ true → list_all (λ e. implies (is_counted d.facts e.0) (not (adds e.1))) es ≡ true
         → most_set d.facts call es ≤ most → NotAbove d.facts (max slow most) ws (fields_after call good es ws)

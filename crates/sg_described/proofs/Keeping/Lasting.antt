@@ -36,7 +36,7 @@ use Rattle.sg_described.proofs.Keeping.InRanges.{IsIn}
 -- a field after the effect on it, by where it was
 pub bounds_left : (call : Call) (good : Good) (e : Effect) (v : Value) (most : ℕ) (r : Bounds) → 1 ≤ call.client → call.client ≤ last_client → word_of (effect_of call good e v) ≤ most → IsIn r (word_of v)
     → IsIn (bounds_after (Some e) most r) (word_of (effect_of call good e v))
-bounds_left call good SetCaller v most r low high up in_r = (low, omega (arith, high, up))
+bounds_left call good SetCaller v most r low high up in_r = (omega (arith, low), omega (arith, high, up))
 bounds_left call good (SetArg k) v most r low high up in_r = (omega arith, up)
 bounds_left call good (AddArg k) v most r low high up in_r = let from = in_r.0 in (omega (arith, from), up)
 bounds_left call good SetRet v most r low high up in_r = (omega arith, up)

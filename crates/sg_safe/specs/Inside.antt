@@ -1,0 +1,4 @@
+-- What private clauses and proofs speak of.
+pub mod Replays
+pub mod Seen
+pub mod Surveys
