@@ -5,15 +5,15 @@ ghost use Rattle.sg_facts.specs.Limits.{most_funs};
 ghost use Rattle.sg_described.specs.Described.{described_of};
 ghost use Rattle.sg_described.specs.Safe.{IsPlain, is_plain, is_safe};
 ghost use Rattle.sg_described.specs.Walking.{spots_of};
-ghost use Rattle.sg_safe.specs.Inside.Surveys.{IsSurveyOf};
+ghost use Rattle.sg_known.specs.Surveys.{IsSurvey, subject_of};
 ghost use Rattle.sg_safe.specs.Reasons.{fails_first, fails_on, first_from, first_in, overtaken, unsafe_in};
 
 use crate::counting::{first_far, first_recounted};
 use crate::reason::Unsafe;
 use crate::replaying::{first_failure, next_failure};
 use crate::spots::all_spots;
-use crate::survey::{Survey, survey};
 use crate::waiting::first_overtaken;
+use sg_known::{Survey, surveyed};
 use sg_described::Description;
 use sg_facts::NoMemory;
 use std::alloc::Global;
@@ -32,15 +32,15 @@ pub fn unsafe_at(alloc: Global, description: &Description) -> Result<Option<Unsa
     if let Some(reason) = first_recounted(description, 1, description.shape.funs) {
         return Ok(Some(reason));
     }
-    unsafe_by(alloc, &survey(alloc, description)?)
+    unsafe_by(alloc, &surveyed(alloc, description)?)
 }
 
 // Why it can't be recovered, where words that count do no harm.
 fn unsafe_by(alloc: Global, survey: &Survey<'_>) -> Result<Option<Unsafe>, NoMemory>
-    requires survey { IsSurveyOf (described_of survey.now.description.now) survey.now }
-    requires plain { IsPlain (described_of survey.now.description.now) }
-    requires few { length (described_of survey.now.description.now).facts.funs ≤ most_funs }
-    ensures { let d = described_of survey.now.description.now in
+    requires survey { IsSurvey survey.now }
+    requires plain { IsPlain (subject_of survey.now) }
+    requires few { length (subject_of survey.now).facts.funs ≤ most_funs }
+    ensures { let d = subject_of survey.now in
         IfOk result (λ reason. reason ≡ option_or (first_from (overtaken d) 1 d.facts.funs) (option_or (first_from (fails_first d) 1 d.facts.funs) (first_in (fails_on d) (spots_of d)))) }
 {
     match first_overtaken(alloc, survey, 1, survey.description.shape.funs)? {
@@ -51,10 +51,10 @@ fn unsafe_by(alloc: Global, survey: &Survey<'_>) -> Result<Option<Unsafe>, NoMem
 
 // Why walks may fail.
 fn failing_by(alloc: Global, survey: &Survey<'_>) -> Result<Option<Unsafe>, NoMemory>
-    requires survey { IsSurveyOf (described_of survey.now.description.now) survey.now }
-    requires plain { IsPlain (described_of survey.now.description.now) }
-    requires few { length (described_of survey.now.description.now).facts.funs ≤ most_funs }
-    ensures { let d = described_of survey.now.description.now in
+    requires survey { IsSurvey survey.now }
+    requires plain { IsPlain (subject_of survey.now) }
+    requires few { length (subject_of survey.now).facts.funs ≤ most_funs }
+    ensures { let d = subject_of survey.now in
         IfOk result (λ reason. reason ≡ option_or (first_from (fails_first d) 1 d.facts.funs) (first_in (fails_on d) (spots_of d))) }
 {
     match first_failure(alloc, survey, 1, survey.description.shape.funs)? {

@@ -7,7 +7,7 @@ ghost use Rattle.sg_facts.specs.Counted.{is_counted, raises_by_word};
 ghost use Rattle.sg_facts.specs.Facts.{facts_of, fun_of_shape};
 ghost use Rattle.sg_described.specs.Described.{described_of};
 ghost use Rattle.sg_described.specs.Safe.{adds};
-ghost use Rattle.sg_safe.specs.Inside.Seen.{pairs_of};
+ghost use Rattle.sg_known.specs.Seen.{pairs_of};
 ghost use Rattle.sg_safe.specs.Reasons.{counts_far, first_from, first_in, recounts};
 
 use crate::reason::Unsafe;

@@ -4,22 +4,20 @@ ghost use Rattle.std.specs.Bool.{then_some};
 ghost use Rattle.std.specs.List.{list_all};
 ghost use Rattle.std.specs.Option.{option_or};
 ghost use Rattle.sg_facts.specs.Facts.{fun_of_shape};
-ghost use Rattle.sg_facts.specs.Limits.{most_fields};
 ghost use Rattle.sg_described.specs.Described.{described_of, rule_of};
 ghost use Rattle.sg_described.specs.Known.{may_stop};
 ghost use Rattle.sg_described.specs.Safe.{IsPlain};
 ghost use Rattle.sg_described.specs.Walking.{bounds_at, caller_fits, known_at, left_most};
-ghost use Rattle.sg_safe.specs.Inside.Seen.{known_in, pairs_of, spot_in};
+ghost use Rattle.sg_known.specs.Seen.{known_in, pairs_of};
+ghost use Rattle.sg_safe.specs.Inside.Seen.{HasFewFields, shown};
 ghost use Rattle.sg_safe.specs.Inside.Replays.{clients_at, fields_from, past_at, spots_from};
-ghost use Rattle.sg_safe.specs.Inside.Surveys.{IsSurveyOf};
+ghost use Rattle.sg_known.specs.Surveys.{IsSurvey, subject_of};
 ghost use Rattle.sg_safe.specs.Reasons.{fails_at, fails_by, fails_first, fails_on, first_from, first_in, known_spot, overflows, refusable};
 ghost use Rattle.sg_walk.specs.Marks.{known_of};
 
-use crate::known::{ANY, ArgsKnown, Seen, ZERO, bounds_up_to, field_bounds, greatest_word, stops};
 use crate::reason::{KnownField, KnownSpot, Unsafe};
 use crate::spots::{blank_spot, loses, spot_after, steps_from};
-use crate::states::state_left;
-use crate::survey::{Survey, is_some_in};
+use sg_known::{ANY, ArgsKnown, Seen, Survey, ZERO, bounds_up_to, field_bounds, greatest_word, is_some_in, state_left, stops};
 use sg_described::{Bounds, Description, RuleShape};
 use sg_facts::{Effect, FunShape, LAST_CLIENT, ListOf, NoMemory};
 use sg_walk::{FieldState, Spot};
@@ -49,10 +47,10 @@ fn add_bounds(
     field: u8,
     marks: &[FieldState],
 ) -> Result<(), NoMemory>
-    requires survey { IsSurveyOf (described_of survey.now.description.now) survey.now }
-    requires within { field + length marks.now ≤ length (described_of survey.now.description.now).facts.fields }
+    requires survey { IsSurvey survey.now }
+    requires within { field + length marks.now ≤ length (subject_of survey.now).facts.fields }
     requires numbers { field + length marks.now < 2 ^ 8 }
-    ensures { OnOk result (fields.new.items ≡ fields.old.items ++ fields_from (described_of survey.now.description.now) state field (map known_of marks.now)) }
+    ensures { OnOk result (fields.new.items ≡ fields.old.items ++ fields_from (subject_of survey.now) state field (map known_of marks.now)) }
 {
     match marks {
         [] => Ok(()),
@@ -71,9 +69,9 @@ fn seen_at<'a>(
     fun: u8,
     spot: Spot,
 ) -> Result<Seen<'a>, NoMemory>
-    requires survey { IsSurveyOf (described_of survey.now.description.now) survey.now }
-    requires fields { length (described_of survey.now.description.now).facts.fields ≤ most_fields }
-    ensures { let d = described_of survey.now.description.now in IfOk result (λ seen. known_in seen ≡ known_at d fun (spot_in (length d.facts.fields) spot)) }
+    requires survey { IsSurvey survey.now }
+    requires fields { HasFewFields (subject_of survey.now) }
+    ensures { let d = subject_of survey.now in IfOk result (λ seen. known_in seen ≡ known_at d fun (shown d spot)) }
 {
     let count = survey.description.shape.fields.len();
     let mut fields = Vec::new(alloc);
@@ -121,9 +119,9 @@ fn known_of_spot(
     spot: Spot,
     seen: &Seen<'_>,
 ) -> Result<KnownSpot, NoMemory>
-    requires fields { length (described_of description.now).facts.fields ≤ most_fields }
-    requires known { known_in seen.now ≡ known_at (described_of description.now) fun (spot_in (length (described_of description.now).facts.fields) spot) }
-    ensures { let d = described_of description.now in IfOk result (λ known. known ≡ known_spot d (spot_in (length d.facts.fields) spot)) }
+    requires fields { HasFewFields (described_of description.now) }
+    requires known { known_in seen.now ≡ known_at (described_of description.now) fun (shown (described_of description.now) spot) }
+    ensures { let d = described_of description.now in IfOk result (λ known. known ≡ known_spot d (shown d spot)) }
 {
     let count = description.shape.fields.len();
     let mut known = ListOf::new(alloc);
@@ -138,9 +136,9 @@ fn known_of_spot(
 
 // The first field that a function sets to its caller and that may hold no client, in the state that it leaves.
 fn first_unheld(survey: &Survey<'_>, state: u8, effects: &[(u8, Effect)]) -> Option<u8>
-    requires survey { IsSurveyOf (described_of survey.now.description.now) survey.now }
-    requires within { list_all (λ e. nat_lt e.0 (length (described_of survey.now.description.now).facts.fields)) (pairs_of effects.now) ≡ true }
-    ensures { result ≡ clients_at (described_of survey.now.description.now) state (pairs_of effects.now) }
+    requires survey { IsSurvey survey.now }
+    requires within { list_all (λ e. nat_lt e.0 (length (subject_of survey.now).facts.fields)) (pairs_of effects.now) ≡ true }
+    ensures { result ≡ clients_at (subject_of survey.now) state (pairs_of effects.now) }
 {
     match effects {
         [] => None,
@@ -156,9 +154,9 @@ fn first_unheld(survey: &Survey<'_>, state: u8, effects: &[(u8, Effect)]) -> Opt
 
 // Whether a field that an effect sets to the caller holds a client in a state.
 fn holds_client(survey: &Survey<'_>, state: u8, field: u8, effect: Effect) -> bool
-    requires survey { IsSurveyOf (described_of survey.now.description.now) survey.now }
-    requires within { field < length (described_of survey.now.description.now).facts.fields }
-    ensures { result ≡ caller_fits (described_of survey.now.description.now) state (field, effect) }
+    requires survey { IsSurvey survey.now }
+    requires within { field < length (subject_of survey.now).facts.fields }
+    ensures { result ≡ caller_fits (subject_of survey.now) state (field, effect) }
 {
     if !matches!(&effect, Effect::SetCaller) {
         return true;
@@ -212,8 +210,8 @@ fn first_past(
     word: u64,
     effects: &[(u8, Effect)],
 ) -> Option<u8>
-    requires { IsSurveyOf (described_of survey.now.description.now) survey.now }
-    ensures { result ≡ past_at (described_of survey.now.description.now) (known_in seen.now) word (pairs_of effects.now) }
+    requires { IsSurvey survey.now }
+    ensures { result ≡ past_at (subject_of survey.now) (known_in seen.now) word (pairs_of effects.now) }
 {
     match effects {
         [] => None,
@@ -239,9 +237,9 @@ fn obstacle_at(
     fun: u8,
     spot: Spot,
 ) -> Result<Option<Unsafe>, NoMemory>
-    requires survey { IsSurveyOf (described_of survey.now.description.now) survey.now }
-    requires fields { length (described_of survey.now.description.now).facts.fields ≤ most_fields }
-    ensures { let d = described_of survey.now.description.now in let s = spot_in (length d.facts.fields) spot in
+    requires survey { IsSurvey survey.now }
+    requires fields { HasFewFields (subject_of survey.now) }
+    ensures { let d = subject_of survey.now in let s = shown d spot in
         IfOk result (λ found. found ≡ option_or (refusable d fun s) (overflows d fun s)) }
 {
     let description = survey.description;
@@ -268,10 +266,10 @@ fn failure_at(
     fun: u8,
     spot: Spot,
 ) -> Result<Option<Unsafe>, NoMemory>
-    requires survey { IsSurveyOf (described_of survey.now.description.now) survey.now }
-    requires plain { IsPlain (described_of survey.now.description.now) }
-    requires fields { length (described_of survey.now.description.now).facts.fields ≤ most_fields }
-    ensures { let d = described_of survey.now.description.now in IfOk result (λ found. found ≡ fails_at d fun (spot_in (length d.facts.fields) spot)) }
+    requires survey { IsSurvey survey.now }
+    requires plain { IsPlain (subject_of survey.now) }
+    requires fields { HasFewFields (subject_of survey.now) }
+    ensures { let d = subject_of survey.now in IfOk result (λ found. found ≡ fails_at d fun (shown d spot)) }
 {
     let shape = &survey.description.shape;
     if loses(survey.description, spot_after(survey.description, fun, spot)) {
@@ -291,10 +289,10 @@ fn begin_failure(
     number: u8,
     fun: &FunShape,
 ) -> Result<Option<Unsafe>, NoMemory>
-    requires survey { IsSurveyOf (described_of survey.now.description.now) survey.now }
-    requires plain { IsPlain (described_of survey.now.description.now) }
-    requires fields { length (described_of survey.now.description.now).facts.fields ≤ most_fields }
-    ensures { IfOk result (λ found. found ≡ fails_first (described_of survey.now.description.now) number (fun_of_shape fun.now)) }
+    requires survey { IsSurvey survey.now }
+    requires plain { IsPlain (subject_of survey.now) }
+    requires fields { HasFewFields (subject_of survey.now) }
+    ensures { IfOk result (λ found. found ≡ fails_first (subject_of survey.now) number (fun_of_shape fun.now)) }
 {
     if !fun.is_creation() {
         return Ok(None);
@@ -309,11 +307,11 @@ pub(crate) fn first_failure(
     number: u8,
     funs: &[FunShape],
 ) -> Result<Option<Unsafe>, NoMemory>
-    requires survey { IsSurveyOf (described_of survey.now.description.now) survey.now }
-    requires plain { IsPlain (described_of survey.now.description.now) }
-    requires fields { length (described_of survey.now.description.now).facts.fields ≤ most_fields }
+    requires survey { IsSurvey survey.now }
+    requires plain { IsPlain (subject_of survey.now) }
+    requires fields { HasFewFields (subject_of survey.now) }
     requires numbers { number + length funs.now < 2 ^ 8 }
-    ensures { IfOk result (λ found. found ≡ first_from (fails_first (described_of survey.now.description.now)) number (map fun_of_shape funs.now)) }
+    ensures { IfOk result (λ found. found ≡ first_from (fails_first (subject_of survey.now)) number (map fun_of_shape funs.now)) }
 {
     match funs {
         [] => Ok(None),
@@ -331,10 +329,10 @@ fn step_failure(
     spot: Spot,
     pair: (u8, u8),
 ) -> Result<Option<Unsafe>, NoMemory>
-    requires survey { IsSurveyOf (described_of survey.now.description.now) survey.now }
-    requires plain { IsPlain (described_of survey.now.description.now) }
-    requires fields { length (described_of survey.now.description.now).facts.fields ≤ most_fields }
-    ensures { let d = described_of survey.now.description.now in IfOk result (λ found. found ≡ fails_by d (spot_in (length d.facts.fields) spot) (pair.0, pair.1)) }
+    requires survey { IsSurvey survey.now }
+    requires plain { IsPlain (subject_of survey.now) }
+    requires fields { HasFewFields (subject_of survey.now) }
+    ensures { let d = subject_of survey.now in IfOk result (λ found. found ≡ fails_by d (shown d spot) (pair.0, pair.1)) }
 {
     if !steps_from(survey.description, spot, pair) {
         return Ok(None);
@@ -349,11 +347,11 @@ fn steps_failure(
     spot: Spot,
     steps: &[(u8, u8)],
 ) -> Result<Option<Unsafe>, NoMemory>
-    requires survey { IsSurveyOf (described_of survey.now.description.now) survey.now }
-    requires plain { IsPlain (described_of survey.now.description.now) }
-    requires fields { length (described_of survey.now.description.now).facts.fields ≤ most_fields }
-    ensures { let d = described_of survey.now.description.now in
-        IfOk result (λ found. found ≡ first_in (fails_by d (spot_in (length d.facts.fields) spot)) (map (λ p. (p.0, p.1)) steps.now)) }
+    requires survey { IsSurvey survey.now }
+    requires plain { IsPlain (subject_of survey.now) }
+    requires fields { HasFewFields (subject_of survey.now) }
+    ensures { let d = subject_of survey.now in
+        IfOk result (λ found. found ≡ first_in (fails_by d (shown d spot)) (map (λ p. (p.0, p.1)) steps.now)) }
 {
     match steps {
         [] => Ok(None),
@@ -370,11 +368,11 @@ pub(crate) fn next_failure(
     survey: &Survey<'_>,
     spots: &[Spot],
 ) -> Result<Option<Unsafe>, NoMemory>
-    requires survey { IsSurveyOf (described_of survey.now.description.now) survey.now }
-    requires plain { IsPlain (described_of survey.now.description.now) }
-    requires fields { length (described_of survey.now.description.now).facts.fields ≤ most_fields }
-    ensures { let d = described_of survey.now.description.now in
-        IfOk result (λ found. found ≡ first_in (fails_on d) (map (spot_in (length d.facts.fields)) spots.now)) }
+    requires survey { IsSurvey survey.now }
+    requires plain { IsPlain (subject_of survey.now) }
+    requires fields { HasFewFields (subject_of survey.now) }
+    ensures { let d = subject_of survey.now in
+        IfOk result (λ found. found ≡ first_in (fails_on d) (map (shown d) spots.now)) }
 {
     match spots {
         [] => Ok(None),

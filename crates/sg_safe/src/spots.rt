@@ -7,10 +7,11 @@ ghost use Rattle.sg_facts.specs.Limits.{most_fields};
 ghost use Rattle.sg_described.specs.Described.{described_of};
 ghost use Rattle.sg_described.specs.NeverZero.{all_from};
 ghost use Rattle.sg_described.specs.Walking.{add_spot, add_spots, begins, blank, brings_back, is_lost, is_step, is_stuck, is_unknown, nexts, same_mark, same_marks, same_spot, spots_of, spots_within};
-ghost use Rattle.sg_safe.specs.Inside.Seen.{pairs_of, spot_in};
+ghost use Rattle.sg_known.specs.Seen.{pairs_of};
+ghost use Rattle.sg_safe.specs.Inside.Seen.{HasFewFields, shown, spot_in};
 ghost use Rattle.sg_walk.specs.Marks.{known_of};
 
-use crate::states::state_left;
+use sg_known::state_left;
 use sg_described::Description;
 use sg_facts::{Effect, FunShape, ListOf, MOST_FIELDS, NoMemory};
 use sg_walk::{FieldState, Spot, marked};
@@ -28,8 +29,8 @@ fn count(description: &Description) -> usize
 
 /// Where a walk stands before its first call.
 pub(crate) fn blank_spot(description: &Description, fun: u8) -> Spot
-    requires { length (described_of description.now).facts.fields ≤ most_fields }
-    ensures { spot_in (length (described_of description.now).facts.fields) result ≡ blank (described_of description.now) fun }
+    requires { HasFewFields (described_of description.now) }
+    ensures { shown (described_of description.now) result ≡ blank (described_of description.now) fun }
 {
     Spot {
         state: fun,
@@ -39,8 +40,8 @@ pub(crate) fn blank_spot(description: &Description, fun: u8) -> Spot
 
 /// Where a call leads to from a spot.
 pub(crate) fn spot_after(description: &Description, fun: u8, spot: Spot) -> Spot
-    requires { length (described_of description.now).facts.fields ≤ most_fields }
-    ensures { let shown = spot_in (length (described_of description.now).facts.fields) in shown result ≡ next_spot (described_of description.now).facts fun (shown spot) }
+    requires { HasFewFields (described_of description.now) }
+    ensures { let d = described_of description.now in shown d result ≡ next_spot d.facts fun (shown d spot) }
 {
     Spot {
         state: state_left(&description.shape, fun, spot.state),
@@ -112,8 +113,8 @@ fn none_lost(description: &Description, field: u8, marks: &[FieldState]) -> bool
 
 /// Whether a field is lost for good at a spot.
 pub(crate) fn loses(description: &Description, spot: Spot) -> bool
-    requires { length (described_of description.now).facts.fields ≤ most_fields }
-    ensures { result ≡ is_lost (described_of description.now) (spot_in (length (described_of description.now).facts.fields) spot) }
+    requires { HasFewFields (described_of description.now) }
+    ensures { result ≡ is_lost (described_of description.now) (shown (described_of description.now) spot) }
 {
     !none_lost(description, 0, &spot.marks[..count(description)])
 }
@@ -183,10 +184,10 @@ fn add_begins(
     number: u8,
     funs: &[FunShape],
 ) -> Result<(), NoMemory>
-    requires fields { length (described_of description.now).facts.fields ≤ most_fields }
+    requires fields { HasFewFields (described_of description.now) }
     requires numbers { number + length funs.now < 2 ^ 8 }
-    ensures { let d = described_of description.now in let shown = map (spot_in (length d.facts.fields)) in
-        OnOk result (shown spots.new ≡ add_spots (shown spots.old) (begins d number (map fun_of_shape funs.now))) }
+    ensures { let d = described_of description.now in let all = map (shown d) in
+        OnOk result (all spots.new ≡ add_spots (all spots.old) (begins d number (map fun_of_shape funs.now))) }
 {
     match funs {
         [] => Ok(()),
@@ -214,9 +215,9 @@ fn add_steps(
     from: Spot,
     steps: &[(u8, u8)],
 ) -> Result<(), NoMemory>
-    requires { length (described_of description.now).facts.fields ≤ most_fields }
-    ensures { let d = described_of description.now in let s = spot_in (length d.facts.fields) from in let shown = map (spot_in (length d.facts.fields)) in
-        OnOk result (shown spots.new ≡ add_spots (shown spots.old)
+    requires { HasFewFields (described_of description.now) }
+    ensures { let d = described_of description.now in let s = shown d from in let all = map (shown d) in
+        OnOk result (all spots.new ≡ add_spots (all spots.old)
             (filter (λ t. not (is_lost d t)) (map (λ p. next_spot d.facts p.1 s) (filter (is_step d s) (map (λ p. (p.0, p.1)) steps.now))))) }
 {
     match steps {
@@ -239,9 +240,9 @@ fn add_nexts(
     description: &Description,
     from: &[Spot],
 ) -> Result<(), NoMemory>
-    requires { length (described_of description.now).facts.fields ≤ most_fields }
-    ensures { let d = described_of description.now in let shown = map (spot_in (length d.facts.fields)) in
-        OnOk result (shown spots.new ≡ add_spots (shown spots.old) (flat_map (nexts d) (shown from.now))) }
+    requires { HasFewFields (described_of description.now) }
+    ensures { let d = described_of description.now in let all = map (shown d) in
+        OnOk result (all spots.new ≡ add_spots (all spots.old) (flat_map (nexts d) (all from.now))) }
 {
     match from {
         [] => Ok(()),
@@ -259,9 +260,9 @@ fn further(
     spots: SpotList,
     calls: u8,
 ) -> Result<SpotList, NoMemory>
-    requires { length (described_of description.now).facts.fields ≤ most_fields }
-    ensures { let d = described_of description.now in let shown = map (spot_in (length d.facts.fields)) in
-        IfOk result (λ all. (n : ℕ) → shown spots ≡ spots_within d n → shown all ≡ spots_within d (n + calls)) }
+    requires { HasFewFields (described_of description.now) }
+    ensures { let d = described_of description.now in let all = map (shown d) in
+        IfOk result (λ more. (n : ℕ) → all spots ≡ spots_within d n → all more ≡ spots_within d (n + calls)) }
 {
     if calls == 0 {
         return Ok(spots);
@@ -276,9 +277,9 @@ const MOST_MORE: u8 = 6;
 
 /// Where walks lead to that may go on.
 pub(crate) fn all_spots(alloc: Global, description: &Description) -> Result<SpotList, NoMemory>
-    requires fields { length (described_of description.now).facts.fields ≤ most_fields }
+    requires fields { HasFewFields (described_of description.now) }
     requires numbers { length (described_of description.now).facts.funs < 2 ^ 7 }
-    ensures { let d = described_of description.now in IfOk result (λ all. map (spot_in (length d.facts.fields)) all ≡ spots_of d) }
+    ensures { let d = described_of description.now in IfOk result (λ all. map (shown d) all ≡ spots_of d) }
 {
     let mut first = SpotList::new(alloc);
     add_begins(&mut first, description, 1, description.shape.funs)?;

@@ -7,16 +7,13 @@ ghost use Rattle.sg_facts.specs.Interface.{has_pair};
 ghost use Rattle.sg_described.specs.Described.{described_of, rule_of, rules_at};
 ghost use Rattle.sg_described.specs.Known.{between};
 ghost use Rattle.sg_described.specs.Waiting.{is_met_at, is_within, known_after, known_where, leaves_waiting, waits_on};
-ghost use Rattle.sg_safe.specs.Inside.Seen.{bounds_left, known_in, pairs_of};
-ghost use Rattle.sg_safe.specs.Inside.Surveys.{IsSurveyOf};
+ghost use Rattle.sg_known.specs.Seen.{known_in, pairs_of};
+ghost use Rattle.sg_safe.specs.Inside.Seen.{bounds_left};
+ghost use Rattle.sg_known.specs.Surveys.{IsSurvey, subject_of};
 ghost use Rattle.sg_safe.specs.Reasons.{first_from, overtaken, overtaken_at, overtaken_by};
 
-use crate::known::{ArgsKnown, Seen, applies_surely, bounds_after, stop_surely, waits};
-use crate::lasting::{all_keep_out, all_last};
 use crate::reason::Unsafe;
-use crate::states::state_left;
-use crate::survey::Survey;
-use crate::told::narrow_all;
+use sg_known::{ArgsKnown, Seen, Survey, all_keep_out, all_last, applies_surely, bounds_after, narrow_all, state_left, stop_surely, waits};
 use sg_described::{Bounds, Description, RuleShape};
 use sg_facts::{Effect, FunShape, NoMemory};
 use sg_walk::effect_on;
@@ -48,8 +45,8 @@ fn all_up_to(alloc: Global, most: &[u64]) -> Result<Vec<Bounds>, NoMemory>
 
 // What is known of the row of a call to which a rule applies.
 fn seen_where<'a>(alloc: Global, survey: &Survey<'a>, rule: &RuleShape) -> Result<Seen<'a>, NoMemory>
-    requires { IsSurveyOf (described_of survey.now.description.now) survey.now }
-    ensures known { IfOk result (λ seen. known_in seen ≡ known_where (described_of survey.now.description.now) (rule_of rule.now)) }
+    requires { IsSurvey survey.now }
+    ensures known { IfOk result (λ seen. known_in seen ≡ known_where (subject_of survey.now) (rule_of rule.now)) }
     ensures count { IfOk result (λ seen. vec_len seen.fields ≡ vec_len survey.now.greatest) }
 {
     let mut seen = Seen {
@@ -91,10 +88,10 @@ fn seen_after<'a>(
     fun: u8,
     seen: &Seen<'a>,
 ) -> Result<Seen<'a>, NoMemory>
-    requires survey { IsSurveyOf (described_of survey.now.description.now) survey.now }
+    requires survey { IsSurvey survey.now }
     requires count { vec_len seen.now.fields ≡ vec_len survey.now.greatest }
     requires few { vec_len survey.now.greatest < 2 ^ 8 }
-    ensures { IfOk result (λ after. known_in after ≡ known_after (described_of survey.now.description.now) fun (known_in seen.now)) }
+    ensures { IfOk result (λ after. known_in after ≡ known_after (subject_of survey.now) fun (known_in seen.now)) }
 {
     let mut fields = Vec::new(alloc);
     add_after(
@@ -119,10 +116,10 @@ fn goes_on(
     seen: &Seen<'_>,
     fun: u8,
 ) -> Result<bool, NoMemory>
-    requires survey { IsSurveyOf (described_of survey.now.description.now) survey.now }
+    requires survey { IsSurvey survey.now }
     requires count { vec_len seen.now.fields ≡ vec_len survey.now.greatest }
     requires few { vec_len survey.now.greatest < 2 ^ 8 }
-    ensures { IfOk result (λ b. b ≡ waits_on (described_of survey.now.description.now) fun (map rule_of wait.before.now) (rule_of wait.rule.now) (known_in seen.now)) }
+    ensures { IfOk result (λ b. b ≡ waits_on (subject_of survey.now) fun (map rule_of wait.before.now) (rule_of wait.rule.now) (known_in seen.now)) }
 {
     let effects = survey.description.shape.fun(fun).effects;
     if !all_keep_out(effects, wait.before) {
@@ -211,11 +208,11 @@ fn leaves(
     number: u8,
     fun: &FunShape,
 ) -> Result<bool, NoMemory>
-    requires survey { IsSurveyOf (described_of survey.now.description.now) survey.now }
-    requires known { known_in seen.now ≡ known_where (described_of survey.now.description.now) (rule_of wait.rule.now) }
+    requires survey { IsSurvey survey.now }
+    requires known { known_in seen.now ≡ known_where (subject_of survey.now) (rule_of wait.rule.now) }
     requires count { vec_len seen.now.fields ≡ vec_len survey.now.greatest }
     requires few { vec_len survey.now.greatest < 2 ^ 8 }
-    ensures { IfOk result (λ b. b ≡ leaves_waiting (described_of survey.now.description.now) wait.waiter (map rule_of wait.before.now) (rule_of wait.rule.now) number (fun_of_shape fun.now)) }
+    ensures { IfOk result (λ b. b ≡ leaves_waiting (subject_of survey.now) wait.waiter (map rule_of wait.before.now) (rule_of wait.rule.now) number (fun_of_shape fun.now)) }
 {
     let description = survey.description;
     let moves = description.shape.moves;
@@ -242,13 +239,13 @@ fn passed_by(
     number: u8,
     funs: &[FunShape],
 ) -> Result<Option<Unsafe>, NoMemory>
-    requires survey { IsSurveyOf (described_of survey.now.description.now) survey.now }
-    requires known { known_in seen.now ≡ known_where (described_of survey.now.description.now) (rule_of wait.rule.now) }
-    requires before { map rule_of wait.before.now ≡ take (wait.number - 1) (rules_at (described_of survey.now.description.now) wait.waiter) }
+    requires survey { IsSurvey survey.now }
+    requires known { known_in seen.now ≡ known_where (subject_of survey.now) (rule_of wait.rule.now) }
+    requires before { map rule_of wait.before.now ≡ take (wait.number - 1) (rules_at (subject_of survey.now) wait.waiter) }
     requires count { vec_len seen.now.fields ≡ vec_len survey.now.greatest }
     requires few { vec_len survey.now.greatest < 2 ^ 8 }
     requires numbers { number + length funs.now < 2 ^ 8 }
-    ensures { IfOk result (λ found. found ≡ first_from (overtaken_by (described_of survey.now.description.now) wait.waiter wait.number (rule_of wait.rule.now)) number (map fun_of_shape funs.now)) }
+    ensures { IfOk result (λ found. found ≡ first_from (overtaken_by (subject_of survey.now) wait.waiter wait.number (rule_of wait.rule.now)) number (map fun_of_shape funs.now)) }
 {
     match funs {
         [] => Ok(None),
@@ -272,11 +269,11 @@ fn overtaken_by_rule(
     survey: &Survey<'_>,
     wait: WaitRule<'_>,
 ) -> Result<Option<Unsafe>, NoMemory>
-    requires survey { IsSurveyOf (described_of survey.now.description.now) survey.now }
-    requires before { map rule_of wait.before.now ≡ take (wait.number - 1) (rules_at (described_of survey.now.description.now) wait.waiter) }
+    requires survey { IsSurvey survey.now }
+    requires before { map rule_of wait.before.now ≡ take (wait.number - 1) (rules_at (subject_of survey.now) wait.waiter) }
     requires few { vec_len survey.now.greatest < 2 ^ 8 }
-    requires numbers { length (described_of survey.now.description.now).facts.funs < 2 ^ 7 }
-    ensures { IfOk result (λ found. found ≡ overtaken_at (described_of survey.now.description.now) wait.waiter wait.number (rule_of wait.rule.now)) }
+    requires numbers { length (subject_of survey.now).facts.funs < 2 ^ 7 }
+    ensures { IfOk result (λ found. found ≡ overtaken_at (subject_of survey.now) wait.waiter wait.number (rule_of wait.rule.now)) }
 {
     if !waits(wait.rule.verdict) {
         return Ok(None);
@@ -294,12 +291,12 @@ fn overtaken_at_rules(
     rules: &[RuleShape],
     at: usize,
 ) -> Result<Option<Unsafe>, NoMemory>
-    requires survey { IsSurveyOf (described_of survey.now.description.now) survey.now }
-    requires rules { map rule_of rules.now ≡ rules_at (described_of survey.now.description.now) waiter }
+    requires survey { IsSurvey survey.now }
+    requires rules { map rule_of rules.now ≡ rules_at (subject_of survey.now) waiter }
     requires few { vec_len survey.now.greatest < 2 ^ 8 }
-    requires numbers { length (described_of survey.now.description.now).facts.funs < 2 ^ 7 }
+    requires numbers { length (subject_of survey.now).facts.funs < 2 ^ 7 }
     requires at { at ≤ length rules.now }
-    ensures { IfOk result (λ found. found ≡ first_from (overtaken_at (described_of survey.now.description.now) waiter) (at + 1) (drop at (map rule_of rules.now))) }
+    ensures { IfOk result (λ found. found ≡ first_from (overtaken_at (subject_of survey.now) waiter) (at + 1) (drop at (map rule_of rules.now))) }
 {
     match rules.get(at) {
         None => Ok(None),
@@ -325,11 +322,11 @@ pub(crate) fn first_overtaken(
     number: u8,
     funs: &[FunShape],
 ) -> Result<Option<Unsafe>, NoMemory>
-    requires survey { IsSurveyOf (described_of survey.now.description.now) survey.now }
+    requires survey { IsSurvey survey.now }
     requires few { vec_len survey.now.greatest < 2 ^ 8 }
-    requires numbers { length (described_of survey.now.description.now).facts.funs < 2 ^ 7 }
+    requires numbers { length (subject_of survey.now).facts.funs < 2 ^ 7 }
     requires rest { number + length funs.now < 2 ^ 8 }
-    ensures { IfOk result (λ found. found ≡ first_from (overtaken (described_of survey.now.description.now)) number (map fun_of_shape funs.now)) }
+    ensures { IfOk result (λ found. found ≡ first_from (overtaken (subject_of survey.now)) number (map fun_of_shape funs.now)) }
 {
     match funs {
         [] => Ok(None),

@@ -11,8 +11,8 @@ use Rattle.sg_described.specs.Known.{Known, greatest}
 use Rattle.sg_described.specs.Meaning.{most_at}
 use Rattle.sg_described.specs.NeverZero.{is_never_zero}
 use Rattle.sg_described.specs.Walking.{bounds_at, caller_fits, left_most}
+use Rattle.sg_known.specs.Seen.{fields_in}
 use Rattle.sg_safe.specs.declared.reason.KnownField.{KnownField}
-use Rattle.sg_safe.specs.Inside.Seen.{fields_in}
 use Rattle.sg_safe.specs.Reasons.{first_in}
 
 -- what is known of fields in a state by their marks, numbered from a number on

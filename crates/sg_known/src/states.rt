@@ -3,24 +3,24 @@ ghost use Rattle.std.specs.Prelude.{◌≡◌, ℕ, ◌+◌, ◌≤◌, ◌<◌,
 ghost use Rattle.std.specs.List.{list_all};
 ghost use Rattle.sg_facts.specs.Facts.{facts_of, fun_of_shape, state_after};
 ghost use Rattle.sg_described.specs.NeverZero.{all_from, is_listed, keeps_some, leaves_some, makes_some, moves_some, never_zero, states_from, states_left, stays_listed};
-ghost use Rattle.sg_safe.specs.Inside.Seen.{pairs_of};
+ghost use Rattle.sg_known.specs.Seen.{pairs_of};
 
 use sg_facts::{Effect, FunShape, ListOf, NoMemory, Shape};
 use sg_walk::effect_on;
 use std::alloc::Global;
 
 /// Numbers of states.
-pub(crate) type StateList = ListOf<u8>;
+pub type StateList = ListOf<u8>;
 
 /// The state that a function leaves that is called in a state.
-pub(crate) fn state_left(shape: &Shape, fun: u8, state: u8) -> u8
+pub fn state_left(shape: &Shape, fun: u8, state: u8) -> u8
     ensures { result ≡ state_after (facts_of shape.now) fun state }
 {
     shape.fun(fun).leaves.state_after(fun, state)
 }
 
 /// Whether a state is listed.
-pub(crate) fn has_state(states: &[u8], state: u8) -> bool
+pub fn has_state(states: &[u8], state: u8) -> bool
     ensures { result ≡ is_listed states.now state }
 {
     states.iter().any(|other| *other == state)
@@ -162,7 +162,7 @@ fn add_states(states: &mut StateList, number: u8, funs: &[FunShape]) -> Result<(
 }
 
 /// The states in which a field is never 0.
-pub(crate) fn never_zero_states(alloc: Global, shape: &Shape, field: u8) -> Result<StateList, NoMemory>
+pub fn never_zero_states(alloc: Global, shape: &Shape, field: u8) -> Result<StateList, NoMemory>
     requires { length (facts_of shape.now).funs < 2 ^ 7 }
     ensures { IfOk result (λ states. states ≡ never_zero (facts_of shape.now) field) }
 {

@@ -3,7 +3,7 @@ ghost use Rattle.std.specs.Prelude.{◌≡◌, ◌==◌, map};
 ghost use Rattle.std.specs.List.{list_all, list_any};
 ghost use Rattle.sg_described.specs.Described.{rule_of};
 ghost use Rattle.sg_described.specs.Waiting.{is_left, never_falls, never_lowers, never_raises, never_rises, stands_on, stays_out, term_is_left, test_is_left, test_lasts};
-ghost use Rattle.sg_safe.specs.Inside.Seen.{pairs_of};
+ghost use Rattle.sg_known.specs.Seen.{pairs_of};
 
 use crate::known::waits;
 use sg_described::{Operand, Relation, RuleShape, Term, Test};
@@ -110,7 +110,7 @@ fn lasts(effects: &[(u8, Effect)], test: &Test) -> bool
 }
 
 /// Whether tests that hold go on to.
-pub(crate) fn all_last(effects: &[(u8, Effect)], tests: &[Test]) -> bool
+pub fn all_last(effects: &[(u8, Effect)], tests: &[Test]) -> bool
     ensures { result ≡ list_all (test_lasts (pairs_of effects.now)) tests.now }
 {
     tests.iter().all(|test| lasts(effects, test))
@@ -124,7 +124,7 @@ fn keeps_out(effects: &[(u8, Effect)], rule: &RuleShape) -> bool
 }
 
 /// Whether no rule comes in between.
-pub(crate) fn all_keep_out(effects: &[(u8, Effect)], rules: &[RuleShape]) -> bool
+pub fn all_keep_out(effects: &[(u8, Effect)], rules: &[RuleShape]) -> bool
     ensures { result ≡ list_all (stays_out (pairs_of effects.now)) (map rule_of rules.now) }
 {
     match rules {

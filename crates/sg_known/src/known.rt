@@ -5,14 +5,14 @@ ghost use Rattle.sg_described.specs.Known.{between, bounds_after, is_give, is_wa
 ghost use Rattle.sg_described.specs.Meaning.{last_word};
 ghost use Rattle.sg_described.specs.Walking.{carrier};
 ghost use Rattle.sg_facts.specs.Inside.Walking.{carries_arg};
-ghost use Rattle.sg_safe.specs.Inside.Seen.{args_in, fields_in, known_in, pairs_of, up_to};
+ghost use Rattle.sg_known.specs.Seen.{args_in, fields_in, known_in, pairs_of, up_to};
 
 use sg_described::{Bounds, Operand, Relation, RuleShape, Term, Test, Verdict};
 use sg_facts::{Effect, FIRST_CLIENT, LAST_CLIENT};
 
 /// What is known of a call and its row.
 #[derive(Debug, Drop)]
-pub(crate) struct Seen<'a> {
+pub struct Seen<'a> {
     pub args: ArgsKnown<'a>,
     pub state: Bounds,
     pub fields: Vec<Bounds>,
@@ -20,7 +20,7 @@ pub(crate) struct Seen<'a> {
 
 /// What is known of the arguments of a call.
 #[derive(Clone, Copy, Debug)]
-pub(crate) enum ArgsKnown<'a> {
+pub enum ArgsKnown<'a> {
     /// Nothing.
     Any,
     /// Each is up to the greatest number of the field that carries it: effects, and the greatest numbers of fields.
@@ -28,10 +28,10 @@ pub(crate) enum ArgsKnown<'a> {
 }
 
 /// What is 0.
-pub(crate) const ZERO: Bounds = Bounds { least: 0, most: 0 };
+pub const ZERO: Bounds = Bounds { least: 0, most: 0 };
 
 /// Any number of 64 bits.
-pub(crate) const ANY: Bounds = Bounds {
+pub const ANY: Bounds = Bounds {
     least: 0,
     most: u64::MAX,
 };
@@ -39,7 +39,7 @@ pub(crate) const ANY: Bounds = Bounds {
 // ---- operands and terms
 
 /// A field up to its greatest number.
-pub(crate) fn bounds_up_to(most: &[u64], field: u8) -> Bounds
+pub fn bounds_up_to(most: &[u64], field: u8) -> Bounds
     ensures { result ≡ up_to most.now field }
 {
     match most.get(usize::from(field)) {
@@ -91,7 +91,7 @@ fn arg_bounds(args: ArgsKnown<'_>, at: u8) -> Bounds
 }
 
 /// What is known of a field.
-pub(crate) fn field_bounds(fields: &[Bounds], at: u8) -> Bounds
+pub fn field_bounds(fields: &[Bounds], at: u8) -> Bounds
     ensures { result ≡ fields_in fields.now at }
 {
     match fields.get(usize::from(at)) {
@@ -237,21 +237,21 @@ fn holds_never(seen: &Seen<'_>, test: &Test) -> bool
 // ---- rules
 
 /// Whether a rule surely applies.
-pub(crate) fn applies_surely(seen: &Seen<'_>, rule: &RuleShape) -> bool
+pub fn applies_surely(seen: &Seen<'_>, rule: &RuleShape) -> bool
     ensures { result ≡ surely_applies (known_in seen.now) (rule_of rule.now) }
 {
     rule.tests.iter().all(|test| holds_surely(seen, test))
 }
 
 /// Whether a rule surely doesn't apply.
-pub(crate) fn applies_never(seen: &Seen<'_>, rule: &RuleShape) -> bool
+pub fn applies_never(seen: &Seen<'_>, rule: &RuleShape) -> bool
     ensures { result ≡ never_applies (known_in seen.now) (rule_of rule.now) }
 {
     rule.tests.iter().any(|test| holds_never(seen, test))
 }
 
 /// Whether a verdict is to wait.
-pub(crate) fn waits(verdict: Verdict) -> bool
+pub fn waits(verdict: Verdict) -> bool
     ensures { result ≡ is_wait verdict }
 {
     matches!(&verdict, Verdict::Wait)
@@ -265,14 +265,14 @@ fn gives(verdict: Verdict) -> bool
 }
 
 /// Whether a rule may refuse or put off.
-pub(crate) fn stops(seen: &Seen<'_>, rule: &RuleShape) -> bool
+pub fn stops(seen: &Seen<'_>, rule: &RuleShape) -> bool
     ensures { result ≡ may_stop (known_in seen.now) (rule_of rule.now) }
 {
     !gives(rule.verdict) && !applies_never(seen, rule)
 }
 
 /// Whether rules surely refuse or put off.
-pub(crate) fn stop_surely(seen: &Seen<'_>, rules: &[RuleShape]) -> bool
+pub fn stop_surely(seen: &Seen<'_>, rules: &[RuleShape]) -> bool
     ensures { result ≡ surely_stops (known_in seen.now) (map rule_of rules.now) }
 {
     match rules {
@@ -298,7 +298,7 @@ fn word_in(seen: &Seen<'_>, verdict: Verdict) -> u64
 }
 
 /// The greatest word that rules give.
-pub(crate) fn greatest_word(seen: &Seen<'_>, rules: &[RuleShape]) -> u64
+pub fn greatest_word(seen: &Seen<'_>, rules: &[RuleShape]) -> u64
     ensures { result ≡ word_most (known_in seen.now) (map rule_of rules.now) }
 {
     match rules {
@@ -310,7 +310,7 @@ pub(crate) fn greatest_word(seen: &Seen<'_>, rules: &[RuleShape]) -> u64
 // ---- effects
 
 /// A field after the effect on it, or none.
-pub(crate) fn bounds_after(effect: Option<Effect>, most: u64, bounds: Bounds) -> Bounds
+pub fn bounds_after(effect: Option<Effect>, most: u64, bounds: Bounds) -> Bounds
     ensures { result ≡ bounds_after effect most bounds }
 {
     match effect {

@@ -5,8 +5,8 @@ ghost use Rattle.sg_facts.specs.Facts.{facts_of, fun_of_shape};
 ghost use Rattle.sg_described.specs.Described.{described_of};
 ghost use Rattle.sg_described.specs.Known.{greatest_from, has_client, leaves_client};
 ghost use Rattle.sg_described.specs.NeverZero.{is_never_zero};
-ghost use Rattle.sg_safe.specs.Inside.Surveys.{IsSurveyOf};
-ghost use Rattle.sg_safe.specs.Inside.Seen.{leaves_only_client, never_zero_from, pairs_of};
+ghost use Rattle.sg_known.specs.Seen.{pairs_of};
+ghost use Rattle.sg_known.specs.Surveys.{IsSurvey, leaves_only_client, never_zero_from, subject_of};
 
 use crate::states::{StateList, has_state, never_zero_states};
 use sg_described::Description;
@@ -16,7 +16,7 @@ use std::alloc::Global;
 /// What is found of a description before it is checked: the greatest number that each field comes to, and the states in which it
 /// is never 0.
 #[derive(Debug, Drop)]
-pub(crate) struct Survey<'a> {
+pub struct Survey<'a> {
     pub description: &'a Description,
     pub greatest: Vec<u64>,
     pub never_zero: ListOf<StateList>,
@@ -116,11 +116,12 @@ fn add_never_zero(
 }
 
 /// What is found of a description.
-pub(crate) fn survey<'a>(alloc: Global, description: &'a Description) -> Result<Survey<'a>, NoMemory>
+pub fn surveyed<'a>(alloc: Global, description: &'a Description) -> Result<Survey<'a>, NoMemory>
     requires funs { length (described_of description.now).facts.funs < 2 ^ 7 }
     requires fields { length (described_of description.now).facts.fields < 2 ^ 8 }
     requires most { length (described_of description.now).most < 2 ^ 8 }
-    ensures { IfOk result (IsSurveyOf (described_of description.now)) }
+    ensures is { IfOk result IsSurvey }
+    ensures of { IfOk result (λ survey. subject_of survey ≡ described_of description.now) }
 {
     let greatest = greatest_of(alloc, &description.shape, description.most)?;
     let mut never_zero = ListOf::new(alloc);
@@ -139,10 +140,10 @@ pub(crate) fn survey<'a>(alloc: Global, description: &'a Description) -> Result<
 }
 
 /// Whether a field is never 0 in a state.
-pub(crate) fn is_some_in(survey: &Survey<'_>, state: u8, field: u8) -> bool
-    requires survey { IsSurveyOf (described_of survey.now.description.now) survey.now }
-    requires field { field < length (described_of survey.now.description.now).facts.fields }
-    ensures { result ≡ is_never_zero (described_of survey.now.description.now).facts state field }
+pub fn is_some_in(survey: &Survey<'_>, state: u8, field: u8) -> bool
+    requires survey { IsSurvey survey.now }
+    requires field { field < length (subject_of survey.now).facts.fields }
+    ensures { result ≡ is_never_zero (subject_of survey.now).facts state field }
 {
     match survey.never_zero.get(usize::from(field)) {
         Some(states) => has_state(states.as_slice(), state),

@@ -1,7 +1,7 @@
 // What tests that hold tell of a row.
 ghost use Rattle.std.specs.Prelude.{◌≡◌, vec_len};
 ghost use Rattle.sg_described.specs.Known.{after_test, after_tests, after_told, told_by};
-ghost use Rattle.sg_safe.specs.Inside.Seen.{known_in};
+ghost use Rattle.sg_known.specs.Seen.{known_in};
 
 use crate::known::Seen;
 use sg_described::{Bounds, Operand, Relation, Term, Test};
@@ -75,7 +75,7 @@ fn narrow(seen: &mut Seen<'_>, test: &Test)
 }
 
 /// Narrows what is known by tests that hold.
-pub(crate) fn narrow_all(seen: &mut Seen<'_>, tests: &[Test])
+pub fn narrow_all(seen: &mut Seen<'_>, tests: &[Test])
     ensures known { known_in seen.new ≡ after_tests (vec_len seen.old.fields) tests.now (known_in seen.old) }
     ensures count { vec_len seen.new.fields ≡ vec_len seen.old.fields }
 {
