@@ -79,7 +79,7 @@ fn carrier(effects: &[(u8, Effect)], at: u8) -> Option<u8>
 
 // What is known of an argument.
 fn arg_bounds(args: ArgsKnown<'_>, at: u8) -> Bounds
-    ensures { result ≡ args_in args at }
+    ensures { result ≡ args_in args.entry at }
 {
     match args {
         ArgsKnown::Any => ANY,

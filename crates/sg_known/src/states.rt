@@ -75,7 +75,8 @@ fn all_move(shape: &Shape, field: u8, states: &[u8], state: u8, pairs: &[(u8, u8
     match pairs {
         [] => true,
         [first, rest @ ..] => {
-            moves(shape, field, states, state, *first) && all_move(shape, field, states, state, rest)
+            moves(shape, field, states, state, *first)
+                && all_move(shape, field, states, state, rest)
         }
     }
 }
@@ -136,7 +137,12 @@ fn add_kept(
 }
 
 // The states that are left, when those that don't keep to it have gone until all do.
-fn settled(alloc: Global, shape: &Shape, field: u8, states: StateList) -> Result<StateList, NoMemory>
+fn settled(
+    alloc: Global,
+    shape: &Shape,
+    field: u8,
+    states: StateList,
+) -> Result<StateList, NoMemory>
     requires { length (facts_of shape.now).funs < 2 ^ 7 }
     ensures { IfOk result (λ left. (n : ℕ) → length states ≤ n → left ≡ states_left (facts_of shape.now) field n states) }
 {

@@ -13,9 +13,9 @@ use crate::reason::Unsafe;
 use crate::replaying::{first_failure, next_failure};
 use crate::spots::all_spots;
 use crate::waiting::first_overtaken;
-use sg_known::{Survey, surveyed};
 use sg_described::Description;
 use sg_facts::NoMemory;
+use sg_known::{Survey, surveyed};
 use std::alloc::Global;
 
 /// Why a described service can't be recovered: the first reason that there is; None exactly where it is safe. Of a description

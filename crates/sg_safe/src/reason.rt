@@ -22,13 +22,25 @@ pub struct KnownSpot {
 #[derive(Debug, Drop)]
 pub enum Unsafe {
     /// A field takes returned words, and its greatest number is far too great for a field that counts.
-    CountsFar { field: u8 },
+    CountsFar {
+        field: u8,
+    },
     /// A replayed function adds to a field that takes returned words.
-    Recounts { fun: u8, field: u8 },
+    Recounts {
+        fun: u8,
+        field: u8,
+    },
     /// Who waits for a function by one of its rules may be let pass by an Ok of another function, which is no wake-up.
-    Overtaken { waiter: u8, rule: usize, by: u8 },
+    Overtaken {
+        waiter: u8,
+        rule: usize,
+        by: u8,
+    },
     /// A replayed function sets a field to its caller that may hold no client: by whom would it be called?
-    NoClient { fun: u8, field: u8 },
+    NoClient {
+        fun: u8,
+        field: u8,
+    },
     /// A rule may refuse a replayed call, or make its caller wait.
     Refusable {
         fun: u8,
@@ -36,5 +48,9 @@ pub enum Unsafe {
         spot: KnownSpot,
     },
     /// A replayed call may take a field past its greatest number.
-    Overflows { fun: u8, field: u8, spot: KnownSpot },
+    Overflows {
+        fun: u8,
+        field: u8,
+        spot: KnownSpot,
+    },
 }

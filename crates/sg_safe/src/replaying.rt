@@ -17,9 +17,12 @@ ghost use Rattle.sg_walk.specs.Marks.{known_of};
 
 use crate::reason::{KnownField, KnownSpot, Unsafe};
 use crate::spots::{blank_spot, loses, spot_after, steps_from};
-use sg_known::{ANY, ArgsKnown, Seen, Survey, ZERO, bounds_up_to, field_bounds, greatest_word, is_some_in, state_left, stops};
 use sg_described::{Bounds, Description, RuleShape};
 use sg_facts::{Effect, FunShape, LAST_CLIENT, ListOf, NoMemory};
+use sg_known::{
+    ANY, ArgsKnown, Seen, Survey, ZERO, bounds_up_to, field_bounds, greatest_word, is_some_in,
+    state_left, stops,
+};
 use sg_walk::{FieldState, Spot};
 use std::alloc::Global;
 
@@ -272,7 +275,10 @@ fn failure_at(
     ensures { let d = subject_of survey.now in IfOk result (λ found. found ≡ fails_at d fun (shown d spot)) }
 {
     let shape = &survey.description.shape;
-    if loses(survey.description, spot_after(survey.description, fun, spot)) {
+    if loses(
+        survey.description,
+        spot_after(survey.description, fun, spot),
+    ) {
         return Ok(None);
     }
     let state = state_left(shape, fun, spot.state);
@@ -297,7 +303,12 @@ fn begin_failure(
     if !fun.is_creation() {
         return Ok(None);
     }
-    failure_at(alloc, survey, number, blank_spot(survey.description, number))
+    failure_at(
+        alloc,
+        survey,
+        number,
+        blank_spot(survey.description, number),
+    )
 }
 
 /// Why a walk may fail that begins with one of some functions, which are numbered from one on.

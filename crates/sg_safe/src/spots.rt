@@ -11,9 +11,9 @@ ghost use Rattle.sg_known.specs.Seen.{pairs_of};
 ghost use Rattle.sg_safe.specs.Inside.Seen.{HasFewFields, shown, spot_in};
 ghost use Rattle.sg_walk.specs.Marks.{known_of};
 
-use sg_known::state_left;
 use sg_described::Description;
 use sg_facts::{Effect, FunShape, ListOf, MOST_FIELDS, NoMemory};
+use sg_known::state_left;
 use sg_walk::{FieldState, Spot, marked};
 use std::alloc::Global;
 
@@ -218,7 +218,7 @@ fn add_steps(
     requires { HasFewFields (described_of description.now) }
     ensures { let d = described_of description.now in let s = shown d from in let all = map (shown d) in
         OnOk result (all spots.new ≡ add_spots (all spots.old)
-            (filter (λ t. not (is_lost d t)) (map (λ p. next_spot d.facts p.1 s) (filter (is_step d s) (map (λ p. (p.0, p.1)) steps.now))))) }
+        (filter (λ t. not (is_lost d t)) (map (λ p. next_spot d.facts p.1 s) (filter (is_step d s) (map (λ p. (p.0, p.1)) steps.now))))) }
 {
     match steps {
         [] => Ok(()),
@@ -235,11 +235,7 @@ fn add_steps(
 }
 
 // Adds where the next calls lead to from some spots.
-fn add_nexts(
-    spots: &mut SpotList,
-    description: &Description,
-    from: &[Spot],
-) -> Result<(), NoMemory>
+fn add_nexts(spots: &mut SpotList, description: &Description, from: &[Spot]) -> Result<(), NoMemory>
     requires { HasFewFields (described_of description.now) }
     ensures { let d = described_of description.now in let all = map (shown d) in
         OnOk result (all spots.new ≡ add_spots (all spots.old) (flat_map (nexts d) (all from.now))) }

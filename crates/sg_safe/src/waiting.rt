@@ -13,9 +13,12 @@ ghost use Rattle.sg_known.specs.Surveys.{IsSurvey, subject_of};
 ghost use Rattle.sg_safe.specs.Reasons.{first_from, overtaken, overtaken_at, overtaken_by};
 
 use crate::reason::Unsafe;
-use sg_known::{ArgsKnown, Seen, Survey, all_keep_out, all_last, applies_surely, bounds_after, narrow_all, state_left, stop_surely, waits};
 use sg_described::{Bounds, Description, RuleShape};
 use sg_facts::{Effect, FunShape, NoMemory};
+use sg_known::{
+    ArgsKnown, Seen, Survey, all_keep_out, all_last, applies_surely, bounds_after, narrow_all,
+    state_left, stop_surely, waits,
+};
 use sg_walk::effect_on;
 use std::alloc::Global;
 
@@ -34,17 +37,22 @@ pub(crate) struct WaitRule<'a> {
 fn all_up_to(alloc: Global, most: &[u64]) -> Result<Vec<Bounds>, NoMemory>
     ensures { IfOk result (λ v. v.items ≡ map (λ m. between 0 m) most.now) }
 {
-    Ok(most
-        .iter()
-        .map(|most| Bounds {
-            least: 0,
-            most: *most,
-        })
-        .collect(alloc)?)
+    Ok(
+        most.iter()
+            .map(|most| Bounds {
+                least: 0,
+                most: *most,
+            })
+            .collect(alloc)?,
+    )
 }
 
 // What is known of the row of a call to which a rule applies.
-fn seen_where<'a>(alloc: Global, survey: &Survey<'a>, rule: &RuleShape) -> Result<Seen<'a>, NoMemory>
+fn seen_where<'a>(
+    alloc: Global,
+    survey: &Survey<'a>,
+    rule: &RuleShape,
+) -> Result<Seen<'a>, NoMemory>
     requires { IsSurvey survey.now }
     ensures known { IfOk result (λ seen. known_in seen ≡ known_where (subject_of survey.now) (rule_of rule.now)) }
     ensures count { IfOk result (λ seen. vec_len seen.fields ≡ vec_len survey.now.greatest) }
@@ -159,13 +167,7 @@ fn meet(description: &Description, waiter: u8, fun: u8, states: Bounds, pair: (u
 }
 
 // Whether they are never called in one state.
-fn never(
-    description: &Description,
-    waiter: u8,
-    fun: u8,
-    states: Bounds,
-    pairs: &[(u8, u8)],
-) -> bool
+fn never(description: &Description, waiter: u8, fun: u8, states: Bounds, pairs: &[(u8, u8)]) -> bool
     ensures { result ≡ list_all (λ m. not (is_met_at (described_of description.now) waiter fun states m)) (map (λ p. (p.0, p.1)) pairs.now) }
 {
     match pairs {
@@ -178,13 +180,7 @@ fn never(
 }
 
 // Whether the other function leaves the state where they meet.
-fn keeps(
-    description: &Description,
-    waiter: u8,
-    fun: u8,
-    states: Bounds,
-    pairs: &[(u8, u8)],
-) -> bool
+fn keeps(description: &Description, waiter: u8, fun: u8, states: Bounds, pairs: &[(u8, u8)]) -> bool
     ensures { result ≡ list_all (λ m. implies (is_met_at (described_of description.now) waiter fun states m) (state_after (described_of description.now).facts fun m.0 == m.0)) (map (λ p. (p.0, p.1)) pairs.now) }
 {
     match pairs {

@@ -14,7 +14,7 @@ use Rattle.sg_described.proofs.Keeping.Basics.{OneOf, both_true, first, number_p
 
 -- ---- lists from which some go
 
-drops : (p : ℕ → Bool) (ns : List ℕ) → length (filter p ns) ≤ length ns
+pub drops : (p : ℕ → Bool) (ns : List ℕ) → length (filter p ns) ≤ length ns
 drops p [] = omega arith
 drops p (n ∷ ns) = at (p n) (drops p ns)
   where
@@ -23,7 +23,7 @@ drops p (n ∷ ns) = at (p n) (drops p ns)
     at false rest = omega (arith, rest)
 
 -- where none goes, all pass
-none_goes : (p : ℕ → Bool) (ns : List ℕ) → length ns ≤ length (filter p ns) → (filter p ns ≡ ns) × (list_all p ns ≡ true)
+pub none_goes : (p : ℕ → Bool) (ns : List ℕ) → length ns ≤ length (filter p ns) → (filter p ns ≡ ns) × (list_all p ns ≡ true)
 none_goes p [] same = (refl, refl)
 none_goes p (n ∷ ns) same = at (p n) refl same (drops p ns) (none_goes p ns)
   where
@@ -114,7 +114,7 @@ module _ (facts : Facts) (x : ℕ) where
   -- ---- they keep to it
 
   -- where nothing goes in a step, nothing goes any more
-  still : (n : ℕ) (states : List ℕ) → step states ≡ states → states_left facts x n states ≡ states
+  pub still : (n : ℕ) (states : List ℕ) → step states ≡ states → states_left facts x n states ≡ states
   still zero states same = refl
   still (suc n) states same = ap (states_left facts x n) same ∙ still n states same
 
