@@ -8,7 +8,7 @@ use Rattle.sg_facts.specs.declared.shape.Effect.{Effect}
 use Rattle.sg_facts.specs.Walks.{FieldMark as Known, unset, mark_after, marks_after}
 use Rattle.sg_walk.specs.declared.spot.FieldState.{FieldState}
 use Rattle.sg_walk.specs.declared.spot.FieldState.TheVariants.{Unset}
-use Rattle.sg_walk.specs.Inside.Spots.{known_of, shown_marks}
+use Rattle.sg_walk.specs.Marks.{known_of, shown_marks}
 
 seen_at : (marks : List FieldState) (at : ℕ) → unwrap_or (slice_get (map known_of marks) at) unset ≡ known_of (get_or marks at Unset)
 seen_at [] at = refl

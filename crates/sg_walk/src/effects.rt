@@ -15,8 +15,8 @@ pub fn may_lead(effects: &[(u8, Effect)], field: u8, count: u8, old: u8, new: u8
             && may_lead(effects, field + 1, count - 1, old / 2, new / 2))
 }
 
-// The effect on a field.
-fn effect_on(effects: &[(u8, Effect)], field: u8) -> Option<Effect>
+/// The effect on a field; None where none of these is on it.
+pub fn effect_on(effects: &[(u8, Effect)], field: u8) -> Option<Effect>
     ensures { result ≡ effect_on (map (λ p. (p.0, p.1)) effects.now) field }
 {
     match effects {

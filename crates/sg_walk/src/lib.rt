@@ -2,7 +2,7 @@
 //! calls, whether a walk restores a state, and the least walk that does.
 //!
 //! - `reach`: all that descriptors can come to (`reachable`), by `closing` (the places that declared calls lead to; `set_count`),
-//!   `effects` (what a function's effects make of a set of fields), `found` (the places that were found, each once) and
+//!   `effects` (what a function's effects make of a set of fields; `effect_on`), `found` (the places that were found, each once) and
 //!   `place` (a state with a set of fields, and with the creation: `Triple`)
 //! - `restoring`: whether a walk restores a state and a set of fields (`restores`)
 //! - `least`: the least walk that does (`shortest`)
@@ -10,7 +10,7 @@
 //! - `ends`: from where a search is known to find nothing (`DeadEnds`)
 //! - `steps`: how a walk begins and goes on
 //! - `step_set`: recover steps, to be looked up (`StepSet`)
-//! - `spot`: where a walk has come to (`Spot`, `FieldState`), and what is sought (`Goal`)
+//! - `spot`: where a walk has come to (`Spot`, `FieldState`; `marked`), and what is sought (`Goal`)
 #![tactic(auto)]
 
 mod closing;
@@ -27,7 +27,9 @@ mod step_set;
 mod steps;
 
 pub use closing::set_count;
+pub use effects::effect_on;
 pub use least::shortest;
 pub use place::Triple;
 pub use reach::{TripleList, reachable};
 pub use restoring::restores;
+pub use spot::{FieldState, Spot, marked};

@@ -3,7 +3,8 @@ ghost use Rattle.std.specs.Prelude.{◌≡◌, ◌≤◌, length, map};
 ghost use Rattle.sg_facts.specs.Limits.{most_fields};
 ghost use Rattle.sg_facts.specs.Walks.{mark_after, marks_after};
 ghost use Rattle.sg_facts.specs.Inside.Walking.{restores_field};
-ghost use Rattle.sg_walk.specs.Inside.Spots.{known_of, shown_marks, restores_number};
+ghost use Rattle.sg_walk.specs.Inside.Spots.{restores_number};
+ghost use Rattle.sg_walk.specs.Marks.{known_of, shown_marks};
 
 use sg_facts::{Effect, MOST_FIELDS};
 

@@ -3,7 +3,8 @@ ghost use Rattle.std.specs.Prelude.{◌≡◌, true, false, length, map, MatchOp
 ghost use Rattle.sg_facts.specs.Interface.{steps_on, HasFewFields};
 ghost use Rattle.sg_facts.specs.Walks.{unset};
 ghost use Rattle.sg_facts.specs.Inside.Walking.{may_begin, may_go_on, first_spot, next_spot};
-ghost use Rattle.sg_walk.specs.Inside.Spots.{shown, shown_marks, is_goal};
+ghost use Rattle.sg_walk.specs.Inside.Spots.{shown, is_goal};
+ghost use Rattle.sg_walk.specs.Marks.{shown_marks};
 
 use crate::spot::{FieldState, Goal, Spot, marked, restores_number};
 use sg_facts::{Interface, MOST_FIELDS};

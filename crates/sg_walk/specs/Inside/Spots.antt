@@ -1,23 +1,12 @@
 -- Where a walk has come to, as the code holds it, and whether that is what is sought.
-use Rattle.std.specs.Prelude.{ℕ, ◌/◌, ◌%◌, ◌==◌, Bool, false, ◌&&◌, List, [], ◌∷◌, None, Some, length, map, take}
+use Rattle.std.specs.Prelude.{ℕ, ◌/◌, ◌%◌, ◌==◌, Bool, false, ◌&&◌, List, [], ◌∷◌, None, Some, length}
 use Rattle.std.specs.declared.option.Option.{Option}
 use Rattle.sg_facts.specs.Interface.{Declared}
-use Rattle.sg_facts.specs.Walks.{FieldMark as Known, unset, good, unknown, Spot as Place, spot_from, spot_of}
+use Rattle.sg_facts.specs.Walks.{FieldMark as Known, Spot as Place, spot_from, spot_of}
 use Rattle.sg_facts.specs.Inside.Walking.{restores_field}
-use Rattle.sg_walk.specs.declared.spot.FieldState.{FieldState}
-use Rattle.sg_walk.specs.declared.spot.FieldState.TheVariants.{Unset, Good, Unknown}
 use Rattle.sg_walk.specs.declared.spot.Spot.{Spot}
 use Rattle.sg_walk.specs.declared.spot.Goal.{Goal}
-
--- what is known of a field by the mark of the code
-abbrev pub known_of : FieldState → Known
-known_of Unset = unset
-known_of Good = good
-known_of Unknown = unknown
-
--- the marks of the first fields
-abbrev pub shown_marks : ℕ → List FieldState → List Known
-shown_marks count marks = map known_of (take count marks)
+use Rattle.sg_walk.specs.Marks.{shown_marks}
 
 -- a spot, with a mark for each field of the interface's rows
 abbrev pub shown : Declared → Spot → Place

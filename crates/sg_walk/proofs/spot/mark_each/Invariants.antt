@@ -1,6 +1,6 @@
 use Rattle.std.proofs.Common.{◌≡◌, map, drop}
 use Rattle.sg_facts.specs.Walks.{marks_after}
-use Rattle.sg_walk.specs.Inside.Spots.{known_of}
+use Rattle.sg_walk.specs.Marks.{known_of}
 use Rattle.sg_walk.proofs.spot.mark_each.Given as goal
 
 -- what is left of the effects leads to the same marks

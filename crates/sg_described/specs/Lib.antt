@@ -1,0 +1,10 @@
+pub mod Described
+pub mod DescribedLaws
+pub mod DescribedSound
+pub mod Known
+pub mod Meaning
+pub mod NeverZero
+pub mod Safe
+pub mod Waiting
+pub mod Walking
+pub use Rattle.sg_facts.specs as sg_facts

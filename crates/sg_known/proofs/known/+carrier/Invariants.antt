@@ -1,0 +1,7 @@
+-- Each call has fewer left.
+use Rattle.std.proofs.Common.{length}
+use Rattle.sg_described.specs.Walking.{carrier}
+use Rattle.sg_known.proofs.known.+carrier.Given as goal
+
+abbrev pub decreases-carrier : goal.decreases-carrier
+decreases-carrier l = length l.effects.now

@@ -1,0 +1,3 @@
+-- What private clauses and proofs speak of.
+pub mod Replays
+pub mod Seen

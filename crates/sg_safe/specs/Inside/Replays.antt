@@ -1,0 +1,34 @@
+-- What is found of a replayed call.
+use Rattle.std.specs.Prelude.{ℕ, suc, Bool, not, nat_le, List, [], ◌∷◌}
+use Rattle.std.specs.Bool.{then_some}
+use Rattle.std.specs.declared.option.Option.{Option}
+use Rattle.sg_facts.specs.declared.shape.Effect.{Effect}
+use Rattle.sg_facts.specs.Walks.{FieldMark}
+use Rattle.sg_walk.specs.declared.spot.FieldState.{FieldState}
+use Rattle.sg_described.specs.declared.bounds.Bounds.{Bounds}
+use Rattle.sg_described.specs.Described.{Described}
+use Rattle.sg_described.specs.Known.{Known, greatest}
+use Rattle.sg_described.specs.Meaning.{most_at}
+use Rattle.sg_described.specs.NeverZero.{is_never_zero}
+use Rattle.sg_described.specs.Walking.{bounds_at, caller_fits, left_most}
+use Rattle.sg_known.specs.Seen.{fields_in}
+use Rattle.sg_safe.specs.declared.reason.KnownField.{KnownField}
+use Rattle.sg_safe.specs.Reasons.{first_in}
+
+-- what is known of fields in a state by their marks, numbered from a number on
+abbrev pub fields_from : Described → ℕ → ℕ → List FieldMark → List Bounds
+fields_from d state x [] = []
+fields_from d state x (m ∷ marks) = bounds_at m (is_never_zero d.facts state x) (most_at (greatest d) x) ∷ fields_from d state (suc x) marks
+
+-- the same with the marks of the code, by what is listed
+abbrev pub spots_from : List Bounds → ℕ → List FieldState → List KnownField
+spots_from fields x [] = []
+spots_from fields x (m ∷ marks) = record { mark = m; bounds = fields_in fields x } ∷ spots_from fields (suc x) marks
+
+-- the first field that effects set to the caller and that may hold no client
+abbrev pub clients_at : Described → ℕ → List (ℕ × Effect) → Option ℕ
+clients_at d state es = first_in (λ e. then_some (not (caller_fits d state e)) e.0) es
+
+-- the first field that effects may take past its greatest number
+abbrev pub past_at : Described → Known → ℕ → List (ℕ × Effect) → Option ℕ
+past_at d k word es = first_in (λ e. then_some (not (nat_le (left_most e.1 (k.fields e.0).most (most_at (greatest d) e.0) word) (most_at d.most e.0))) e.0) es
