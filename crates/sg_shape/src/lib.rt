@@ -28,6 +28,8 @@ mod shaping;
 mod uses;
 
 pub use fault::{ShapeError, ShapeFault, ShapeFaultKind};
+pub use forbidden::count_args;
+pub use keeping::kept;
 pub use laws::{flawless_shapes, one_verdict, own_texts_fit};
 pub use limits::MOST_PARAMS;
 pub use sg_check_statements::{Tree, parse};
