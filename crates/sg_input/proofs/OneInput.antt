@@ -11,7 +11,7 @@ use Rattle.sg_input.specs.sg_parse.declared.tree.Tree.{Tree}
 use Rattle.sg_input.specs.sg_parse.Grammar.Parses.{Parses}
 use Rattle.sg_input.proofs.sg_parse.Grammar.Readings.{only_answer}
 use Rattle.sg_input.specs.sg_check_statements.Faults.{IsAccepted, interface_of}
-use Rattle.sg_input.specs.Verdicts.{IsVerdict}
+use Rattle.sg_input.specs.Verdicts.{IsVerdict, services_for}
 use Rattle.sg_input.specs.Inside.Said.{accepted_line, script_line}
 use Rattle.sg_input.proofs.OneVerdict.{one_verdict}
 use Rattle.sg_script.specs.declared.fault.ScriptError.{ScriptError}
@@ -36,7 +36,7 @@ one_tree text one other p q =
     let same : ◌≡◌ {A = Parsed} (Ok one) (Ok other) =
     sym (only_answer (length text) (answers_of text) (Ok one) p (λ e. cc)) ∙ only_answer (length text) (answers_of text) (Ok other) q (λ e. cc) in cc same
 
-one_declared : (services : List Facts) (tree : Tree) (i j : Declared) → IsAccepted services tree i → IsAccepted services tree j → i ≡ j
+one_declared : (services : List Facts) (tree : Tree) (i j : Declared) → IsAccepted (services_for services tree) tree i → IsAccepted (services_for services tree) tree j → i ≡ j
 one_declared services tree i j a b =
     let found : Some a.facts ≡ Some b.facts = sym a.service ∙ b.service in
     let same : a.facts ≡ b.facts = cc in
@@ -44,7 +44,7 @@ one_declared services tree i j a b =
 
 pub one_interface : (services : List Facts) (text : List ℕ) (i j : Declared) → IsInterface services text i → IsInterface services text j → i ≡ j
 one_interface services text i j (tree, p, is) (tree', q, is') =
-    one_declared services tree i j is (subst (λ t. IsAccepted services t j) (one_tree text tree' tree q p) is')
+    one_declared services tree i j is (subst (λ t. IsAccepted (services_for services t) t j) (one_tree text tree' tree q p) is')
 
 pub not_refused : (services : List Facts) (text : List ℕ) (i : Declared) (line : List ℕ) → IsInterface services text i → IsVerdict services text (Refused line) → ⊥
 not_refused services text i line (tree, p, is) said =

@@ -23,7 +23,7 @@ use Rattle.sg_input.specs.declared.read.Read.{Read}
 use Rattle.sg_input.specs.declared.read.Read.TheVariants.{Ready, Refused}
 use Rattle.sg_input.specs.declared.refusal.RefusalKind.{RefusalKind}
 use Rattle.sg_input.specs.declared.refusal.RefusalKind.TheVariants.{Lex, Syntax, Check}
-use Rattle.sg_input.specs.Verdicts.{IsCompiled, IsRefused, IsUpgraded, IsVerdict}
+use Rattle.sg_input.specs.Verdicts.{IsCompiled, IsRefused, IsUpgraded, IsVerdict, services_for}
 use Rattle.sg_input.specs.Inside.Said.{accepted_line, refusal_line}
 
 -- a text has one answer of the parser, want of memory aside
@@ -68,11 +68,11 @@ one_refusal services text (Check kind) Syntax here there (tree, p, is) q =
     absurd (no_error text tree (syntax_fault there) (λ e. cc) p q)
 one_refusal services text (Check one) (Check other) here there (tree, p, is) (tree', q, is') =
     let same = one_tree text tree' tree q p in
-    let both = same_fault services tree one other here there is (subst (λ t. IsFault services t other there) same is') in
+    let both = same_fault (services_for services tree) tree one other here there is (subst (λ t. IsFault (services_for services t) t other there) same is') in
     (ap Check both.0, both.1)
 
 -- an accepted text declares one interface
-one_interface : (services : List Facts) (tree : Tree) (i j : Declared) → IsAccepted services tree i → IsAccepted services tree j → i ≡ j
+one_interface : (services : List Facts) (tree : Tree) (i j : Declared) → IsAccepted (services_for services tree) tree i → IsAccepted (services_for services tree) tree j → i ≡ j
 one_interface services tree i j a b =
     let found : Some a.facts ≡ Some b.facts = sym a.service ∙ b.service in
     let same : a.facts ≡ b.facts = cc in
@@ -80,17 +80,17 @@ one_interface services tree i j a b =
 
 -- an accepted text isn't refused
 not_both : (services : List Facts) (text : List ℕ) (tree : Tree) (i : Declared) (kind : RefusalKind) (at : ℕ)
-    → Parses text (Ok tree) → IsAccepted services tree i → IsRefused services text kind at → ⊥
+    → Parses text (Ok tree) → IsAccepted (services_for services tree) tree i → IsRefused services text kind at → ⊥
 not_both services text tree i Lex at p is q = no_error text tree (lex_fault at) (λ e. cc) p q
 not_both services text tree i Syntax at p is q = no_error text tree (syntax_fault at) (λ e. cc) p q
 not_both services text tree i (Check kind) at p is (tree', q, fault) =
-    is.none kind at (subst (λ t. IsFault services t kind at) (one_tree text tree' tree q p) fault).here
+    is.none kind at (subst (λ t. IsFault (services_for services t) t kind at) (one_tree text tree' tree q p) fault).here
 
 pub one_verdict : (services : List Facts) (text : List ℕ) (one other : Read (List ℕ))
     → IsVerdict services text one → IsVerdict services text other → one ≡ other
 one_verdict services text (Ready line) (Ready line') (tree, i, p, is, said) (tree', i', q, is', said') =
     let same = one_tree text tree' tree q p in
-    let own = one_interface services tree i i' is (subst (λ t. IsAccepted services t i') same is') in
+    let own = one_interface services tree i i' is (subst (λ t. IsAccepted (services_for services t) t i') same is') in
     ap Ready (said ∙ ap (λ d. accepted_line d.facts.name) own ∙ sym said')
 one_verdict services text (Ready line) (Refused line') (tree, i, p, is, said) (kind, at, q, said') =
     absurd (not_both services text tree i kind at p is q)
@@ -104,7 +104,7 @@ pub one_compiled : (services : List Facts) (text : List ℕ) (one other : Read (
     → IsCompiled services text one → IsCompiled services text other → one ≡ other
 one_compiled services text (Ready output) (Ready output') (tree, tables, p, is, are, said) (tree', tables', q, is', are', said') =
     let same = one_tree text tree' tree q p in
-    let own = one_interface services tree tables.iface tables'.iface is (subst (λ t. IsAccepted services t tables'.iface) same is') in
+    let own = one_interface services tree tables.iface tables'.iface is (subst (λ t. IsAccepted (services_for services t) t tables'.iface) same is') in
     let walks = one_table tables.iface tables.walks tables'.walks are (subst (λ i. AreTables i tables'.walks) (sym own) are') in
     ap Ready (said ∙ ap (λ i. tables_text (record { iface = i; walks = tables.walks })) own
     ∙ ap (λ w. tables_text (record { iface = tables'.iface; walks = w })) walks ∙ sym said')
@@ -128,7 +128,7 @@ pub one_examined : (services : List Facts) (text : List ℕ) (one other : Read D
     → IsExamined services text one → IsExamined services text other → one ≡ other
 one_examined services text (Ready i) (Ready j) (tree, p, is) (tree', q, is') =
     let same = one_tree text tree' tree q p in
-    ap Ready (one_interface services tree i j is (subst (λ t. IsAccepted services t j) same is'))
+    ap Ready (one_interface services tree i j is (subst (λ t. IsAccepted (services_for services t) t j) same is'))
 one_examined services text (Ready i) (Refused line) (tree, p, is) (kind, at, q, said) = absurd (not_both services text tree i kind at p is q)
 one_examined services text (Refused line) (Ready i) (kind, at, q, said) (tree, p, is) = absurd (not_both services text tree i kind at p is q)
 one_examined services text (Refused line) (Refused line') one other =

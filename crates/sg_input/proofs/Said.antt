@@ -15,7 +15,7 @@ use Rattle.sg_stub.specs.sg_check_statements.Stages.{IsFirstFault}
 use Rattle.sg_input.specs.declared.read.Read.TheVariants.{Refused}
 use Rattle.sg_input.specs.declared.refusal.RefusalKind.{RefusalKind}
 use Rattle.sg_input.specs.declared.refusal.RefusalKind.TheVariants.{Lex, Syntax, Check}
-use Rattle.sg_input.specs.Verdicts.{IsRefused, IsVerdict}
+use Rattle.sg_input.specs.Verdicts.{IsRefused, IsVerdict, services_for}
 
 -- a line says that a text is refused, whatever the services
 abbrev pub SaysSo : List ℕ → List ℕ → Type 0
@@ -43,7 +43,7 @@ says_syntax text error at r is parses = says text Syntax at r (λ services. subs
 -- the line of the checker's error says so of a sentence whose tree has that error
 abbrev pub SaysOfTrees : List ℕ → CheckError → List ℕ → Type 0
 SaysOfTrees text error line =
-    (services : List Facts) (tree : Tree) → Parses text (Ok tree) → IsFirstFault services tree error → IsVerdict services text (Refused line)
+    (services : List Facts) (tree : Tree) → Parses text (Ok tree) → IsFirstFault (services_for services tree) tree error → IsVerdict services text (Refused line)
 
 by_fault : (text : List ℕ) (fault : CheckFault) (r : Result (List ℕ) NoMemory) → IfOk r (SaysIf text (Check fault.kind) fault.at) → IfOk r (SaysOfTrees text (Fault fault))
 by_fault text fault (Ok line) line_says = λ services tree parses is. line_says services (tree, parses, is)

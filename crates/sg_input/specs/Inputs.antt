@@ -6,7 +6,7 @@ use Rattle.sg_facts.specs.Interface.{Declared}
 use Rattle.sg_input.specs.sg_parse.declared.tree.Tree.{Tree}
 use Rattle.sg_input.specs.sg_parse.Grammar.Parses.{Parses}
 use Rattle.sg_input.specs.sg_check_statements.Faults.{IsAccepted}
-use Rattle.sg_input.specs.Verdicts.{IsVerdict}
+use Rattle.sg_input.specs.Verdicts.{IsVerdict, services_for}
 use Rattle.sg_entries.specs.Entry.{shows_named}
 use Rattle.sg_entries.specs.Reads.{IsReadOf}
 use Rattle.sg_entries.specs.declared.error.EntriesError.TheVariants.{Fault as EntriesFault}
@@ -44,7 +44,7 @@ pub record AreTexts (most : ℕ) (input interface second : List ℕ) : Type 0 wh
 
 -- a text is accepted, with this interface
 abbrev pub IsInterface : List Facts → List ℕ → Declared → Type 0
-IsInterface services text i = (tree : Tree) × Parses text (Ok tree) × IsAccepted services tree i
+IsInterface services text i = (tree : Tree) × Parses text (Ok tree) × IsAccepted (services_for services tree) tree i
 
 -- an interface is accepted, and under it the second text stands for this
 pub record IsReadAs {A : Type 0} (most : ℕ) (Reads : Declared → List ℕ → A → Type 0) (services : List Facts) (input : List ℕ) (i : Declared) (read : A) : Type 0 where

@@ -19,7 +19,7 @@ use Rattle.sg_input.specs.declared.refusal.RefusalKind.{RefusalKind}
 use Rattle.sg_input.specs.Divider.{Divides, IsCut}
 use Rattle.sg_input.specs.Inputs.{IsInterface, most_interface, most_script}
 use Rattle.sg_input.specs.Lines.{refused_line, script_kind_name, too_long_line}
-use Rattle.sg_input.specs.Verdicts.{IsRefused, refusal_name}
+use Rattle.sg_input.specs.Verdicts.{IsRefused, refusal_name, services_for}
 
 -- ---- the texts: those of the interfaces, and after the last line of `%%` alone that of the script
 
@@ -57,7 +57,7 @@ member_line members text at name = refused_line (codes "interface " ++ decimal (
 abbrev pub IsNoMember : List Facts → List Declared → List ℕ → List ℕ → Type 0
 IsNoMember services members text line =
     ((kind : RefusalKind) × (at : ℕ) × IsRefused services text kind at × (line ≡ member_line members text at (refusal_name kind)))
-    ⊎ ((tree : Tree) × (i : Declared) × Parses text (Ok tree) × IsAccepted services tree i × (has_service members i ≡ true)
+    ⊎ ((tree : Tree) × (i : Declared) × Parses text (Ok tree) × IsAccepted (services_for services tree) tree i × (has_service members i ≡ true)
     × (line ≡ member_line members text tree.facts.service.at (codes "DuplicateService")))
 
 -- ---- the input

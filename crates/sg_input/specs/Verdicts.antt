@@ -1,5 +1,5 @@
 -- What is said of a text.
-use Rattle.std.specs.Prelude.{ℕ, ◌≡◌, List, ◌++◌, Ok, Err, codes, [], slice_get}
+use Rattle.std.specs.Prelude.{ℕ, ◌≡◌, ◌==◌, Bool, if◌then◌else◌, List, ◌++◌, Ok, Err, codes, [], slice_get}
 use Rattle.std.specs.Option.{option_map_or}
 use Rattle.sg_facts.specs.Words.{line_end}
 use Rattle.sg_facts.specs.Facts.{Facts}
@@ -18,6 +18,14 @@ use Rattle.sg_input.specs.declared.refusal.RefusalKind.{RefusalKind}
 use Rattle.sg_input.specs.declared.refusal.RefusalKind.TheVariants.{Lex, Syntax, Check}
 use Rattle.sg_input.specs.Lines.{refused_line}
 
+-- whether a text describes a service of its own: it is of version 3
+abbrev pub is_own : Tree → Bool
+is_own tree = tree.facts.version == 3
+
+-- the services among which that of a text is looked for: those that there are, and none where the text describes its own
+abbrev pub services_for : List Facts → Tree → List Facts
+services_for services tree = if is_own tree then [] else services
+
 -- the name of a kind of refusal
 abbrev pub refusal_name : RefusalKind → List ℕ
 refusal_name Lex = codes "Lex"
@@ -29,13 +37,13 @@ refusal_name (Check kind) = option_map_or (λ p. p.1) (slice_get check_kinds (ki
 abbrev pub IsRefused : List Facts → List ℕ → RefusalKind → ℕ → Type 0
 IsRefused services text Lex at = Parses text (Err (lex_fault at))
 IsRefused services text Syntax at = Parses text (Err (syntax_fault at))
-IsRefused services text (Check kind) at = (tree : Tree) × Parses text (Ok tree) × IsFault services tree kind at
+IsRefused services text (Check kind) at = (tree : Tree) × Parses text (Ok tree) × IsFault (services_for services tree) tree kind at
 
 -- what is said of a text: it is a sentence whose tree is accepted, and the line names the service; or it is refused, and the
 -- line says for what and where
 abbrev pub IsVerdict : List Facts → List ℕ → Read (List ℕ) → Type 0
 IsVerdict services text (Ready line) =
-    (tree : Tree) × (i : Declared) × Parses text (Ok tree) × IsAccepted services tree i × (line ≡ codes "accepted " ++ i.facts.name ++ line_end)
+    (tree : Tree) × (i : Declared) × Parses text (Ok tree) × IsAccepted (services_for services tree) tree i × (line ≡ codes "accepted " ++ i.facts.name ++ line_end)
 IsVerdict services text (Refused line) =
     (kind : RefusalKind) × (at : ℕ) × IsRefused services text kind at
     × (line ≡ refused_line (codes "interface refused at ") text at (refusal_name kind))
@@ -44,12 +52,12 @@ IsVerdict services text (Refused line) =
 -- interface; or it is refused, as by its verdict
 abbrev pub IsCompiled : List Facts → List ℕ → Read (List ℕ) → Type 0
 IsCompiled services text (Ready output) =
-    (tree : Tree) × (tables : Compiled) × Parses text (Ok tree) × IsAccepted services tree tables.iface × AreTables tables.iface tables.walks × (output ≡ tables_text tables)
+    (tree : Tree) × (tables : Compiled) × Parses text (Ok tree) × IsAccepted (services_for services tree) tree tables.iface × AreTables tables.iface tables.walks × (output ≡ tables_text tables)
 IsCompiled services text (Refused line) = IsVerdict services text (Refused line)
 
 -- what is said of a text by what it is upgraded to: it is a sentence whose tree is accepted, and this is the canonical text of that
 -- tree as one of version 2; or it is refused, as by its verdict
 abbrev pub IsUpgraded : List Facts → List ℕ → Read (List ℕ) → Type 0
 IsUpgraded services text (Ready output) =
-    (tree : Tree) × (i : Declared) × Parses text (Ok tree) × IsAccepted services tree i × (output ≡ printed (upgraded tree))
+    (tree : Tree) × (i : Declared) × Parses text (Ok tree) × IsAccepted (services_for services tree) tree i × (output ≡ printed (upgraded tree))
 IsUpgraded services text (Refused line) = IsVerdict services text (Refused line)

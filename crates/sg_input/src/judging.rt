@@ -10,13 +10,14 @@ ghost use Rattle.sg_stub.specs.sg_check_statements.Stages.{IsFirstFault};
 ghost use Rattle.sg_input.specs.declared.read.Read.{Read as AnyRead};
 ghost use Rattle.sg_input.specs.declared.read.Read.TheVariants.{Refused as refused_with};
 ghost use Rattle.sg_input.specs.Examined.{IsExamined};
-ghost use Rattle.sg_input.specs.Verdicts.{IsCompiled, IsRefused, IsUpgraded, IsVerdict};
+ghost use Rattle.sg_input.specs.Verdicts.{IsCompiled, IsRefused, IsUpgraded, IsVerdict, services_for};
 
+use crate::among::check_for;
 use crate::lines::{accepted_line, refusal_line};
 use crate::{Accepted, Read, RefusalKind};
 use sg_facts::{Bytes, NoMemory, Shape};
 use sg_print::{ParseError, Tree, parse, print, print_tables};
-use sg_stub::{CheckError, check, compile};
+use sg_stub::{CheckError, compile};
 use std::alloc::Global;
 
 /// What is said of an interface text, where it may be of one of these shapes: the line `accepted SERVICE` where the text is
@@ -116,7 +117,7 @@ fn upgrade_tree(
     requires sentence { Parses text.now (Ok tree) }
     ensures { IfOk result (IsUpgraded (map facts_of shapes.now) text.now) }
 {
-    match check(alloc, &tree, shapes) {
+    match check_for(alloc, &tree, shapes) {
         Ok(_) => Ok(Read::Ready(print(alloc, &upgraded_tree(tree))?)),
         Err(error) => Ok(Read::Refused(unaccepted_line(alloc, text, error)?)),
     }
@@ -152,7 +153,7 @@ fn examine_tree(
     requires sentence { Parses text.now (Ok tree.now) }
     ensures { IfOk result (IsExamined (map facts_of shapes.now) text.now) }
 {
-    match check(alloc, tree, shapes) {
+    match check_for(alloc, tree, shapes) {
         Ok(accepted) => Ok(Read::Ready(accepted)),
         Err(error) => Ok(Read::Refused(unaccepted_line(alloc, text, error)?)),
     }
@@ -172,7 +173,7 @@ fn unparsed_line(alloc: Global, text: &[u8], error: ParseError) -> Result<Bytes,
 
 // The line of a sentence whose tree the checker answers with this error.
 fn unaccepted_line(alloc: Global, text: &[u8], error: CheckError) -> Result<Bytes, NoMemory>
-    ensures { IfOk result (λ line. (services : List Facts) (tree : Sentence) → Parses text.now (Ok tree) → IsFirstFault services tree error
+    ensures { IfOk result (λ line. (services : List Facts) (tree : Sentence) → Parses text.now (Ok tree) → IsFirstFault (services_for services tree) tree error
         → IsVerdict services text.now (refused_with line)) }
 {
     match error {

@@ -12,7 +12,7 @@ ghost use Rattle.sg_input.specs.declared.read.Read.{Read};
 ghost use Rattle.sg_input.specs.declared.refusal.RefusalKind.{RefusalKind};
 ghost use Rattle.sg_input.specs.Divider.{IsCut};
 ghost use Rattle.sg_input.specs.Inputs.{IsInputOf, IsInterface};
-ghost use Rattle.sg_input.specs.Verdicts.{IsRefused, IsVerdict};
+ghost use Rattle.sg_input.specs.Verdicts.{IsRefused, IsVerdict, services_for};
 
 /// Of a text one thing alone can be said: it isn't accepted and refused, it is refused for one kind at one place, and there is
 /// one line for it.
@@ -26,7 +26,7 @@ pub fn one_verdict()
 /// What an accepted text is upgraded to is accepted, as a text of any length, and declares the same interface but for the version,
 /// where no name in the text is the word that version 2 keeps for itself.
 pub fn upgrades_are_accepted()
-    ensures { (services : List Facts) (text : List ℕ) (tree : Tree) (i : Declared) → Parses text (Ok tree) → IsAccepted services tree i → IsFree tree
+    ensures { (services : List Facts) (text : List ℕ) (tree : Tree) (i : Declared) → Parses text (Ok tree) → IsAccepted (services_for services tree) tree i → IsFree tree
         → IsInterface services (printed (upgraded tree)) (record i { version = 2 }) }
 {}
 

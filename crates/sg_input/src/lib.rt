@@ -12,6 +12,7 @@
 //! - `multi_input`: what an input for several services is, or the line that refuses it (`read_multi_input`)
 //! - `dividing`: the texts of an input that is divided more than once
 //! - `members`: the interfaces of such an input, each of another service
+//! - `among`: the services among which that of a text is looked for
 //! - `divider`: the two texts before and after the first line of `%%` alone (`cut`)
 //! - `limits`: the greatest numbers of bytes
 //! - `lines`: the lines that are said of a text, and those that refuse an input
@@ -22,6 +23,7 @@
 //! which line is the right one for it, and `specs/MultiInputs.antt` for one for several services.
 #![tactic(auto)]
 
+mod among;
 mod divider;
 mod dividing;
 mod judging;
@@ -37,6 +39,7 @@ mod reading;
 mod refusal;
 mod run_input;
 
+pub use among::is_own;
 pub use divider::cut;
 pub use judging::{compiled, examine, upgraded, verdict};
 pub use laws::{one_cut, one_input, one_verdict, upgrades_are_accepted};

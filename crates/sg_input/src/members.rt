@@ -8,14 +8,15 @@ ghost use Rattle.sg_stub.specs.sg_check.Shapes.{are_shapes};
 ghost use Rattle.sg_stub.specs.sg_check_statements.Stages.{IsFirstFault};
 ghost use Rattle.sg_input.specs.Inside.Members.{AreFitMembers, IsGathered, IsMemberOf, IsFitMember};
 ghost use Rattle.sg_input.specs.MultiInputs.{has_service, member_line};
-ghost use Rattle.sg_input.specs.Verdicts.{IsRefused};
+ghost use Rattle.sg_input.specs.Verdicts.{IsRefused, services_for};
 
 use crate::Read;
+use crate::among::check_for;
 use crate::lines::member_line;
 use crate::refusal::{RefusalKind, name_of};
 use sg_facts::{Interface, ListOf, NoMemory, Shape, TryCopy};
 use sg_print::{ParseError, Tree, parse};
-use sg_stub::{CheckError, check};
+use sg_stub::CheckError;
 use std::alloc::Global;
 
 /// Interfaces, in the order of their texts.
@@ -73,7 +74,7 @@ fn member_by_tree(
     requires sentence { Parses text.now (Ok tree.now) }
     ensures { IfOk result (IsMemberOf (map facts_of shapes.now) members.now text.now) }
 {
-    match check(alloc, tree, shapes) {
+    match check_for(alloc, tree, shapes) {
         Ok(accepted) => {
             let iface = accepted.interface();
             if has_service(members, iface) {
@@ -124,7 +125,7 @@ fn unparsed(error: ParseError) -> Result<(RefusalKind, usize), NoMemory>
 
 // What a sentence is refused for whose tree the checker answers with this error, and where.
 fn unaccepted(error: CheckError) -> Result<(RefusalKind, usize), NoMemory>
-    ensures { IfOk result (λ p. (services : List Facts) (text : List ℕ) (tree : Sentence) → Parses text (Ok tree) → IsFirstFault services tree error
+    ensures { IfOk result (λ p. (services : List Facts) (text : List ℕ) (tree : Sentence) → Parses text (Ok tree) → IsFirstFault (services_for services tree) tree error
         → IsRefused services text p.0 p.1) }
 {
     match error {
