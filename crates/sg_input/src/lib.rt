@@ -47,13 +47,13 @@ pub use limits::{
     MOST_DIVIDER, MOST_INPUT, MOST_INTERFACE, MOST_MULTI_INPUT, MOST_RUN, MOST_RUN_INPUT,
     MOST_SCRIPT,
 };
-pub use lines::{TOO_LONG, refusal_line, script_line};
+pub use lines::{TOO_LONG, accepted_line, interface_line, refusal_line, script_line};
 pub use members::InterfaceList;
 pub use multi_input::read_multi_input;
 pub use places::{column_of, line_of};
 pub use read::Read;
 pub use reading::read_input;
-pub use refusal::RefusalKind;
+pub use refusal::{RefusalKind, refusal_name};
 pub use run_input::read_run;
 pub use sg_check_statements::{CheckFault, Protos, Statement, Tree, fun_number, says_of};
 pub use sg_entries::History;

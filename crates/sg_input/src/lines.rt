@@ -6,7 +6,7 @@ ghost use Rattle.sg_input.specs.Verdicts.{refusal_name};
 ghost use Rattle.sg_input.specs.Inside.Said.{accepted_line, run_line};
 
 use crate::places::{column_of, line_of};
-use crate::refusal::{RefusalKind, name_of};
+use crate::refusal::{RefusalKind, refusal_name};
 use sg_entries::EntriesKind;
 use sg_facts::{Bytes, Interface, NoMemory};
 use sg_script::{ScriptFault, ScriptKind};
@@ -31,10 +31,16 @@ pub fn refusal_line(
 ) -> Result<Bytes, NoMemory>
     ensures { IfOk result (λ line. line ≡ refused_line (codes "interface refused at ") text.now at (refusal_name kind)) }
 {
+    interface_line(alloc, text, at, refusal_name(kind))
+}
+
+/// The line of a text that is refused at a place, which is counted in bytes from 0, by the name of what is wrong there.
+pub fn interface_line(alloc: Global, text: &[u8], at: usize, name: &str) -> Result<Bytes, NoMemory>
+    ensures { IfOk result (λ line. line ≡ refused_line (codes "interface refused at ") text.now at name.now) }
+{
     let line = line_of(text, at);
     let column = column_of(text, at);
-    let kind = name_of(kind);
-    let said = format!(in alloc; "interface refused at {line}:{column}: {kind}\n")?;
+    let said = format!(in alloc; "interface refused at {line}:{column}: {name}\n")?;
     Ok(Bytes::from_vec(said.into_bytes()))
 }
 

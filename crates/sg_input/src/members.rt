@@ -13,7 +13,7 @@ ghost use Rattle.sg_input.specs.Verdicts.{IsRefused, services_for};
 use crate::Read;
 use crate::among::check_for;
 use crate::lines::member_line;
-use crate::refusal::{RefusalKind, name_of};
+use crate::refusal::{RefusalKind, refusal_name};
 use sg_facts::{Interface, ListOf, NoMemory, Shape, TryCopy};
 use sg_print::{ParseError, Tree, parse};
 use sg_stub::CheckError;
@@ -144,6 +144,6 @@ fn refused(
 ) -> Result<Read<Interface>, NoMemory>
     ensures { IfOk result (λ made. (services : List Facts) → IsRefused services text.now kind at → IsMemberOf services members.now text.now made) }
 {
-    let line = member_line(alloc, members, text, at, name_of(kind))?;
+    let line = member_line(alloc, members, text, at, refusal_name(kind))?;
     Ok(Read::Refused(line))
 }

@@ -16,8 +16,8 @@ pub enum RefusalKind {
     Check(CheckKind),
 }
 
-// The name of a kind, as it is written.
-pub(crate) fn name_of(kind: RefusalKind) -> &'static str
+/// The name of a kind, as it is written.
+pub fn refusal_name(kind: RefusalKind) -> &'static str
     ensures { result.now ≡ refusal_name kind }
 {
     match kind {

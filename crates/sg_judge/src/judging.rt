@@ -1,0 +1,148 @@
+// What is said of the text of an interface, whatever its version.
+ghost use Rattle.std.specs.Prelude.{◌≡◌, ℕ, Ok, List, MatchOption, map, true, IfOk};
+ghost use Rattle.std.specs.Result.{MatchResult};
+ghost use Rattle.sg_facts.specs.Facts.{facts_of};
+ghost use Rattle.sg_input.specs.sg_check.Shapes.{are_shapes};
+ghost use Rattle.sg_input.specs.declared.read.Read.{Read as AnyRead};
+ghost use Rattle.sg_own.specs.Faults.{IsOwnAccepted};
+ghost use Rattle.sg_judge.specs.Said.{IsChecked, IsOfServices, IsOwnText, IsRenewed, IsTabled};
+ghost use Rattle.sg_judge.specs.Said.{IsOwnSaid, OwnAccepted, OwnPrinted, OwnTables};
+ghost use Rattle.sg_judge.specs.Inside.Examined.{IsOwnExamined};
+
+use crate::lines::own_line;
+use sg_facts::{Bytes, NoMemory, Shape};
+use sg_input::{Accepted, ParseError, Read, accepted_line, compile, is_own, parse};
+use sg_own::{OwnError, check_own};
+use sg_print::{Tree, print, print_tables};
+use std::alloc::Global;
+
+/// What `check` says of an interface text. One of version 3 describes a service of its own and is judged by itself; one of version 1 or 2 may be
+/// of one of these shapes. The line `accepted SERVICE` where the text is accepted, and else the line `interface refused at L:C: KIND` with the
+/// first thing that is wrong with it; L is the line of its place and C the byte in that line, both from 1. The shapes are as for `sg_input`'s
+/// `verdict`. The only error is want of memory.
+pub fn verdict(alloc: Global, text: &[u8], shapes: &[Shape]) -> Result<Read<Bytes>, NoMemory>
+    requires { are_shapes (map facts_of shapes.now) ≡ true }
+    ensures verdict { IfOk result (IsChecked (map facts_of shapes.now) text.now) }
+    // No other verdict may be given.
+    ensures only { (other : AnyRead (List ℕ)) → IsChecked (map facts_of shapes.now) text.now other → IfOk result (λ v. v ≡ other) }
+{
+    judge(alloc, text, shapes)
+}
+
+/// What `compile` says of an interface text: the text of its tables where it is accepted, and else the line that `verdict` refuses it with. The
+/// shapes are as for `verdict`. The only error is want of memory.
+pub fn compiled(alloc: Global, text: &[u8], shapes: &[Shape]) -> Result<Read<Bytes>, NoMemory>
+    requires { are_shapes (map facts_of shapes.now) ≡ true }
+    ensures verdict { IfOk result (IsTabled (map facts_of shapes.now) text.now) }
+    // No other verdict may be given.
+    ensures only { (other : AnyRead (List ℕ)) → IsTabled (map facts_of shapes.now) text.now other → IfOk result (λ v. v ≡ other) }
+{
+    judge_tables(alloc, text, shapes)
+}
+
+/// What `upgrade` says of an interface text that is accepted: its canonical text, as one of version 2 where it is of version 1; and else the line
+/// that `verdict` refuses it with. The shapes are as for `verdict`. The only error is want of memory.
+pub fn upgraded(alloc: Global, text: &[u8], shapes: &[Shape]) -> Result<Read<Bytes>, NoMemory>
+    requires { are_shapes (map facts_of shapes.now) ≡ true }
+    ensures verdict { IfOk result (IsRenewed (map facts_of shapes.now) text.now) }
+    // No other verdict may be given.
+    ensures only { (other : AnyRead (List ℕ)) → IsRenewed (map facts_of shapes.now) text.now other → IfOk result (λ v. v ≡ other) }
+{
+    judge_upgrade(alloc, text, shapes)
+}
+
+// The line that accepts a text or refuses it, for `verdict`.
+fn judge(alloc: Global, text: &[u8], shapes: &[Shape]) -> Result<Read<Bytes>, NoMemory>
+    requires { are_shapes (map facts_of shapes.now) ≡ true }
+    ensures { IfOk result (IsChecked (map facts_of shapes.now) text.now) }
+{
+    match own_tree(alloc, text)? {
+        Some(tree) => own_verdict(alloc, text, &tree),
+        None => sg_input::verdict(alloc, text, shapes),
+    }
+}
+
+// The text of the tables of a text, or the line that refuses the text, for `compiled`.
+fn judge_tables(alloc: Global, text: &[u8], shapes: &[Shape]) -> Result<Read<Bytes>, NoMemory>
+    requires { are_shapes (map facts_of shapes.now) ≡ true }
+    ensures { IfOk result (IsTabled (map facts_of shapes.now) text.now) }
+{
+    match own_tree(alloc, text)? {
+        Some(tree) => own_tables(alloc, text, &tree),
+        None => sg_input::compiled(alloc, text, shapes),
+    }
+}
+
+// The canonical text of a text, or the line that refuses the text, for `upgraded`.
+fn judge_upgrade(alloc: Global, text: &[u8], shapes: &[Shape]) -> Result<Read<Bytes>, NoMemory>
+    requires { are_shapes (map facts_of shapes.now) ≡ true }
+    ensures { IfOk result (IsRenewed (map facts_of shapes.now) text.now) }
+{
+    match own_tree(alloc, text)? {
+        Some(tree) => own_text(alloc, text, &tree),
+        None => sg_input::upgraded(alloc, text, shapes),
+    }
+}
+
+// The tree of a text that describes a service of its own.
+fn own_tree<'a>(alloc: Global, text: &'a [u8]) -> Result<Option<Tree<'a>>, NoMemory>
+    ensures { IfOk result (λ tree. MatchOption tree (IsOfServices text.now) (IsOwnText text.now)) }
+{
+    match parse(alloc, text) {
+        Ok(tree) if is_own(&tree) => Ok(Some(tree)),
+        Err(ParseError::NoMemory) => Err(NoMemory),
+        _ => Ok(None),
+    }
+}
+
+// What is said of such a text by `check`.
+fn own_verdict(alloc: Global, text: &[u8], tree: &Tree) -> Result<Read<Bytes>, NoMemory>
+    requires { IsOwnText text.now tree.now }
+    ensures { IfOk result (IsOwnSaid OwnAccepted text.now) }
+{
+    match examined(alloc, text, tree)? {
+        Read::Ready(accepted) => {
+            let service = accepted.interface().shape.name;
+            Ok(Read::Ready(accepted_line(alloc, service)?))
+        }
+        Read::Refused(line) => Ok(Read::Refused(line)),
+    }
+}
+
+// What is said of such a text by its tables.
+fn own_tables(alloc: Global, text: &[u8], tree: &Tree) -> Result<Read<Bytes>, NoMemory>
+    requires { IsOwnText text.now tree.now }
+    ensures { IfOk result (IsOwnSaid OwnTables text.now) }
+{
+    match examined(alloc, text, tree)? {
+        Read::Ready(accepted) => {
+            let tables = compile(alloc, &accepted)?;
+            Ok(Read::Ready(print_tables(alloc, &tables)?))
+        }
+        Read::Refused(line) => Ok(Read::Refused(line)),
+    }
+}
+
+// What is said of such a text by its canonical text.
+fn own_text(alloc: Global, text: &[u8], tree: &Tree) -> Result<Read<Bytes>, NoMemory>
+    requires { IsOwnText text.now tree.now }
+    ensures { IfOk result (IsOwnSaid OwnPrinted text.now) }
+{
+    match examined(alloc, text, tree)? {
+        Read::Ready(_) => Ok(Read::Ready(print(alloc, tree)?)),
+        Read::Refused(line) => Ok(Read::Refused(line)),
+    }
+}
+
+// The interface of such a text, or the line that refuses it.
+fn examined(alloc: Global, text: &[u8], tree: &Tree) -> Result<Read<Accepted>, NoMemory>
+    ensures { IfOk result (IsOwnExamined text.now tree.now) }
+{
+    match check_own(alloc, tree) {
+        Ok(accepted) => Ok(Read::Ready(accepted)),
+        Err(OwnError::NoMemory) => Err(NoMemory),
+        Err(OwnError::Fault(fault)) => {
+            Ok(Read::Refused(own_line(alloc, text, fault.kind, fault.at)?))
+        }
+    }
+}
