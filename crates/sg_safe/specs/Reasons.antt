@@ -118,13 +118,21 @@ fails_on d s = first_in (fails_by d s) d.facts.steps
 abbrev pub failing : FailingCall → Unsafe
 failing call = Fails [] call
 
+-- words that count
+abbrev pub counts_in : Described → Option Unsafe
+counts_in d = option_or (first_from (counts_far d) 0 d.most) (first_from (recounts d) 1 d.facts.funs)
+
+-- who waits
+abbrev pub waits_in : Described → Option Unsafe
+waits_in d = first_from (overtaken d) 1 d.facts.funs
+
+-- replayed calls: first calls of walks, then those where walks come to
+abbrev pub fails_in : Described → Option Unsafe
+fails_in d = option_or (option_map failing (first_from (fails_first d) 1 d.facts.funs)) (option_map failing (first_in (fails_on d) (spots_of d)))
+
 -- of the kinds in this order the first that there is
 abbrev pub unsafe_in : Described → Option Unsafe
-unsafe_in d =
-    option_or (first_from (counts_far d) 0 d.most)
-    (option_or (first_from (recounts d) 1 d.facts.funs)
-    (option_or (first_from (overtaken d) 1 d.facts.funs)
-    (option_or (option_map failing (first_from (fails_first d) 1 d.facts.funs)) (option_map failing (first_in (fails_on d) (spots_of d))))))
+unsafe_in d = option_or (counts_in d) (option_or (waits_in d) (fails_in d))
 
 -- ---- the walk that a reason tells
 
@@ -171,13 +179,13 @@ Refutes d (Overtaken waiter n by) = all_from (waits_well d) 1 d.facts.funs ≡ f
 Refutes d (Fails [] call) = all_from (begins_well d) 1 d.facts.funs ≡ false
 Refutes d (Fails (fun ∷ walk) call) = list_all (walks_well d) (spots_of d) ≡ false
 
--- a reason is the first, its walk leads where it says, and it refutes that the description is safe
-pub record IsReason (d : Described) (reason : Unsafe) : Type 0 where
-  pub first : unsafe_in d ≡ Some (but_walk reason)
+-- a reason is this one but for its walk, its walk leads where it says, and it refutes that the description is safe
+pub record IsReason (d : Described) (from : Option Unsafe) (reason : Unsafe) : Type 0 where
+  pub same : from ≡ Some (but_walk reason)
   pub told : IsTold d reason
   pub refutes : Refutes d reason
 
 -- an error tells the first reason, or that there is no memory
 abbrev pub IsFirstError : Described → SafeError → Type 0
 IsFirstError d NoMemory = Unit {0}
-IsFirstError d (Found reason) = IsReason d reason
+IsFirstError d (Found reason) = IsReason d (unsafe_in d) reason

@@ -5,8 +5,8 @@ ghost use Rattle.sg_facts.specs.Limits.{most_funs};
 ghost use Rattle.sg_described.specs.Described.{described_of};
 ghost use Rattle.sg_described.specs.Safe.{IsPlain, IsSafe, is_plain};
 ghost use Rattle.sg_known.specs.Surveys.{IsSurvey, subject_of};
-ghost use Rattle.sg_safe.specs.Inside.Stages.{IsFound, counts_in, fails_in, waits_in};
-ghost use Rattle.sg_safe.specs.Reasons.{IsFirstError, unsafe_in};
+ghost use Rattle.sg_safe.specs.Inside.Stages.{IsFound};
+ghost use Rattle.sg_safe.specs.Reasons.{IsFirstError, counts_in, fails_in, unsafe_in, waits_in};
 
 use crate::counting::{first_far, first_recounted};
 use crate::reason::{SafeError, Unsafe};

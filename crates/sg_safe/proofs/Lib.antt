@@ -1,0 +1,3 @@
+pub mod Reasoning
+pub mod Routing
+pub mod Seeing
