@@ -1,18 +1,17 @@
 -- What the code holds is what is known.
-use Rattle.std.proofs.Common.{◌≡◌, ℕ, zero, suc, ◌+◌, ◌<◌, ◌≤◌, Bool, List, [], ◌∷◌, length, map, take, None, Some, refl, sym, ◌∙◌, ap, subst, arith, length-map}
-use Rattle.std.specs.Prelude.{slice_get, unwrap_or}
+use Rattle.std.proofs.Common.{◌≡◌, ℕ, zero, suc, ◌+◌, ◌<◌, ◌≤◌, Bool, List, [], ◌∷◌, length, map, None, Some, refl, sym, ◌∙◌, ap, arith}
 use Rattle.std.proofs.Math.Path.{fun_ext}
 use Rattle.sg_facts.specs.declared.shape.Effect.{Effect}
 use Rattle.sg_facts.specs.declared.shape.Effect.TheVariants.{SetCaller, SetArg, AddArg, SetRet, AddRet, Clear, SubOne, SubRet}
 use Rattle.std.specs.declared.option.Option.{Option}
-use Rattle.sg_facts.specs.Facts.{Facts, fun_at}
-use Rattle.sg_facts.specs.Walks.{FieldMark, Spot as Place, effect_on, unset}
+use Rattle.sg_facts.specs.Facts.{fun_at}
+use Rattle.sg_facts.specs.Walks.{FieldMark, Spot as Place, effect_on}
 use Rattle.sg_walk.specs.declared.spot.FieldState.{FieldState}
 use Rattle.sg_walk.specs.declared.spot.FieldState.TheVariants.{Unset, Good, Unknown}
 use Rattle.sg_walk.specs.Marks.{known_of}
 use Rattle.sg_described.specs.declared.bounds.Bounds.{Bounds}
 use Rattle.sg_described.specs.Described.{Described}
-use Rattle.sg_described.specs.Known.{Known, between, bounds_after, greatest, greatest_from}
+use Rattle.sg_described.specs.Known.{Known, between, bounds_after, greatest}
 use Rattle.sg_described.specs.Meaning.{last_word, most_at}
 use Rattle.sg_described.specs.NeverZero.{is_never_zero}
 use Rattle.sg_described.specs.Waiting.{known_after, known_of_all}
@@ -22,13 +21,6 @@ use Rattle.sg_safe.specs.declared.reason.KnownField.{KnownField}
 use Rattle.sg_safe.specs.Inside.Replays.{fields_from, spots_from}
 use Rattle.sg_safe.specs.Inside.Seen.{bounds_left}
 use Rattle.sg_safe.specs.Reasons.{known_fields, shown_mark}
-
-length_greatest_from : (facts : Facts) (x : ℕ) (most : List ℕ) → length (greatest_from facts x most) ≡ length most
-length_greatest_from facts x [] = refl
-length_greatest_from facts x (m ∷ most) = ap suc (length_greatest_from facts (suc x) most)
-
-pub length_greatest : (d : Described) → length (greatest d) ≡ length d.most
-length_greatest d = length_greatest_from d.facts 0 d.most
 
 -- ---- of any call on any row
 
