@@ -86,13 +86,13 @@ pub none_recounts : (d : Described) (fun : ℕ) (f : Fun) → none (recounts d f
 none_recounts d fun f =
     none_if (is_replayed d.facts fun) (first_in (λ e. then_some (is_counted d.facts e.0 && adds e.1) (Recounts fun e.0)) f.effects) (list_all (λ e. implies (is_counted d.facts e.0) (not (adds e.1))) f.effects)
     (none_in (λ e. then_some (is_counted d.facts e.0 && adds e.1) (Recounts fun e.0)) (λ e. implies (is_counted d.facts e.0) (not (adds e.1)))
-        (λ e. counted_once (is_counted d.facts e.0) (adds e.1) (Recounts fun e.0)) f.effects)
+    (λ e. counted_once (is_counted d.facts e.0) (adds e.1) (Recounts fun e.0)) f.effects)
 
 none_overtaken_at : (d : Described) (waiter n : ℕ) (r : Rule) → none (overtaken_at d waiter n r) ≡ rule_waits d waiter n r
 none_overtaken_at d waiter n r =
     none_if (is_wait r.verdict) (first_from (overtaken_by d waiter n r) 1 d.facts.funs) (all_from (leaves_waiting d waiter (take (n - 1) (rules_at d waiter)) r) 1 d.facts.funs)
     (none_from (overtaken_by d waiter n r) (leaves_waiting d waiter (take (n - 1) (rules_at d waiter)) r)
-        (λ fun f. none_unless (leaves_waiting d waiter (take (n - 1) (rules_at d waiter)) r fun f) (Overtaken waiter n fun)) 1 d.facts.funs)
+    (λ fun f. none_unless (leaves_waiting d waiter (take (n - 1) (rules_at d waiter)) r fun f) (Overtaken waiter n fun)) 1 d.facts.funs)
 
 pub none_overtaken : (d : Described) (waiter : ℕ) (f : Fun) → none (overtaken d waiter f) ≡ waits_well d waiter f
 none_overtaken d waiter f = none_from (overtaken_at d waiter) (rule_waits d waiter) (none_overtaken_at d waiter) 1 (rules_at d waiter)
@@ -104,8 +104,8 @@ stops_none d fun s n [] = refl
 stops_none d fun s n (r ∷ rules) =
     none_or (then_some (may_stop (known_at d fun s) r) (ByRule n)) (first_from (λ m q. then_some (may_stop (known_at d fun s) q) (ByRule m)) (suc n) rules)
     ∙ both (none (then_some (may_stop (known_at d fun s) r) (ByRule n))) (not (may_stop (known_at d fun s) r))
-        (none (first_from (λ m q. then_some (may_stop (known_at d fun s) q) (ByRule m)) (suc n) rules)) (list_all (λ q. not (may_stop (known_at d fun s) q)) rules)
-        (none_where (may_stop (known_at d fun s) r) (ByRule n)) (stops_none d fun s (suc n) rules)
+    (none (first_from (λ m q. then_some (may_stop (known_at d fun s) q) (ByRule m)) (suc n) rules)) (list_all (λ q. not (may_stop (known_at d fun s) q)) rules)
+    (none_where (may_stop (known_at d fun s) r) (ByRule n)) (stops_none d fun s (suc n) rules)
 
 -- of three
 none_three : {A : Type 0} (o p q : Option A) (a b c : Bool) → none o ≡ a → none p ≡ b → none q ≡ c → none (option_or o (option_or p q)) ≡ (a && b && c)
@@ -122,15 +122,15 @@ none_obstacle : (d : Described) (fun : ℕ) (s : Spot) → none (obstacle_at d f
 none_obstacle d fun s =
     none_lost (is_lost d (next_spot d.facts fun s)) (option_or (no_client d fun s) (option_or (stopping_rule d fun s) (past_most d fun s)))
     (list_all (caller_fits d (next_spot d.facts fun s).state) (fun_at d.facts.funs fun).effects && list_all (λ r. not (may_stop (known_at d fun s) r)) (rules_at d fun)
-        && list_all (effect_fits d fun s) (fun_at d.facts.funs fun).effects)
+    && list_all (effect_fits d fun s) (fun_at d.facts.funs fun).effects)
     (none_three (no_client d fun s) (stopping_rule d fun s) (past_most d fun s)
-        (list_all (caller_fits d (next_spot d.facts fun s).state) (fun_at d.facts.funs fun).effects) (list_all (λ r. not (may_stop (known_at d fun s) r)) (rules_at d fun))
-        (list_all (effect_fits d fun s) (fun_at d.facts.funs fun).effects)
-        (none_in (λ e. then_some (not (caller_fits d (next_spot d.facts fun s).state e)) (NoClient e.0)) (caller_fits d (next_spot d.facts fun s).state)
-            (λ e. none_unless (caller_fits d (next_spot d.facts fun s).state e) (NoClient e.0)) (fun_at d.facts.funs fun).effects)
-        (stops_none d fun s 1 (rules_at d fun))
-        (none_in (λ e. then_some (not (effect_fits d fun s e)) (PastMost e.0)) (effect_fits d fun s)
-            (λ e. none_unless (effect_fits d fun s e) (PastMost e.0)) (fun_at d.facts.funs fun).effects))
+    (list_all (caller_fits d (next_spot d.facts fun s).state) (fun_at d.facts.funs fun).effects) (list_all (λ r. not (may_stop (known_at d fun s) r)) (rules_at d fun))
+    (list_all (effect_fits d fun s) (fun_at d.facts.funs fun).effects)
+    (none_in (λ e. then_some (not (caller_fits d (next_spot d.facts fun s).state e)) (NoClient e.0)) (caller_fits d (next_spot d.facts fun s).state)
+    (λ e. none_unless (caller_fits d (next_spot d.facts fun s).state e) (NoClient e.0)) (fun_at d.facts.funs fun).effects)
+    (stops_none d fun s 1 (rules_at d fun))
+    (none_in (λ e. then_some (not (effect_fits d fun s e)) (PastMost e.0)) (effect_fits d fun s)
+    (λ e. none_unless (effect_fits d fun s e) (PastMost e.0)) (fun_at d.facts.funs fun).effects))
 
 none_fails : (d : Described) (fun : ℕ) (s : Spot) → none (fails_at d fun s) ≡ replays_well d fun s
 none_fails d fun s = none_map (failing_at d fun s) (obstacle_at d fun s) ∙ none_obstacle d fun s
@@ -237,18 +237,18 @@ recounts_bare d r is =
     let fails = fails_at_some (first_from (recounts d) 1 d.facts.funs) (all_from (replays_slowly d) 1 d.facts.funs) r (recounts_none d) is in
     each_from (IsBare d) (recounts d)
     (λ fun f q here. each_in (IsBare d) (λ e. then_some (is_counted d.facts e.0 && adds e.1) (Recounts fun e.0))
-        (λ e o there. some_where (IsBare d) (is_counted d.facts e.0 && adds e.1) (Recounts fun e.0) o there (record { same = refl; told = tt; refutes = fails })) f.effects q
-        (some_if (is_replayed d.facts fun) (first_in (λ e. then_some (is_counted d.facts e.0 && adds e.1) (Recounts fun e.0)) f.effects) q here)) 1 d.facts.funs r is
+    (λ e o there. some_where (IsBare d) (is_counted d.facts e.0 && adds e.1) (Recounts fun e.0) o there (record { same = refl; told = tt; refutes = fails })) f.effects q
+    (some_if (is_replayed d.facts fun) (first_in (λ e. then_some (is_counted d.facts e.0 && adds e.1) (Recounts fun e.0)) f.effects) q here)) 1 d.facts.funs r is
 
 pub waits_bare : (d : Described) (r : Unsafe) → waits_in d ≡ Some r → IsBare d r
 waits_bare d r is =
     let fails = fails_at_some (waits_in d) (all_from (waits_well d) 1 d.facts.funs) r (waits_none d) is in
     each_from (IsBare d) (overtaken d)
     (λ waiter f q here. each_from (IsBare d) (overtaken_at d waiter)
-        (λ n rule o there. each_from (IsBare d) (overtaken_by d waiter n rule)
-            (λ fun g p at. some_where (IsBare d) (not (leaves_waiting d waiter (take (n - 1) (rules_at d waiter)) rule fun g)) (Overtaken waiter n fun) p at
-                (record { same = refl; told = tt; refutes = fails })) 1 d.facts.funs o
-            (some_if (is_wait rule.verdict) (first_from (overtaken_by d waiter n rule) 1 d.facts.funs) o there)) 1 (rules_at d waiter) q here) 1 d.facts.funs r is
+    (λ n rule o there. each_from (IsBare d) (overtaken_by d waiter n rule)
+    (λ fun g p at. some_where (IsBare d) (not (leaves_waiting d waiter (take (n - 1) (rules_at d waiter)) rule fun g)) (Overtaken waiter n fun) p at
+    (record { same = refl; told = tt; refutes = fails })) 1 d.facts.funs o
+    (some_if (is_wait rule.verdict) (first_from (overtaken_by d waiter n rule) 1 d.facts.funs) o there)) 1 (rules_at d waiter) q here) 1 d.facts.funs r is
 
 -- ---- stage by stage
 
