@@ -1,3 +1,5 @@
 -- What private clauses and proofs speak of.
 pub mod Replays
+pub mod Routes
 pub mod Seen
+pub mod Stages

@@ -1,7 +1,8 @@
 //! Whether a described service can be recovered, and if not, why.
 //!
-//! - `check`: the first reason that there is (`unsafe_at`)
-//! - `reason`: a reason (`Unsafe`), and what is known where a walk has come to (`KnownSpot`, `KnownField`)
+//! - `check`: whether it can, or the first reason why it can't (`safe`); whether it is a description at all tells `is_plain`
+//! - `reason`: a reason (`Unsafe`, `SafeError`), a replayed call that may fail (`FailingCall`, `Obstacle`), and what is known where
+//!   a walk has come to before it (`KnownSpot`, `KnownField`)
 //! - `counting`: fields that count
 //! - `waiting`: who waits and may be let pass
 //! - `replaying`: replayed calls that may fail; `spots`: where walks come to
@@ -14,5 +15,6 @@ mod replaying;
 mod spots;
 mod waiting;
 
-pub use check::unsafe_at;
-pub use reason::{KnownField, KnownSpot, Unsafe};
+pub use check::safe;
+pub use reason::{FailingCall, KnownField, KnownSpot, Obstacle, SafeError, Unsafe};
+pub use sg_known::is_plain;

@@ -1,27 +1,26 @@
 // Why a replayed call may fail.
-ghost use Rattle.std.specs.Prelude.{◌≡◌, ◌+◌, ◌<◌, ◌≤◌, ◌^◌, ◌++◌, true, nat_le, nat_lt, IfOk, OnOk, length, map};
-ghost use Rattle.std.specs.Bool.{then_some};
+ghost use Rattle.std.specs.Prelude.{◌≡◌, ◌+◌, ◌<◌, ◌≤◌, ◌^◌, ◌++◌, true, All, nat_le, nat_lt, IfOk, OnOk, length, map};
 ghost use Rattle.std.specs.List.{list_all};
-ghost use Rattle.std.specs.Option.{option_or};
+ghost use Rattle.std.specs.Option.{option_map};
 ghost use Rattle.sg_facts.specs.Facts.{fun_of_shape};
 ghost use Rattle.sg_described.specs.Described.{described_of, rule_of};
-ghost use Rattle.sg_described.specs.Known.{may_stop};
 ghost use Rattle.sg_described.specs.Safe.{IsPlain};
 ghost use Rattle.sg_described.specs.Walking.{bounds_at, caller_fits, known_at, left_most};
 ghost use Rattle.sg_known.specs.Seen.{known_in, pairs_of};
-ghost use Rattle.sg_safe.specs.Inside.Seen.{HasFewFields, shown};
-ghost use Rattle.sg_safe.specs.Inside.Replays.{clients_at, fields_from, past_at, spots_from};
 ghost use Rattle.sg_known.specs.Surveys.{IsSurvey, subject_of};
-ghost use Rattle.sg_safe.specs.Reasons.{fails_at, fails_by, fails_first, fails_on, first_from, first_in, known_spot, overflows, refusable};
+ghost use Rattle.sg_safe.specs.Inside.Replays.{IsLater, clients_at, fields_from, past_at, spots_from, stops_at};
+ghost use Rattle.sg_safe.specs.Inside.Routes.{IsReached, most_before, place_in};
+ghost use Rattle.sg_safe.specs.Inside.Seen.{HasFewFields, pairs_in, shown};
+ghost use Rattle.sg_safe.specs.Reasons.{but_walk, failing, fails_at, fails_by, fails_first, fails_on, first_from, first_in, known_spot, obstacle_at};
 ghost use Rattle.sg_walk.specs.Marks.{known_of};
 
-use crate::reason::{KnownField, KnownSpot, Unsafe};
-use crate::spots::{blank_spot, loses, spot_after, steps_from};
+use crate::reason::{FailingCall, KnownField, KnownSpot, Obstacle, Unsafe};
+use crate::spots::{Reached, blank_spot, loses, spot_after, steps_from};
 use sg_described::{Bounds, Description, RuleShape};
 use sg_facts::{Effect, FunShape, LAST_CLIENT, ListOf, NoMemory};
 use sg_known::{
     ANY, ArgsKnown, Seen, Survey, ZERO, bounds_up_to, field_bounds, greatest_word, is_some_in,
-    state_left, stops,
+    stops,
 };
 use sg_walk::{FieldState, Spot};
 use std::alloc::Global;
@@ -138,7 +137,7 @@ fn known_of_spot(
 // ---- what may fail
 
 // The first field that a function sets to its caller and that may hold no client, in the state that it leaves.
-fn first_unheld(survey: &Survey<'_>, state: u8, effects: &[(u8, Effect)]) -> Option<u8>
+fn first_unheld(survey: &Survey<'_>, state: u8, effects: &[(u8, Effect)]) -> Option<Obstacle>
     requires survey { IsSurvey survey.now }
     requires within { list_all (λ e. nat_lt e.0 (length (subject_of survey.now).facts.fields)) (pairs_of effects.now) ≡ true }
     ensures { result ≡ clients_at (subject_of survey.now) state (pairs_of effects.now) }
@@ -149,7 +148,7 @@ fn first_unheld(survey: &Survey<'_>, state: u8, effects: &[(u8, Effect)]) -> Opt
             if holds_client(survey, state, *field, *effect) {
                 first_unheld(survey, state, rest)
             } else {
-                Some(*field)
+                Some(Obstacle::NoClient { field: *field })
             }
         }
     }
@@ -168,16 +167,16 @@ fn holds_client(survey: &Survey<'_>, state: u8, field: u8, effect: Effect) -> bo
         && bounds_up_to(survey.greatest.as_slice(), field).most <= u64::from(LAST_CLIENT)
 }
 
-// The number of the first rule that may refuse or put off, counted from one on.
-fn first_stop(seen: &Seen<'_>, number: usize, rules: &[RuleShape]) -> Option<usize>
+// The first rule that may refuse or put off; they are numbered from one on.
+fn first_stop(seen: &Seen<'_>, number: usize, rules: &[RuleShape]) -> Option<Obstacle>
     requires { number + length rules.now < 2 ^ 64 }
-    ensures { result ≡ first_from (λ n r. then_some (may_stop (known_in seen.now) r) n) number (map rule_of rules.now) }
+    ensures { result ≡ stops_at (known_in seen.now) number (map rule_of rules.now) }
 {
     match rules {
         [] => None,
         [first, rest @ ..] => {
             if stops(seen, first) {
-                Some(number)
+                Some(Obstacle::ByRule { rule: number })
             } else {
                 first_stop(seen, number + 1, rest)
             }
@@ -212,7 +211,7 @@ fn first_past(
     seen: &Seen<'_>,
     word: u64,
     effects: &[(u8, Effect)],
-) -> Option<u8>
+) -> Option<Obstacle>
     requires { IsSurvey survey.now }
     ensures { result ≡ past_at (subject_of survey.now) (known_in seen.now) word (pairs_of effects.now) }
 {
@@ -225,76 +224,63 @@ fn first_past(
             if fits(*effect, old, own, word, most) {
                 first_past(survey, seen, word, rest)
             } else {
-                Some(*field)
+                Some(Obstacle::PastMost { field: *field })
             }
         }
     }
 }
 
-// ---- where it may fail
-
-// Why a rule, or a field's greatest number, may stand in the way of a replayed call at a spot.
-fn obstacle_at(
-    alloc: Global,
-    survey: &Survey<'_>,
-    fun: u8,
-    spot: Spot,
-) -> Result<Option<Unsafe>, NoMemory>
+// What may make the replayed call of a function fail at a spot, by what is known there.
+fn obstacle(survey: &Survey<'_>, fun: u8, spot: Spot, seen: &Seen<'_>) -> Option<Obstacle>
     requires survey { IsSurvey survey.now }
+    requires plain { IsPlain (subject_of survey.now) }
     requires fields { HasFewFields (subject_of survey.now) }
-    ensures { let d = subject_of survey.now in let s = shown d spot in
-        IfOk result (λ found. found ≡ option_or (refusable d fun s) (overflows d fun s)) }
+    requires known { known_in seen.now ≡ known_at (subject_of survey.now) fun (shown (subject_of survey.now) spot) }
+    ensures { let d = subject_of survey.now in result ≡ obstacle_at d fun (shown d spot) }
 {
     let description = survey.description;
-    let seen = seen_at(alloc, survey, fun, spot)?;
+    let next = spot_after(description, fun, spot);
+    if loses(description, next) {
+        return None;
+    }
+    let effects = description.shape.fun(fun).effects;
     let rules = description.rules(fun);
-    if let Some(rule) = first_stop(&seen, 1, rules) {
-        let spot = known_of_spot(alloc, description, fun, spot, &seen)?;
-        return Ok(Some(Unsafe::Refusable { fun, rule, spot }));
-    }
-    let word = greatest_word(&seen, rules);
-    match first_past(survey, &seen, word, description.shape.fun(fun).effects) {
-        Some(field) => {
-            let spot = known_of_spot(alloc, description, fun, spot, &seen)?;
-            Ok(Some(Unsafe::Overflows { fun, field, spot }))
-        }
-        None => Ok(None),
-    }
+    let past = first_past(survey, seen, greatest_word(seen, rules), effects);
+    first_unheld(survey, next.state, effects).or(first_stop(seen, 1, rules).or(past))
 }
 
-// Why a replayed call may fail at a spot.
+// ---- where it may fail
+
+// Whether, and why, the replayed call of a function may fail at a spot.
 fn failure_at(
     alloc: Global,
     survey: &Survey<'_>,
     fun: u8,
     spot: Spot,
-) -> Result<Option<Unsafe>, NoMemory>
+) -> Result<Option<FailingCall>, NoMemory>
     requires survey { IsSurvey survey.now }
     requires plain { IsPlain (subject_of survey.now) }
     requires fields { HasFewFields (subject_of survey.now) }
     ensures { let d = subject_of survey.now in IfOk result (λ found. found ≡ fails_at d fun (shown d spot)) }
 {
-    let shape = &survey.description.shape;
-    if loses(
-        survey.description,
-        spot_after(survey.description, fun, spot),
-    ) {
-        return Ok(None);
-    }
-    let state = state_left(shape, fun, spot.state);
-    match first_unheld(survey, state, shape.fun(fun).effects) {
-        Some(field) => Ok(Some(Unsafe::NoClient { fun, field })),
-        None => obstacle_at(alloc, survey, fun, spot),
+    let seen = seen_at(alloc, survey, fun, spot)?;
+    match obstacle(survey, fun, spot, &seen) {
+        None => Ok(None),
+        Some(obstacle) => Ok(Some(FailingCall {
+            fun,
+            spot: known_of_spot(alloc, survey.description, fun, spot, &seen)?,
+            obstacle,
+        })),
     }
 }
 
-// Why a walk may fail that begins with a function.
+// Whether, and why, the first call may fail of a walk that begins with a function.
 fn begin_failure(
     alloc: Global,
     survey: &Survey<'_>,
     number: u8,
     fun: &FunShape,
-) -> Result<Option<Unsafe>, NoMemory>
+) -> Result<Option<FailingCall>, NoMemory>
     requires survey { IsSurvey survey.now }
     requires plain { IsPlain (subject_of survey.now) }
     requires fields { HasFewFields (subject_of survey.now) }
@@ -311,13 +297,13 @@ fn begin_failure(
     )
 }
 
-/// Why a walk may fail that begins with one of some functions, which are numbered from one on.
+/// The first call of a walk that may fail, where it begins with one of some functions, which are numbered from one on.
 pub(crate) fn first_failure(
     alloc: Global,
     survey: &Survey<'_>,
     number: u8,
     funs: &[FunShape],
-) -> Result<Option<Unsafe>, NoMemory>
+) -> Result<Option<FailingCall>, NoMemory>
     requires survey { IsSurvey survey.now }
     requires plain { IsPlain (subject_of survey.now) }
     requires fields { HasFewFields (subject_of survey.now) }
@@ -333,13 +319,13 @@ pub(crate) fn first_failure(
     }
 }
 
-// Why a walk may fail that goes on from a spot by a pair.
+// Whether, and why, the next call may fail of a walk that goes on from a spot by a pair.
 fn step_failure(
     alloc: Global,
     survey: &Survey<'_>,
     spot: Spot,
     pair: (u8, u8),
-) -> Result<Option<Unsafe>, NoMemory>
+) -> Result<Option<FailingCall>, NoMemory>
     requires survey { IsSurvey survey.now }
     requires plain { IsPlain (subject_of survey.now) }
     requires fields { HasFewFields (subject_of survey.now) }
@@ -351,18 +337,18 @@ fn step_failure(
     failure_at(alloc, survey, pair.1, spot)
 }
 
-// Why a walk may fail that goes on from a spot by one of some pairs.
+// The first next call that may fail, of a walk that goes on from a spot by one of some pairs.
 fn steps_failure(
     alloc: Global,
     survey: &Survey<'_>,
     spot: Spot,
     steps: &[(u8, u8)],
-) -> Result<Option<Unsafe>, NoMemory>
+) -> Result<Option<FailingCall>, NoMemory>
     requires survey { IsSurvey survey.now }
     requires plain { IsPlain (subject_of survey.now) }
     requires fields { HasFewFields (subject_of survey.now) }
     ensures { let d = subject_of survey.now in
-        IfOk result (λ found. found ≡ first_in (fails_by d (shown d spot)) (map (λ p. (p.0, p.1)) steps.now)) }
+        IfOk result (λ found. found ≡ first_in (fails_by d (shown d spot)) (pairs_in steps.now)) }
 {
     match steps {
         [] => Ok(None),
@@ -373,24 +359,27 @@ fn steps_failure(
     }
 }
 
-/// Why a walk may fail that goes on from some spots.
+/// The first next call that may fail, with its walk, where walks go on from where some have come to.
 pub(crate) fn next_failure(
     alloc: Global,
     survey: &Survey<'_>,
-    spots: &[Spot],
+    reached: &[Reached],
 ) -> Result<Option<Unsafe>, NoMemory>
     requires survey { IsSurvey survey.now }
     requires plain { IsPlain (subject_of survey.now) }
     requires fields { HasFewFields (subject_of survey.now) }
-    ensures { let d = subject_of survey.now in
-        IfOk result (λ found. found ≡ first_in (fails_on d) (map (shown d) spots.now)) }
+    requires reached { All (IsReached (subject_of survey.now) most_before) reached.now }
+    ensures { let d = subject_of survey.now in IfOk result (IsLater d (first_in (fails_on d) (map (place_in d) reached.now))) }
 {
-    match spots {
+    match reached {
         [] => Ok(None),
         [first, rest @ ..] => {
             let steps = survey.description.shape.steps;
-            match steps_failure(alloc, survey, *first, steps)? {
-                Some(found) => Ok(Some(found)),
+            match steps_failure(alloc, survey, first.spot, steps)? {
+                Some(call) => Ok(Some(Unsafe::Fails {
+                    walk: first.walk,
+                    call,
+                })),
                 None => next_failure(alloc, survey, rest),
             }
         }

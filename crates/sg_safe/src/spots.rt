@@ -1,24 +1,33 @@
 // Where walks come to.
-ghost use Rattle.std.specs.Prelude.{◌≡◌, ◌+◌, ◌<◌, ◌≤◌, ◌^◌, ◌==◌, ◌&&◌, ℕ, IfOk, OnOk, filter, length, map, not};
+ghost use Rattle.std.specs.Prelude.{◌≡◌, ◌+◌, ◌-◌, ◌<◌, ◌≤◌, ◌^◌, ◌==◌, ◌&&◌, ◌++◌, ◌∷◌, [], ℕ, All, IfOk, OnOk, drop, length, map, not};
 ghost use Rattle.std.specs.List.{flat_map, list_all, list_any};
 ghost use Rattle.sg_facts.specs.Facts.{fun_at, fun_of_shape};
-ghost use Rattle.sg_facts.specs.Inside.Walking.{next_spot};
+ghost use Rattle.sg_facts.specs.Inside.Walking.{first_spot, next_spot};
 ghost use Rattle.sg_facts.specs.Limits.{most_fields};
+ghost use Rattle.sg_facts.specs.Walks.{most_calls};
 ghost use Rattle.sg_described.specs.Described.{described_of};
 ghost use Rattle.sg_described.specs.NeverZero.{all_from};
-ghost use Rattle.sg_described.specs.Walking.{add_spot, add_spots, begins, blank, brings_back, is_lost, is_step, is_stuck, is_unknown, nexts, same_mark, same_marks, same_spot, spots_of, spots_within};
+ghost use Rattle.sg_described.specs.Walking.{add_spots, begins, blank, brings_back, is_lost, is_step, is_stuck, is_unknown, nexts, same_mark, same_marks, same_spot, spots_of, spots_within};
 ghost use Rattle.sg_known.specs.Seen.{pairs_of};
-ghost use Rattle.sg_safe.specs.Inside.Seen.{HasFewFields, shown, spot_in};
+ghost use Rattle.sg_safe.specs.Inside.Seen.{HasFewFields, pairs_in, shown, spot_in};
+ghost use Rattle.sg_safe.specs.Inside.Routes.{IsReached, add_unlost, are_steps, most_before, nexts_by, place_in};
 ghost use Rattle.sg_walk.specs.Marks.{known_of};
 
 use sg_described::Description;
-use sg_facts::{Effect, FunShape, ListOf, MOST_FIELDS, NoMemory};
+use sg_facts::{Effect, FunShape, ListOf, MOST_FIELDS, NoMemory, Walk};
 use sg_known::state_left;
 use sg_walk::{FieldState, Spot, marked};
 use std::alloc::Global;
 
-/// Spots, in the order in which they were found, each once.
-pub(crate) type SpotList = ListOf<Spot>;
+/// Where a walk has come to, and the walk.
+#[derive(Clone, Copy, Debug)]
+pub(crate) struct Reached {
+    pub spot: Spot,
+    pub walk: Walk,
+}
+
+/// Where walks come to, in the order in which it was found, each spot once.
+pub(crate) type ReachedList = ListOf<Reached>;
 
 // The number of fields.
 fn count(description: &Description) -> usize
@@ -79,7 +88,7 @@ fn some_sets_back(effects: &[(u8, Effect)], field: u8) -> bool
 
 // Whether no recover step sets a field of which nothing was known.
 fn stays_lost(description: &Description, field: u8, steps: &[(u8, u8)]) -> bool
-    ensures { result ≡ list_all (λ s. not (list_any (λ e. (e.0 == field) && brings_back e.1) (fun_at (described_of description.now).facts.funs s.1).effects)) (map (λ p. (p.0, p.1)) steps.now) }
+    ensures { result ≡ list_all (λ s. not (list_any (λ e. (e.0 == field) && brings_back e.1) (fun_at (described_of description.now).facts.funs s.1).effects)) (pairs_in steps.now) }
 {
     match steps {
         [] => true,
@@ -154,49 +163,89 @@ fn are_same(count: usize, one: Spot, other: Spot) -> bool
 }
 
 // Whether a spot is listed.
-fn has_spot(count: usize, spots: &[Spot], spot: Spot) -> bool
-    requires { count ≤ most_fields }
-    ensures { result ≡ list_any (same_spot (spot_in count spot)) (map (spot_in count) spots.now) }
+fn has_spot(description: &Description, found: &[Reached], spot: Spot) -> bool
+    requires { HasFewFields (described_of description.now) }
+    ensures { let d = described_of description.now in result ≡ list_any (same_spot (shown d spot)) (map (place_in d) found.now) }
 {
-    match spots {
+    match found {
         [] => false,
-        [first, rest @ ..] => are_same(count, spot, *first) || has_spot(count, rest, spot),
+        [first, rest @ ..] => {
+            are_same(count(description), spot, first.spot) || has_spot(description, rest, spot)
+        }
     }
 }
 
-// Adds a spot that isn't listed.
-fn add_one(spots: &mut SpotList, count: usize, spot: Spot) -> Result<(), NoMemory>
-    requires { count ≤ most_fields }
-    ensures { OnOk result (map (spot_in count) spots.new ≡ add_spot (map (spot_in count) spots.old) (spot_in count spot)) }
+// Adds a spot that isn't listed, unless a field is lost for good there.
+fn add_one(
+    found: &mut ReachedList,
+    description: &Description,
+    reached: Reached,
+) -> Result<(), NoMemory>
+    requires { HasFewFields (described_of description.now) }
+    ensures spots { let d = described_of description.now in let all = map (place_in d) in
+        OnOk result (all found.new ≡ add_unlost d (all found.old) (place_in d reached)) }
+    ensures reached { (calls : ℕ) → IsReached (described_of description.now) calls reached
+        → OnOk result (All (IsReached (described_of description.now) calls) found.old → All (IsReached (described_of description.now) calls) found.new) }
 {
-    if has_spot(count, spots.as_slice(), spot) {
+    if loses(description, reached.spot) || has_spot(description, found.as_slice(), reached.spot) {
         return Ok(());
     }
-    spots.push(spot)
+    found.push(reached)
 }
 
 // ---- where walks lead to
 
-// Adds where the first calls of walks lead to, of functions that are numbered from one on.
+// Where a walk of one call leads to.
+fn begun(description: &Description, fun: u8) -> Result<Reached, NoMemory>
+    requires { HasFewFields (described_of description.now) }
+    ensures spot { let d = described_of description.now in IfOk result (λ r. place_in d r ≡ first_spot d.facts fun) }
+    ensures walk { IfOk result (λ r. r.walk ≡ fun ∷ []) }
+{
+    let mut walk = Walk::new();
+    walk.push(fun)?;
+    Ok(Reached {
+        spot: spot_after(description, fun, blank_spot(description, fun)),
+        walk,
+    })
+}
+
+// Where a walk leads to with one more call.
+fn continued(description: &Description, from: &Reached, fun: u8) -> Result<Reached, NoMemory>
+    requires fields { HasFewFields (described_of description.now) }
+    requires room { length from.now.walk < most_calls }
+    ensures spot { let d = described_of description.now in IfOk result (λ r. place_in d r ≡ next_spot d.facts fun (place_in d from.now)) }
+    ensures walk { IfOk result (λ r. r.walk ≡ from.now.walk ++ fun ∷ []) }
+{
+    let mut walk = from.walk;
+    walk.push(fun)?;
+    Ok(Reached {
+        spot: spot_after(description, fun, from.spot),
+        walk,
+    })
+}
+
+// Adds where walks of one call lead to, by functions that are numbered from one on: those of the description from there on.
 fn add_begins(
-    spots: &mut SpotList,
+    found: &mut ReachedList,
     description: &Description,
     number: u8,
     funs: &[FunShape],
 ) -> Result<(), NoMemory>
     requires fields { HasFewFields (described_of description.now) }
     requires numbers { number + length funs.now < 2 ^ 8 }
-    ensures { let d = described_of description.now in let all = map (shown d) in
-        OnOk result (all spots.new ≡ add_spots (all spots.old) (begins d number (map fun_of_shape funs.now))) }
+    requires some { 1 ≤ number }
+    requires funs { drop (number - 1) (described_of description.now).facts.funs ≡ map fun_of_shape funs.now }
+    ensures spots { let d = described_of description.now in let all = map (place_in d) in
+        OnOk result (all found.new ≡ add_spots (all found.old) (begins d number (map fun_of_shape funs.now))) }
+    ensures reached { OnOk result (All (IsReached (described_of description.now) 1) found.old → All (IsReached (described_of description.now) 1) found.new) }
 {
     match funs {
         [] => Ok(()),
         [first, rest @ ..] => {
-            let spot = spot_after(description, number, blank_spot(description, number));
-            if first.is_creation() && !loses(description, spot) {
-                add_one(spots, count(description), spot)?;
+            if first.is_creation() {
+                add_one(found, description, begun(description, number)?)?;
             }
-            add_begins(spots, description, number + 1, rest)
+            add_begins(found, description, number + 1, rest)
         }
     }
 }
@@ -208,76 +257,88 @@ pub(crate) fn steps_from(description: &Description, spot: Spot, pair: (u8, u8)) 
     pair.0 == spot.state && !description.shape.fun(pair.1).is_terminal()
 }
 
-// Adds where the next calls lead to from a spot.
+// Adds where a walk leads to with one more call, by recover steps of the description.
 fn add_steps(
-    spots: &mut SpotList,
+    found: &mut ReachedList,
     description: &Description,
-    from: Spot,
+    from: &Reached,
     steps: &[(u8, u8)],
 ) -> Result<(), NoMemory>
-    requires { HasFewFields (described_of description.now) }
-    ensures { let d = described_of description.now in let s = shown d from in let all = map (shown d) in
-        OnOk result (all spots.new ≡ add_spots (all spots.old)
-        (filter (λ t. not (is_lost d t)) (map (λ p. next_spot d.facts p.1 s) (filter (is_step d s) (map (λ p. (p.0, p.1)) steps.now))))) }
+    requires fields { HasFewFields (described_of description.now) }
+    requires room { length from.now.walk < most_calls }
+    requires steps { are_steps (described_of description.now) (pairs_in steps.now) ≡ true }
+    ensures spots { let d = described_of description.now in let all = map (place_in d) in
+        OnOk result (all found.new ≡ add_spots (all found.old) (nexts_by d (place_in d from.now) (pairs_in steps.now))) }
+    ensures reached { (calls : ℕ) → IsReached (described_of description.now) calls from.now
+        → OnOk result (All (IsReached (described_of description.now) (calls + 1)) found.old → All (IsReached (described_of description.now) (calls + 1)) found.new) }
 {
     match steps {
         [] => Ok(()),
         [first, rest @ ..] => {
-            if steps_from(description, from, *first) {
-                let spot = spot_after(description, first.1, from);
-                if !loses(description, spot) {
-                    add_one(spots, count(description), spot)?;
-                }
+            if steps_from(description, from.spot, *first) {
+                add_one(found, description, continued(description, from, first.1)?)?;
             }
-            add_steps(spots, description, from, rest)
+            add_steps(found, description, from, rest)
         }
     }
 }
 
-// Adds where the next calls lead to from some spots.
-fn add_nexts(spots: &mut SpotList, description: &Description, from: &[Spot]) -> Result<(), NoMemory>
-    requires { HasFewFields (described_of description.now) }
-    ensures { let d = described_of description.now in let all = map (shown d) in
-        OnOk result (all spots.new ≡ add_spots (all spots.old) (flat_map (nexts d) (all from.now))) }
+// Adds where walks lead to with one more call.
+fn add_nexts(
+    found: &mut ReachedList,
+    description: &Description,
+    from: &[Reached],
+) -> Result<(), NoMemory>
+    requires fields { HasFewFields (described_of description.now) }
+    requires room { All (λ r. length r.walk < most_calls) from.now }
+    ensures spots { let d = described_of description.now in let all = map (place_in d) in
+        OnOk result (all found.new ≡ add_spots (all found.old) (flat_map (nexts d) (all from.now))) }
+    ensures reached { (calls : ℕ) → All (IsReached (described_of description.now) calls) from.now
+        → OnOk result (All (IsReached (described_of description.now) (calls + 1)) found.old → All (IsReached (described_of description.now) (calls + 1)) found.new) }
 {
     match from {
         [] => Ok(()),
         [first, rest @ ..] => {
-            add_steps(spots, description, *first, description.shape.steps)?;
-            add_nexts(spots, description, rest)
+            add_steps(found, description, first, description.shape.steps)?;
+            add_nexts(found, description, rest)
         }
     }
 }
 
-// Where walks lead to of so many more calls.
+// The greatest number of calls after which a walk may still go on.
+const MOST_BEFORE: u8 = 7;
+
+// Where walks lead to that may go on, by where those of at most so many calls do.
 fn further(
     alloc: Global,
     description: &Description,
-    spots: SpotList,
+    found: ReachedList,
     calls: u8,
-) -> Result<SpotList, NoMemory>
-    requires { HasFewFields (described_of description.now) }
-    ensures { let d = described_of description.now in let all = map (shown d) in
-        IfOk result (λ more. (n : ℕ) → all spots ≡ spots_within d n → all more ≡ spots_within d (n + calls)) }
+) -> Result<ReachedList, NoMemory>
+    requires fields { HasFewFields (described_of description.now) }
+    requires some { 1 ≤ calls }
+    requires most { calls ≤ most_before }
+    requires spots { map (place_in (described_of description.now)) found ≡ spots_within (described_of description.now) (calls - 1) }
+    requires reached { All (IsReached (described_of description.now) calls) found }
+    ensures spots { let d = described_of description.now in IfOk result (λ all. map (place_in d) all ≡ spots_of d) }
+    ensures reached { IfOk result (All (IsReached (described_of description.now) most_before)) }
 {
-    if calls == 0 {
-        return Ok(spots);
+    if calls == MOST_BEFORE {
+        return Ok(found);
     }
-    let mut all = SpotList::from_slice(alloc, spots.as_slice())?;
-    add_nexts(&mut all, description, spots.as_slice())?;
-    further(alloc, description, all, calls - 1)
+    let mut all = ReachedList::from_slice(alloc, found.as_slice())?;
+    add_nexts(&mut all, description, found.as_slice())?;
+    further(alloc, description, all, calls + 1)
 }
 
-// A walk goes on at most from where its seventh call led to: its first, and so many more.
-const MOST_MORE: u8 = 6;
-
 /// Where walks lead to that may go on.
-pub(crate) fn all_spots(alloc: Global, description: &Description) -> Result<SpotList, NoMemory>
+pub(crate) fn all_spots(alloc: Global, description: &Description) -> Result<ReachedList, NoMemory>
     requires fields { HasFewFields (described_of description.now) }
     requires numbers { length (described_of description.now).facts.funs < 2 ^ 7 }
-    ensures { let d = described_of description.now in IfOk result (λ all. map (shown d) all ≡ spots_of d) }
+    ensures spots { let d = described_of description.now in IfOk result (λ all. map (place_in d) all ≡ spots_of d) }
+    ensures reached { IfOk result (All (IsReached (described_of description.now) most_before)) }
 {
-    let mut first = SpotList::new(alloc);
+    let mut first = ReachedList::new(alloc);
     add_begins(&mut first, description, 1, description.shape.funs)?;
-    further(alloc, description, first, MOST_MORE)
+    further(alloc, description, first, 1)
 }

@@ -1,19 +1,24 @@
--- What is found of a replayed call.
-use Rattle.std.specs.Prelude.{ℕ, suc, Bool, not, nat_le, List, [], ◌∷◌}
+-- What is found of replayed calls.
+use Rattle.std.specs.Prelude.{ℕ, ◌≡◌, suc, Bool, not, nat_le, List, [], ◌∷◌, None, Some}
 use Rattle.std.specs.Bool.{then_some}
 use Rattle.std.specs.declared.option.Option.{Option}
 use Rattle.sg_facts.specs.declared.shape.Effect.{Effect}
 use Rattle.sg_facts.specs.Walks.{FieldMark}
 use Rattle.sg_walk.specs.declared.spot.FieldState.{FieldState}
 use Rattle.sg_described.specs.declared.bounds.Bounds.{Bounds}
-use Rattle.sg_described.specs.Described.{Described}
-use Rattle.sg_described.specs.Known.{Known, greatest}
+use Rattle.sg_described.specs.Described.{Described, Rule}
+use Rattle.sg_described.specs.Known.{Known, greatest, may_stop}
 use Rattle.sg_described.specs.Meaning.{most_at}
 use Rattle.sg_described.specs.NeverZero.{is_never_zero}
 use Rattle.sg_described.specs.Walking.{bounds_at, caller_fits, left_most}
 use Rattle.sg_known.specs.Seen.{fields_in}
+use Rattle.sg_safe.specs.declared.reason.FailingCall.{FailingCall}
 use Rattle.sg_safe.specs.declared.reason.KnownField.{KnownField}
-use Rattle.sg_safe.specs.Reasons.{first_in}
+use Rattle.sg_safe.specs.declared.reason.Obstacle.{Obstacle}
+use Rattle.sg_safe.specs.declared.reason.Obstacle.TheVariants.{ByRule, NoClient, PastMost}
+use Rattle.sg_safe.specs.declared.reason.Unsafe.{Unsafe}
+use Rattle.sg_safe.specs.declared.reason.Unsafe.TheVariants.{CountsFar, Recounts, Overtaken, Fails}
+use Rattle.sg_safe.specs.Reasons.{LeadsTo, first_from, first_in}
 
 -- what is known of fields in a state by their marks, numbered from a number on
 abbrev pub fields_from : Described → ℕ → ℕ → List FieldMark → List Bounds
@@ -26,9 +31,21 @@ spots_from fields x [] = []
 spots_from fields x (m ∷ marks) = record { mark = m; bounds = fields_in fields x } ∷ spots_from fields (suc x) marks
 
 -- the first field that effects set to the caller and that may hold no client
-abbrev pub clients_at : Described → ℕ → List (ℕ × Effect) → Option ℕ
-clients_at d state es = first_in (λ e. then_some (not (caller_fits d state e)) e.0) es
+abbrev pub clients_at : Described → ℕ → List (ℕ × Effect) → Option Obstacle
+clients_at d state es = first_in (λ e. then_some (not (caller_fits d state e)) (NoClient e.0)) es
+
+-- the first rule that may refuse or put off, numbered from a number on
+abbrev pub stops_at : Known → ℕ → List Rule → Option Obstacle
+stops_at k n rules = first_from (λ m r. then_some (may_stop k r) (ByRule m)) n rules
 
 -- the first field that effects may take past its greatest number
-abbrev pub past_at : Described → Known → ℕ → List (ℕ × Effect) → Option ℕ
-past_at d k word es = first_in (λ e. then_some (not (nat_le (left_most e.1 (k.fields e.0).most (most_at (greatest d) e.0) word) (most_at d.most e.0))) e.0) es
+abbrev pub past_at : Described → Known → ℕ → List (ℕ × Effect) → Option Obstacle
+past_at d k word es = first_in (λ e. then_some (not (nat_le (left_most e.1 (k.fields e.0).most (most_at (greatest d) e.0) word) (most_at d.most e.0))) (PastMost e.0)) es
+
+-- what is found is this call, with a walk that leads to where it may fail; None where there is no such call
+abbrev pub IsLater : Described → Option FailingCall → Option Unsafe → Type 0
+IsLater d call None = call ≡ None
+IsLater d call (Some (Fails walk other)) = (call ≡ Some other) × LeadsTo d walk other
+IsLater d call (Some (CountsFar x)) = ⊥
+IsLater d call (Some (Recounts fun x)) = ⊥
+IsLater d call (Some (Overtaken waiter n by)) = ⊥

@@ -1,5 +1,5 @@
 -- What the code holds, as the definitions see it.
-use Rattle.std.specs.Prelude.{ℕ, ◌≤◌, suc, List, [], ◌∷◌, length}
+use Rattle.std.specs.Prelude.{ℕ, ◌≤◌, suc, List, [], ◌∷◌, length, map}
 use Rattle.sg_facts.specs.declared.shape.Effect.{Effect}
 use Rattle.sg_facts.specs.Limits.{most_fields}
 use Rattle.sg_facts.specs.Walks.{Spot as Place, effect_on}
@@ -8,6 +8,10 @@ use Rattle.sg_walk.specs.Marks.{shown_marks}
 use Rattle.sg_described.specs.declared.bounds.Bounds.{Bounds}
 use Rattle.sg_described.specs.Described.{Described}
 use Rattle.sg_described.specs.Known.{bounds_after}
+
+-- pairs as plain data
+abbrev pub pairs_in : List (ℕ × ℕ) → List (ℕ × ℕ)
+pairs_in pairs = map (λ p. (p.0, p.1)) pairs
 
 -- fields after effects, numbered from a number on
 abbrev pub bounds_left : List (ℕ × Effect) → ℕ → List Bounds → List ℕ → List Bounds

@@ -1,0 +1,4 @@
+pub mod Plainly
+pub mod Reasoning
+pub mod Routing
+pub mod Seeing

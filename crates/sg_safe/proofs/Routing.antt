@@ -1,0 +1,170 @@
+-- Where walks come to is found, each with a walk that leads there.
+use Rattle.std.proofs.Common.{◌≡◌, ℕ, zero, suc, ◌+◌, ◌-◌, ◌<◌, ◌≤◌, Bool, true, false, cond, not, List, [], ◌∷◌, ◌++◌, length, drop, map, filter, None, Some, refl, sym, ◌∙◌, ap, subst, arith, length-append}
+use Rattle.std.specs.Prelude.{◌==◌, ◌&&◌, ◌||◌, All, slice_get, unwrap_or}
+use Rattle.std.specs.List.{flat_map, list_all}
+use Rattle.std.specs.declared.option.Option.{Option}
+use Rattle.std.proofs.lemmas.List.Elements.{All-push, All-weaker}
+use Rattle.sg_facts.specs.Facts.{Fun, fun_at, no_fun}
+use Rattle.sg_facts.specs.Interface.{has_pair}
+use Rattle.sg_facts.specs.Inside.Walking.{first_spot, next_spot}
+use Rattle.sg_facts.specs.Walks.{Spot}
+use Rattle.sg_described.specs.Described.{Described}
+use Rattle.sg_described.specs.Walking.{add_spot, add_spots, begins, is_lost, is_step, nexts, spots_of, spots_within}
+use Rattle.sg_described.proofs.Keeping.Basics.{both_true, or_true, own_test, same_of}
+use Rattle.sg_safe.specs.declared.spots.Reached.{Reached}
+use Rattle.sg_safe.specs.Inside.Routes.{IsReached, add_unlost, are_steps, nexts_by, place_in}
+use Rattle.sg_safe.specs.Reasons.{goes_on, led_by, led_on}
+
+-- ---- walks of one call more
+
+led_more : (d : Described) (s t : Spot) (walk : List ℕ) (fun : ℕ) → led_on d s walk ≡ Some t → goes_on d t fun ≡ true → led_on d s (walk ++ fun ∷ []) ≡ Some (next_spot d.facts fun t)
+led_more d s t [] fun led goes =
+    let same : t ≡ s = sym (cc led) in
+    subst (λ (x : Spot). cond (goes_on d x fun) (Some (next_spot d.facts fun x)) None ≡ Some (next_spot d.facts fun t)) same (ap (λ b. cond b (Some (next_spot d.facts fun t)) None) goes)
+led_more d s t (f ∷ walk) fun led goes = at (goes_on d s f) led (λ is. led_more d (next_spot d.facts f s) t walk fun is goes)
+  where
+    at : (b : Bool) → cond b (led_on d (next_spot d.facts f s) walk) None ≡ Some t
+        → (led_on d (next_spot d.facts f s) walk ≡ Some t → led_on d (next_spot d.facts f s) (walk ++ fun ∷ []) ≡ Some (next_spot d.facts fun t))
+        → cond b (led_on d (next_spot d.facts f s) (walk ++ fun ∷ [])) None ≡ Some (next_spot d.facts fun t)
+    at true led rest = rest led
+    at false led rest = absurd (cc led)
+
+led_by_more : (d : Described) (t : Spot) (walk : List ℕ) (fun : ℕ) → led_by d walk ≡ Some t → goes_on d t fun ≡ true → led_by d (walk ++ fun ∷ []) ≡ Some (next_spot d.facts fun t)
+led_by_more d t [] fun led goes = absurd (cc led)
+led_by_more d t (f ∷ walk) fun led goes = at (fun_at d.facts.funs f).creation led (λ is. led_more d (first_spot d.facts f) t walk fun is goes)
+  where
+    at : (b : Bool) → cond b (led_on d (first_spot d.facts f) walk) None ≡ Some t
+        → (led_on d (first_spot d.facts f) walk ≡ Some t → led_on d (first_spot d.facts f) (walk ++ fun ∷ []) ≡ Some (next_spot d.facts fun t))
+        → cond b (led_on d (first_spot d.facts f) (walk ++ fun ∷ [])) None ≡ Some (next_spot d.facts fun t)
+    at true led rest = rest led
+    at false led rest = absurd (cc led)
+
+-- a recover step goes on
+pub steps_on_by : (d : Described) (s : Spot) (a b : ℕ) → has_pair d.facts.steps a b ≡ true → is_step d s (a, b) ≡ true → goes_on d s b ≡ true
+steps_on_by d s a b listed step =
+    let parts = both_true (a == s.state) (not (fun_at d.facts.funs b).terminal) step in
+    let there = subst (λ n. has_pair d.facts.steps n b ≡ true) (same_of a s.state parts.0) listed in
+    ap (λ v. v && not (fun_at d.facts.funs b).terminal) there ∙ parts.1
+
+pub reached_begun : (d : Described) (r : Reached) (fun : ℕ) → place_in d r ≡ first_spot d.facts fun → r.walk ≡ fun ∷ [] → (fun_at d.facts.funs fun).creation ≡ true → IsReached d 1 r
+reached_begun d r fun place walk creation = record {
+  led = ap (led_by d) walk ∙ ap (λ b. cond b (Some (first_spot d.facts fun)) None) creation ∙ ap Some (sym place);
+  most = let count = ap length walk in omega (arith, count);
+}
+
+pub reached_more : (d : Described) (calls : ℕ) (from r : Reached) (fun : ℕ) → IsReached d calls from → place_in d r ≡ next_spot d.facts fun (place_in d from) → r.walk ≡ from.walk ++ fun ∷ []
+    → goes_on d (place_in d from) fun ≡ true → IsReached d (calls + 1) r
+reached_more d calls from r fun reached place walk goes = record {
+  led = ap (led_by d) walk ∙ led_by_more d (place_in d from) from.walk fun reached.led goes ∙ ap Some (sym place);
+  most = let count = ap length walk ∙ length-append from.walk (fun ∷ []) in let low = reached.most in omega (arith, count, low);
+}
+
+pub reached_weaker : (d : Described) (calls : ℕ) (found : List Reached) → All (IsReached d calls) found → All (IsReached d (calls + 1)) found
+reached_weaker d calls found all = All-weaker (IsReached d calls) (IsReached d (calls + 1)) (λ r reached. record { led = reached.led; most = let low = reached.most in omega (arith, low) }) found all
+
+-- each has room for one call more
+pub reached_room : (d : Described) (calls : ℕ) (found : List Reached) → calls < 8 → All (IsReached d calls) found → All (λ r. length r.walk < 8) found
+reached_room d calls found low all = All-weaker (IsReached d calls) (λ r. length r.walk < 8) (λ r reached. let few = reached.most in omega (arith, few, low)) found all
+
+-- ---- pairs and functions of a description
+
+pub all_listed : (some all : List (ℕ × ℕ)) → ((a b : ℕ) → has_pair some a b ≡ true → has_pair all a b ≡ true) → list_all (λ p. has_pair all p.0 p.1) some ≡ true
+all_listed [] all within = refl
+all_listed (p ∷ some) all within =
+    let own : has_pair (p ∷ some) p.0 p.1 ≡ true = ap (λ b. (b && (p.1 == p.1)) || has_pair some p.0 p.1) (own_test p.0) ∙ ap (λ b. b || has_pair some p.0 p.1) (own_test p.1) in
+    ap (λ b. b && list_all (λ q. has_pair all q.0 q.1) some) (within p.0 p.1 own)
+    ∙ all_listed some all (λ a b is. within a b (ap (λ v. ((p.0 == a) && (p.1 == b)) || v) is ∙ or_true ((p.0 == a) && (p.1 == b))))
+
+pub own_steps : (d : Described) → are_steps d d.facts.steps ≡ true
+own_steps d = all_listed d.facts.steps d.facts.steps (λ a b is. is)
+
+get_dropped : (funs : List Fun) (k : ℕ) (f : Fun) (rest : List Fun) → drop k funs ≡ f ∷ rest → slice_get funs k ≡ Some f
+get_dropped [] zero f rest is = absurd (cc is)
+get_dropped [] (suc k) f rest is = absurd (cc is)
+get_dropped (g ∷ funs) zero f rest is = let same : g ≡ f = cc is in ap Some same
+get_dropped (g ∷ funs) (suc k) f rest is = get_dropped funs k f rest is
+
+rest_dropped : (funs : List Fun) (k : ℕ) (f : Fun) (rest : List Fun) → drop k funs ≡ f ∷ rest → drop (suc k) funs ≡ rest
+rest_dropped [] zero f rest is = absurd (cc is)
+rest_dropped [] (suc k) f rest is = absurd (cc is)
+rest_dropped (g ∷ funs) zero f rest is = cc is
+rest_dropped (g ∷ funs) (suc k) f rest is = rest_dropped funs k f rest is
+
+-- the function of a number is the first of those from there on
+pub fun_first : (funs : List Fun) (n : ℕ) (f : Fun) (rest : List Fun) → 1 ≤ n → drop (n - 1) funs ≡ f ∷ rest → fun_at funs n ≡ f
+fun_first funs zero f rest low is = absurd (omega (arith, low))
+fun_first funs (suc k) f rest low is =
+    let same : suc k - 1 ≡ k = omega arith in
+    let there = get_dropped funs k f rest (subst (λ m. drop m funs ≡ f ∷ rest) same is) in
+    ap (λ o. unwrap_or o no_fun) there
+
+pub funs_rest : (funs : List Fun) (n : ℕ) (f : Fun) (rest : List Fun) → 1 ≤ n → drop (n - 1) funs ≡ f ∷ rest → drop (n + 1 - 1) funs ≡ rest
+funs_rest funs zero f rest low is = absurd (omega (arith, low))
+funs_rest funs (suc k) f rest low is =
+    let same : suc k - 1 ≡ k = omega arith in
+    let next : suc k ≡ suc k + 1 - 1 = omega arith in
+    subst (λ m. drop m funs ≡ rest) next (rest_dropped funs k f rest (subst (λ m. drop m funs ≡ f ∷ rest) same is))
+
+-- ---- spots
+
+pub begin_more : (d : Described) (n : ℕ) (f : Fun) (funs : List Fun) (old mid new : List Spot) (s : Spot) → f.creation ≡ true → s ≡ first_spot d.facts n
+    → mid ≡ add_unlost d old s → new ≡ add_spots mid (begins d (n + 1) funs) → new ≡ add_spots old (begins d n (f ∷ funs))
+begin_more d n f funs old mid new s creation place one rest =
+    let next : n + 1 ≡ suc n = omega arith in
+    let start : mid ≡ add_unlost d old (first_spot d.facts n) = one ∙ ap (add_unlost d old) place in
+    rest ∙ ap (λ m. add_spots mid (begins d m funs)) next ∙ ap (λ l. add_spots l (begins d (suc n) funs)) start
+    ∙ at (is_lost d (first_spot d.facts n)) ∙ ap (λ b. add_spots old (cond (b && not (is_lost d (first_spot d.facts n))) (first_spot d.facts n ∷ begins d (suc n) funs) (begins d (suc n) funs))) (sym creation)
+  where
+    at : (b : Bool) → add_spots (cond b old (add_spot old (first_spot d.facts n))) (begins d (suc n) funs)
+        ≡ add_spots old (cond (not b) (first_spot d.facts n ∷ begins d (suc n) funs) (begins d (suc n) funs))
+    at true = refl
+    at false = refl
+
+pub begin_none : (d : Described) (n : ℕ) (f : Fun) (funs : List Fun) (old new : List Spot) → f.creation ≡ false → new ≡ add_spots old (begins d (n + 1) funs)
+    → new ≡ add_spots old (begins d n (f ∷ funs))
+begin_none d n f funs old new creation rest =
+    let next : n + 1 ≡ suc n = omega arith in
+    rest ∙ ap (λ m. add_spots old (begins d m funs)) next
+    ∙ ap (λ b. add_spots old (cond (b && not (is_lost d (first_spot d.facts n))) (first_spot d.facts n ∷ begins d (suc n) funs) (begins d (suc n) funs))) (sym creation)
+
+pub step_more : (d : Described) (s next : Spot) (p : ℕ × ℕ) (pairs : List (ℕ × ℕ)) (old mid new : List Spot) → is_step d s p ≡ true → next ≡ next_spot d.facts p.1 s
+    → mid ≡ add_unlost d old next → new ≡ add_spots mid (nexts_by d s pairs) → new ≡ add_spots old (nexts_by d s (p ∷ pairs))
+step_more d s next p pairs old mid new step place one rest =
+    let start : mid ≡ add_unlost d old (next_spot d.facts p.1 s) = one ∙ ap (add_unlost d old) place in
+    rest ∙ ap (λ l. add_spots l (nexts_by d s pairs)) start ∙ at (is_lost d (next_spot d.facts p.1 s))
+    ∙ ap (λ b. add_spots old (filter (λ t. not (is_lost d t)) (map (λ q. next_spot d.facts q.1 s) (cond b (p ∷ filter (is_step d s) pairs) (filter (is_step d s) pairs))))) (sym step)
+  where
+    at : (b : Bool) → add_spots (cond b old (add_spot old (next_spot d.facts p.1 s))) (nexts_by d s pairs)
+        ≡ add_spots old (cond (not b) (next_spot d.facts p.1 s ∷ nexts_by d s pairs) (nexts_by d s pairs))
+    at true = refl
+    at false = refl
+
+pub step_none : (d : Described) (s : Spot) (p : ℕ × ℕ) (pairs : List (ℕ × ℕ)) (old new : List Spot) → is_step d s p ≡ false → new ≡ add_spots old (nexts_by d s pairs)
+    → new ≡ add_spots old (nexts_by d s (p ∷ pairs))
+step_none d s p pairs old new step rest =
+    rest ∙ ap (λ b. add_spots old (filter (λ t. not (is_lost d t)) (map (λ q. next_spot d.facts q.1 s) (cond b (p ∷ filter (is_step d s) pairs) (filter (is_step d s) pairs))))) (sym step)
+
+add_both : (old some more : List Spot) → add_spots old (some ++ more) ≡ add_spots (add_spots old some) more
+add_both old [] more = refl
+add_both old (s ∷ some) more = add_both (add_spot old s) some more
+
+pub nexts_more : (d : Described) (s : Spot) (from old mid new : List Spot) → mid ≡ add_spots old (nexts d s) → new ≡ add_spots mid (flat_map (nexts d) from)
+    → new ≡ add_spots old (flat_map (nexts d) (s ∷ from))
+nexts_more d s from old mid new one rest = rest ∙ ap (λ l. add_spots l (flat_map (nexts d) from)) one ∙ sym (add_both old (nexts d s) (flat_map (nexts d) from))
+
+-- after one call more
+pub spots_more : (d : Described) (calls : ℕ) (found all : List Spot) → 1 ≤ calls → found ≡ spots_within d (calls - 1) → all ≡ add_spots found (flat_map (nexts d) found)
+    → all ≡ spots_within d (calls + 1 - 1)
+spots_more d zero found all low is more = absurd (omega (arith, low))
+spots_more d (suc k) found all low is more =
+    let same : suc k - 1 ≡ k = omega arith in
+    let next : suc k ≡ suc k + 1 - 1 = omega arith in
+    more ∙ ap (λ l. add_spots l (flat_map (nexts d) l)) (is ∙ ap (spots_within d) same) ∙ ap (spots_within d) next
+
+pub spots_last : (d : Described) (calls : ℕ) (found : List Spot) → calls ≡ 7 → found ≡ spots_within d (calls - 1) → found ≡ spots_of d
+spots_last d calls found last is = is ∙ ap (λ n. spots_within d (n - 1)) last
+
+-- ---- lists of what was found
+
+pub reached_push : (d : Described) (calls : ℕ) (found : List Reached) (r : Reached) → IsReached d calls r → All (IsReached d calls) found → All (IsReached d calls) (found ++ r ∷ [])
+reached_push d calls found r reached all = All-push (IsReached d calls) found r all reached

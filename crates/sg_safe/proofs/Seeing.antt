@@ -1,0 +1,115 @@
+-- What the code holds is what is known.
+use Rattle.std.proofs.Common.{◌≡◌, ℕ, zero, suc, ◌+◌, ◌<◌, ◌≤◌, Bool, List, [], ◌∷◌, length, map, None, Some, refl, sym, ◌∙◌, ap, arith}
+use Rattle.std.proofs.Math.Path.{fun_ext}
+use Rattle.sg_facts.specs.declared.shape.Effect.{Effect}
+use Rattle.sg_facts.specs.declared.shape.Effect.TheVariants.{SetCaller, SetArg, AddArg, SetRet, AddRet, Clear, SubOne, SubRet}
+use Rattle.std.specs.declared.option.Option.{Option}
+use Rattle.sg_facts.specs.Facts.{fun_at}
+use Rattle.sg_facts.specs.Walks.{FieldMark, Spot as Place, effect_on}
+use Rattle.sg_walk.specs.declared.spot.FieldState.{FieldState}
+use Rattle.sg_walk.specs.declared.spot.FieldState.TheVariants.{Unset, Good, Unknown}
+use Rattle.sg_walk.specs.Marks.{known_of}
+use Rattle.sg_described.specs.declared.bounds.Bounds.{Bounds}
+use Rattle.sg_described.specs.Described.{Described}
+use Rattle.sg_described.specs.Known.{Known, between, bounds_after, greatest}
+use Rattle.sg_described.specs.Meaning.{last_word, most_at}
+use Rattle.sg_described.specs.NeverZero.{is_never_zero}
+use Rattle.sg_described.specs.Waiting.{known_after, known_of_all}
+use Rattle.sg_described.specs.Walking.{arg_known, bounds_at, carrier, field_known, known_at, mark_at}
+use Rattle.sg_known.specs.Seen.{carried_in, fields_in}
+use Rattle.sg_safe.specs.declared.reason.KnownField.{KnownField}
+use Rattle.sg_safe.specs.Inside.Replays.{fields_from, spots_from}
+use Rattle.sg_safe.specs.Inside.Seen.{bounds_left}
+use Rattle.sg_safe.specs.Reasons.{known_fields, shown_mark}
+
+-- ---- of any call on any row
+
+up_to_at : (most : List ℕ) (x : ℕ) → fields_in (map (λ m. between 0 m) most) x ≡ between 0 (most_at most x)
+up_to_at [] x = refl
+up_to_at (m ∷ most) zero = refl
+up_to_at (m ∷ most) (suc x) = up_to_at most x
+
+pub any_known : (d : Described) (count : ℕ) (fields : List Bounds) (most : List ℕ) → count ≡ length d.facts.funs → fields ≡ map (λ m. between 0 m) most → most ≡ greatest d
+    → (let k : Known = record { args = λ a. between 0 last_word; state = between 0 count; fields = fields_in fields } in k) ≡ known_of_all d
+any_known d count fields most funs are greatest_is =
+    ap (λ n. let k : Known = record { args = λ a. between 0 last_word; state = between 0 n; fields = fields_in fields } in k) funs
+    ∙ ap (λ l. let k : Known = record { args = λ a. between 0 last_word; state = between 0 (length d.facts.funs); fields = fields_in l } in k) (are ∙ ap (λ l. map (λ m. between 0 m) l) greatest_is)
+    ∙ ap (λ (f : ℕ → Bounds). let k : Known = record { args = λ a. between 0 last_word; state = between 0 (length d.facts.funs); fields = f } in k) (fun_ext (up_to_at (greatest d)))
+
+-- ---- after effects
+
+nothing_left : (effect : Option Effect) → bounds_after effect 0 (between 0 0) ≡ between 0 0
+nothing_left None = refl
+nothing_left (Some SetCaller) = refl
+nothing_left (Some (SetArg k)) = refl
+nothing_left (Some (AddArg k)) = refl
+nothing_left (Some SetRet) = refl
+nothing_left (Some AddRet) = refl
+nothing_left (Some Clear) = refl
+nothing_left (Some SubOne) = refl
+nothing_left (Some SubRet) = refl
+
+left_from : (effects : List (ℕ × Effect)) (from : ℕ) (fields : List Bounds) (most : List ℕ) → length fields ≡ length most → (x : ℕ)
+    → fields_in (bounds_left effects from fields most) x ≡ bounds_after (effect_on effects (from + x)) (most_at most x) (fields_in fields x)
+left_from effects from [] [] same x = sym (nothing_left (effect_on effects (from + x)))
+left_from effects from [] (m ∷ most) same x = absurd (omega (arith, same))
+left_from effects from (r ∷ fields) [] same x = absurd (omega (arith, same))
+left_from effects from (r ∷ fields) (m ∷ most) same zero = let n : from ≡ from + 0 = omega arith in ap (λ k. bounds_after (effect_on effects k) m r) n
+left_from effects from (r ∷ fields) (m ∷ most) same (suc x) =
+    let n : suc from + x ≡ from + suc x = omega arith in
+    let fewer : length fields ≡ length most = omega (arith, same) in
+    left_from effects (suc from) fields most fewer x ∙ ap (λ k. bounds_after (effect_on effects k) (most_at most x) (fields_in fields x)) n
+
+left_at : (effects : List (ℕ × Effect)) (fields : List Bounds) (most : List ℕ) → length fields ≡ length most → (x : ℕ)
+    → fields_in (bounds_left effects 0 fields most) x ≡ bounds_after (effect_on effects x) (most_at most x) (fields_in fields x)
+left_at effects fields most same x =
+    let n : 0 + x ≡ x = omega arith in left_from effects 0 fields most same x ∙ ap (λ k. bounds_after (effect_on effects k) (most_at most x) (fields_in fields x)) n
+
+-- after an Ok of a function that keeps the state
+pub left_known : (d : Described) (fun : ℕ) (k : Known) (effects : List (ℕ × Effect)) (fields after : List Bounds) (most : List ℕ)
+    → after ≡ bounds_left effects 0 fields most → effects ≡ (fun_at d.facts.funs fun).effects → most ≡ greatest d → length fields ≡ length most → k.fields ≡ fields_in fields
+    → (let l : Known = record { args = k.args; state = k.state; fields = fields_in after } in l) ≡ known_after d fun k
+left_known d fun k effects fields after most are effects_are most_is same fields_are =
+    let one : fields_in after ≡ (λ x. bounds_after (effect_on effects x) (most_at most x) (fields_in fields x)) = ap fields_in are ∙ fun_ext (left_at effects fields most same) in
+    let two = ap (λ es. λ (x : ℕ). bounds_after (effect_on es x) (most_at most x) (fields_in fields x)) effects_are in
+    let three = ap (λ ms. λ (x : ℕ). bounds_after (effect_on (fun_at d.facts.funs fun).effects x) (most_at ms x) (fields_in fields x)) most_is in
+    let four = ap (λ (f : ℕ → Bounds). λ (x : ℕ). bounds_after (effect_on (fun_at d.facts.funs fun).effects x) (most_at (greatest d) x) (f x)) (sym fields_are) in
+    ap (λ (f : ℕ → Bounds). let l : Known = record { args = k.args; state = k.state; fields = f } in l) (one ∙ two ∙ three ∙ four)
+
+-- ---- at a spot
+
+marked_from : (d : Described) (state from : ℕ) (marks : List FieldMark) (x : ℕ)
+    → fields_in (fields_from d state from marks) x ≡ bounds_at (mark_at marks x) (is_never_zero d.facts state (from + x)) (most_at (greatest d) (from + x))
+marked_from d state from [] x = refl
+marked_from d state from (m ∷ marks) zero =
+    let n : from ≡ from + 0 = omega arith in ap (λ y. bounds_at m (is_never_zero d.facts state y) (most_at (greatest d) y)) n
+marked_from d state from (m ∷ marks) (suc x) =
+    let n : suc from + x ≡ from + suc x = omega arith in
+    marked_from d state (suc from) marks x ∙ ap (λ y. bounds_at (mark_at marks x) (is_never_zero d.facts state y) (most_at (greatest d) y)) n
+
+marked_at : (d : Described) (s : Place) (x : ℕ) → fields_in (fields_from d s.state 0 s.marks) x ≡ field_known d s x
+marked_at d s x =
+    let n : 0 + x ≡ x = omega arith in
+    marked_from d s.state 0 s.marks x ∙ ap (λ y. bounds_at (mark_at s.marks x) (is_never_zero d.facts s.state y) (most_at (greatest d) y)) n
+
+pub spot_seen : (d : Described) (fun : ℕ) (s : Place) (effects : List (ℕ × Effect)) (most : List ℕ) (fields : List Bounds)
+    → effects ≡ (fun_at d.facts.funs fun).effects → most ≡ greatest d → fields ≡ fields_from d s.state 0 s.marks
+    → (let k : Known = record { args = λ a. carried_in most (carrier effects a); state = between s.state s.state; fields = fields_in fields } in k) ≡ known_at d fun s
+spot_seen d fun s effects most fields effects_are most_is fields_are =
+    ap (λ es. let k : Known = record { args = λ a. carried_in most (carrier es a); state = between s.state s.state; fields = fields_in fields } in k) effects_are
+    ∙ ap (λ ms. let k : Known = record { args = λ a. carried_in ms (carrier (fun_at d.facts.funs fun).effects a); state = between s.state s.state; fields = fields_in fields } in k) most_is
+    ∙ ap (λ (f : ℕ → Bounds). let k : Known = record { args = arg_known d fun; state = between s.state s.state; fields = f } in k) (ap fields_in fields_are ∙ fun_ext (marked_at d s))
+
+-- ---- what is told of a spot
+
+mark_shown : (m : FieldState) → m ≡ shown_mark (known_of m)
+mark_shown Unset = refl
+mark_shown Good = refl
+mark_shown Unknown = refl
+
+pub spots_known : (d : Described) (s : Place) (fields : List Bounds) → fields_in fields ≡ field_known d s → (x : ℕ) (marks : List FieldState) → spots_from fields x marks ≡ known_fields d s x (map known_of marks)
+spots_known d s fields same x [] = refl
+spots_known d s fields same x (m ∷ marks) =
+    ap (λ n. let f : KnownField = record { mark = n; bounds = fields_in fields x } in f ∷ spots_from fields (suc x) marks) (mark_shown m)
+    ∙ ap (λ (g : ℕ → Bounds). let f : KnownField = record { mark = shown_mark (known_of m); bounds = g x } in f ∷ spots_from fields (suc x) marks) same
+    ∙ ap (λ l. let f : KnownField = record { mark = shown_mark (known_of m); bounds = field_known d s x } in f ∷ l) (spots_known d s fields same (suc x) marks)

@@ -1,0 +1,6 @@
+-- Each call has fewer left.
+use Rattle.std.proofs.Common.{length}
+use Rattle.sg_safe.proofs.spots.+add_steps.Given as goal
+
+abbrev pub decreases-add_steps : goal.decreases-add_steps
+decreases-add_steps l = length l.steps.now

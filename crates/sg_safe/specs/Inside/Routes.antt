@@ -1,0 +1,36 @@
+-- How walks are found.
+use Rattle.std.specs.Prelude.{ℕ, ◌≡◌, ◌≤◌, ◌+◌, Bool, not, if◌then◌else◌, List, Some, filter, length, map}
+use Rattle.std.specs.List.{list_all}
+use Rattle.sg_facts.specs.Interface.{has_pair}
+use Rattle.sg_facts.specs.Inside.Walking.{next_spot}
+use Rattle.sg_facts.specs.Walks.{Spot}
+use Rattle.sg_described.specs.Described.{Described}
+use Rattle.sg_described.specs.Walking.{add_spot, is_lost, is_step, most_more}
+use Rattle.sg_safe.specs.declared.spots.Reached.{Reached}
+use Rattle.sg_safe.specs.Reasons.{led_by}
+use Rattle.sg_safe.specs.Inside.Seen.{shown}
+
+-- the greatest number of calls after which a walk may still go on
+abbrev pub most_before : ℕ
+most_before = 7
+
+-- where a walk has come to
+abbrev pub place_in : Described → Reached → Spot
+place_in d r = shown d r.spot
+
+-- a walk of at most so many calls leads where it is said to
+pub record IsReached (d : Described) (calls : ℕ) (r : Reached) : Type 0 where
+  pub led : led_by d r.walk ≡ Some (place_in d r)
+  pub most : length r.walk ≤ calls
+
+-- spots with one more, unless it is listed or a field is lost for good there
+abbrev pub add_unlost : Described → List Spot → Spot → List Spot
+add_unlost d spots s = if is_lost d s then spots else add_spot spots s
+
+-- pairs are recover steps of a description
+abbrev pub are_steps : Described → List (ℕ × ℕ) → Bool
+are_steps d pairs = list_all (λ p. has_pair d.facts.steps p.0 p.1) pairs
+
+-- where these pairs lead to from a spot, but where a field is lost for good
+abbrev pub nexts_by : Described → Spot → List (ℕ × ℕ) → List Spot
+nexts_by d s pairs = filter (λ t. not (is_lost d t)) (map (λ p. next_spot d.facts p.1 s) (filter (is_step d s) pairs))
