@@ -105,6 +105,7 @@ after_goes first (Some (Greatest, second)) k qs end nor g =
     fork_past refl (fork_past refl (fork_past refl (fork_goes (operand_goes second (λ x. k (record { first = first; more = Some (Greatest, x) })) g))))
 
 term_goes : (t : Term) (k : Term → RuleState) (qs : List RulePiece) (end : RuleState) → NoOperator qs → GoesOn (k t) qs end → GoesOn (term k) (term_then t qs) end
+unfolding term
 term_goes t k qs end nor g = operand_goes t.first (after_first k) (after_goes t.first t.more k qs end nor g)
 
 -- how two numbers stand to each other is said before a number, and is no operator

@@ -81,6 +81,7 @@ operand_read may k f h = (
 
 term_read : (may : Bool) (k : Term → RuleState) (f : List RulePiece → List RulePiece) → ((t : Term) → HasRead false (k t) (λ r. f (term_then t r)))
     → HasRead may (term k) f
+unfolding term
 term_read may k f h = operand_read may (after_first k) f (λ first. (more first Plus, (more first Minus, (more first Least, (more first Greatest, alone first)))))
   where
     more : (first : Operand) (o : Operator)

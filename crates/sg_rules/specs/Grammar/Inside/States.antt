@@ -103,8 +103,8 @@ abbrev pub after_first : (Term → RuleState) → Operand → RuleState
 after_first k first =
     operator_or (λ o. operand (λ second. k (record { first = first; more = Some (o, second) }))) (k (record { first = first; more = None }))
 
--- before a number
-abbrev pub term : (Term → RuleState) → RuleState
+-- before a number. A number has many beginnings and ends, so only the proofs that read one open this
+unfoldable pub term : (Term → RuleState) → RuleState
 term k = operand (after_first k)
 
 -- after `is`
