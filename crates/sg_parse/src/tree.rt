@@ -50,14 +50,18 @@ pub enum Statement<'a> {
         params: ParamList<'a>,
     },
     /// A creation that can't be done again, in a text of version 3: `sm_external(f);`.
-    External { fun: Spelled<'a> },
+    External {
+        fun: Spelled<'a>,
+    },
     /// The greatest number of a field, in a text of version 3: `desc_data_most(field, 9);`.
     Most {
         field: Spelled<'a>,
         most: Spelled<'a>,
     },
     /// Fields in all of which no two descriptors agree, in a text of version 3: `desc_data_unique(field, other);`.
-    Unique { fields: SpelledList<'a> },
+    Unique {
+        fields: SpelledList<'a>,
+    },
     /// The rules by which a function answers, in a text of version 3: `sm_answer(f) { .. }`.
     Answer {
         fun: Spelled<'a>,
