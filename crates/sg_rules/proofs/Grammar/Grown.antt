@@ -95,6 +95,7 @@ term_read may k f h = operand_read may (after_first k) f (λ first. (more first 
 
 relation_read : (may : Bool) (k : Relation → RuleState) (f : List RulePiece → List RulePiece) → ((o : Relation) → HasRead false (k o) (λ r. f (relation_pieces o ++ r)))
     → HasRead may (relation k) f
+unfolding relation
 relation_read may k f h =
     ((h IsNot, weaker (k Is) (λ r. f (word is_word ∷ r)) (h Is)), (h Below, (h Above, (refl, refl))))
 
@@ -106,6 +107,7 @@ related_read k f h = relation_read false (λ o. term (k o)) f (λ o. term_read f
 
 test_read : (may : Bool) (k : Test → RuleState) (f : List RulePiece → List RulePiece) → ((t : Test) → HasRead false (k t) (λ r. f (test_then t r)))
     → HasRead may (test k) f
+unfolding test
 test_read may k f h =
     term_read may (λ left. relation (λ o. term (λ right. k (record { left = left; relation = o; right = right })))) f
     (λ left. related_read (λ o right. k (record { left = left; relation = o; right = right })) (λ r. f (term_then left r))
@@ -113,6 +115,7 @@ test_read may k f h =
 
 pick_read : (may : Bool) (k : Pick → RuleState) (f : List RulePiece → List RulePiece) → ((p : Pick) → HasRead false (k p) (λ r. f (pick_then p r)))
     → HasRead may (pick k) f
+unfolding pick
 pick_read may k f h = (λ n. asked (row_state n.at), (λ n. asked (Field n), (refl, refl)))
   where
     asked : (w : What) → HasRead false (relation (λ o. term (λ right. k (record { what = w; relation = o; right = right })))) (λ r. f (what_pieces w ++ r))
@@ -122,6 +125,7 @@ pick_read may k f h = (λ n. asked (row_state n.at), (λ n. asked (Field n), (re
 
 picks_read : (may : Bool) (k : List Pick → RuleState) (f : List RulePiece → List RulePiece)
     → ((ps : List Pick) → ps ≢ [] → HasRead false (k ps) (λ r. f (each pick_then ps r))) → ((ps : List Pick) → Opens (k ps)) → HasRead may (picks k) f
+unfolding picks
 picks_read may k f h opens = pick_read may (λ p. picked (p ∷ []) k) f (λ p. (λ more. h (p ∷ more) (full p more), opens))
 
 terms_read : (may : Bool) (k : List Term → RuleState) (f : List RulePiece → List RulePiece)
@@ -133,6 +137,7 @@ terms_read may k f h opens = term_read may (λ t. termed (t ∷ []) k) f (λ t. 
 rows_rest_read : (k : RowTest → RuleState) (some : Bool) (at : ℕ) (f : List RulePiece → List RulePiece)
     → ((ps : List Pick) → ps ≢ [] → HasRead false (k (record { at = at; some = some; picks = ps })) (λ r. f (word Row ∷ word Where ∷ each pick_then ps r)))
     → ((rows : RowTest) → Opens (k rows)) → HasRead false (rows_rest k some at) f
+unfolding rows_rest
 rows_rest_read k some at f h opens = (
   (
     picks_read false (λ ps. k (record { at = at; some = some; picks = ps })) (λ r. f (word Row ∷ word Where ∷ r)) h (λ ps. opens (record { at = at; some = some; picks = ps })),
@@ -144,6 +149,7 @@ rows_rest_read k some at f h opens = (
 rows_or_read : (may : Bool) (k : RowTest → RuleState) (other : RuleState) (f : List RulePiece → List RulePiece)
     → ((rows : RowTest) → rows.picks ≢ [] → HasRead false (k rows) (λ r. f (rows_then rows r)))
     → ((rows : RowTest) → Opens (k rows)) → HasRead true other f → HasRead may (rows_or k other) f
+unfolding rows_or
 rows_or_read may k other f h opens g = (
   λ n. rows_rest_read k true n.at (λ r. f (word_at SomeRow n.at ∷ r)) (λ ps some. h (record { at = n.at; some = true; picks = ps }) some) opens,
   (λ n. rows_rest_read k false n.at (λ r. f (word_at NoRow n.at ∷ r)) (λ ps some. h (record { at = n.at; some = false; picks = ps }) some) opens, g),
@@ -158,6 +164,7 @@ record AfterTests (before : List Test) (k : Tests → RuleState) (f : List RuleP
   opens : (when : Tests) → Opens (k when)
 
 tests_from_read : (may : Bool) (before : List Test) (k : Tests → RuleState) (f : List RulePiece → List RulePiece) → AfterTests before k f → HasRead may (tests_from before k) f
+unfolding tests_from
 tests_from_read may before k f a =
     rows_or_read may (λ rows. k (record { tests = before; rows = Some rows })) (test (λ t. tested (before ++ t ∷ []) k)) f
     a.now (λ rows. a.opens (record { tests = before; rows = Some rows }))
