@@ -263,6 +263,7 @@ else_rest_goes code k qs end g = fork_goes (take_goes code tt (fork_goes g))
 given_goes : (go : Rule → RuleState) (at : ℕ) (t : Term) (ts : List Test) (rows : Option RowTest) (qs : List RulePiece) (end : RuleState)
     → IsRule (Give at t (record { tests = ts; rows = rows })) → GoesOn (go (Give at t (record { tests = ts; rows = rows }))) qs end
     → GoesOn (given go at t) (if_of ts rows (fixed Semicolon ∷ qs)) end
+unfolding given
 given_goes go at t [] None qs end is g = fork_past refl (fork_goes g)
 given_goes go at t (x ∷ ts) None qs end is g =
     fork_goes (if_rest_goes (record { tests = x ∷ ts; rows = None }) (λ when. go (Give at t when)) qs end (λ e. cc) g)
@@ -281,6 +282,7 @@ given_no_operator (x ∷ ts) (Some rows) qs = (refl, refl, refl, refl)
 -- numbers by which a row is the least, and what follows them
 least_goes : (go : Rule → RuleState) (at : ℕ) (terms : List Term) (ps : List Pick) (code : Spelling) (qs : List RulePiece) (end : RuleState)
     → GoesOn (go (GiveFirst at terms ps code)) qs end → GoesOn (least_of go at terms) (where_then ps (word Else ∷ name code ∷ fixed Semicolon ∷ qs)) end
+unfolding least_of
 least_goes go at terms [] code qs end g = fork_past refl (else_rest_goes code (λ c. go (GiveFirst at terms [] c)) qs end g)
 least_goes go at terms (p ∷ ps) code qs end g =
     fork_goes (picks_goes (p ∷ ps) (λ ps. else_rest (λ c. go (GiveFirst at terms ps c))) (word Else ∷ name code ∷ fixed Semicolon ∷ qs) end (λ e. cc) refl (refl, refl, refl, refl)
@@ -291,6 +293,7 @@ where_past [] qs = (refl, (refl, refl, refl, refl))
 where_past (p ∷ ps) qs = (refl, (refl, refl, refl, refl))
 
 rule_goes : (x : Rule) (rules : List Rule) (qs : List RulePiece) (end : RuleState) → IsRule x → GoesOn (with_rule rules x) qs end → GoesOn (ruled rules) (rule_then x qs) end
+unfolding refuse_rest wait_rest give_rest row_rest first_rest
 rule_goes (Refuse at code when) rules qs end is g =
     onward (inl (at, refl, refl)) (take_goes code tt (fork_goes (if_rest_goes when (λ w. with_rule rules (Refuse at code w)) qs end is g)))
 rule_goes (Wait at when) rules qs end is g =

@@ -199,15 +199,18 @@ else_rest_read may k f h = ((λ code. (h code, (refl, refl)), (refl, refl)), (re
 -- before a rule after its first word, where the rule is to be read so
 module _ (go : Rule → RuleState) (f : List RulePiece → List RulePiece) (h : (x : Rule) → IsRule x → HasRead false (go x) (λ r. f (rule_then x r))) where
   refuse_read : (at : ℕ) → HasRead false (refuse_rest go at) (λ r. f (word_at refuse_word at ∷ r))
+  unfolding refuse_rest
   refuse_read at = (
     λ code. (if_rest_read false (λ when. go (Refuse at code when)) (λ r. f (word_at refuse_word at ∷ name code ∷ word If ∷ r)) (λ when some. h (Refuse at code when) some), (refl, refl)),
     (refl, refl),
   )
 
   wait_read : (at : ℕ) → HasRead false (wait_rest go at) (λ r. f (word_at wait_word at ∷ r))
+  unfolding wait_rest
   wait_read at = (if_rest_read false (λ when. go (Wait at when)) (λ r. f (word_at wait_word at ∷ word If ∷ r)) (λ when some. h (Wait at when) some), (refl, refl))
 
   given_read : (at : ℕ) (t : Term) → HasRead false (given go at t) (λ r. f (word_at give_word at ∷ term_then t r))
+  unfolding given
   given_read at t = (
     if_rest_read false (λ when. go (Give at t when)) (λ r. f (word_at give_word at ∷ term_then t (word If ∷ r))) (λ when some. by when.tests when.rows some),
     (h (Give at t no_tests) tt, (refl, refl)),
@@ -221,6 +224,7 @@ module _ (go : Rule → RuleState) (f : List RulePiece → List RulePiece) (h : 
       by (x ∷ ts) (Some rows) some = h (Give at t (record { tests = x ∷ ts; rows = Some rows })) some
 
   row_read : (at : ℕ) → HasRead false (row_rest go at) (λ r. f (word_at give_word at ∷ word Row ∷ r))
+  unfolding row_rest
   row_read at = (
     picks_read false (λ ps. else_rest (λ code. go (GiveRow at ps code))) (λ r. f (word_at give_word at ∷ word Row ∷ word Where ∷ r))
         (λ ps some. else_rest_read false (λ code. go (GiveRow at ps code)) (λ r. f (word_at give_word at ∷ word Row ∷ word Where ∷ each pick_then ps r)) (λ code. h (GiveRow at ps code) some))
@@ -229,6 +233,7 @@ module _ (go : Rule → RuleState) (f : List RulePiece → List RulePiece) (h : 
   )
 
   first_read : (at : ℕ) → HasRead false (first_rest go at) (λ r. f (word_at give_word at ∷ word First ∷ r))
+  unfolding first_rest least_of
   first_read at =
       terms_read false (least_of go at) (λ r. f (word_at give_word at ∷ word First ∷ r))
       (λ ts some. (
@@ -246,6 +251,7 @@ module _ (go : Rule → RuleState) (f : List RulePiece → List RulePiece) (h : 
       by ts some (p ∷ ps) any code = h (GiveFirst at ts (p ∷ ps) code) some
 
   give_read : (at : ℕ) → HasRead false (give_rest go at) (λ r. f (word_at give_word at ∷ r))
+  unfolding give_rest
   give_read at = (row_read at, (first_read at, term_read true (given go at) (λ r. f (word_at give_word at ∷ r)) (λ t. given_read at t)))
 
 -- ---- one piece more

@@ -159,11 +159,11 @@ abbrev pub else_rest : (Spelling → RuleState) → RuleState
 else_rest k = due (Key Else) (want a_name (λ code. due Semicolon (k code)))
 
 -- after `refuse`
-abbrev pub refuse_rest : (Rule → RuleState) → ℕ → RuleState
+unfoldable pub refuse_rest : (Rule → RuleState) → ℕ → RuleState
 refuse_rest go at = want a_name (λ code. due (Key If) (if_rest (λ when. go (Refuse at code when))))
 
 -- after `wait`
-abbrev pub wait_rest : (Rule → RuleState) → ℕ → RuleState
+unfoldable pub wait_rest : (Rule → RuleState) → ℕ → RuleState
 wait_rest go at = due (Key If) (if_rest (λ when. go (Wait at when)))
 
 -- no test
@@ -171,11 +171,11 @@ abbrev pub no_tests : Tests
 no_tests = record { tests = []; rows = None }
 
 -- after the number of what is given
-abbrev pub given : (Rule → RuleState) → ℕ → Term → RuleState
+unfoldable pub given : (Rule → RuleState) → ℕ → Term → RuleState
 given go at t = fork (Key If) (if_rest (λ when. go (Give at t when))) (due Semicolon (go (Give at t no_tests)))
 
 -- after `give row`
-abbrev pub row_rest : (Rule → RuleState) → ℕ → RuleState
+unfoldable pub row_rest : (Rule → RuleState) → ℕ → RuleState
 row_rest go at = due (Key Where) (picks (λ ps. else_rest (λ code. go (GiveRow at ps code))))
 
 -- before numbers
@@ -183,20 +183,20 @@ abbrev pub terms : (List Term → RuleState) → RuleState
 terms k = term (λ t. termed (t ∷ []) k)
 
 -- after the numbers by which a row is the least
-abbrev pub least_of : (Rule → RuleState) → ℕ → List Term → RuleState
+unfoldable pub least_of : (Rule → RuleState) → ℕ → List Term → RuleState
 least_of go at ts =
     fork (Key Where) (picks (λ ps. else_rest (λ code. go (GiveFirst at ts ps code)))) (else_rest (λ code. go (GiveFirst at ts [] code)))
 
 -- after `give first`
-abbrev pub first_rest : (Rule → RuleState) → ℕ → RuleState
+unfoldable pub first_rest : (Rule → RuleState) → ℕ → RuleState
 first_rest go at = terms (least_of go at)
 
 -- after `give`
-abbrev pub give_rest : (Rule → RuleState) → ℕ → RuleState
+unfoldable pub give_rest : (Rule → RuleState) → ℕ → RuleState
 give_rest go at = fork (Key Row) (row_rest go at) (fork (Key First) (first_rest go at) (term (given go at)))
 
 -- before a rule and then the state of it, or as the second state
-abbrev pub rule_or : (Rule → RuleState) → RuleState → RuleState
+unfoldable pub rule_or : (Rule → RuleState) → RuleState → RuleState
 rule_or go other =
     take (a_word refuse_word) (λ n. refuse_rest go n.at) (take (a_word wait_word) (λ n. wait_rest go n.at)
     (take (a_word give_word) (λ n. give_rest go n.at) other))
