@@ -28,7 +28,7 @@ use Rattle.sg_rules.specs.declared.tree.Rule.TheVariants.{Refuse, Wait, Give, Gi
 use Rattle.sg_rules.specs.Grammar.Words.{word_of}
 use Rattle.sg_rules.specs.Grammar.Pieces.{RulePiece, fixed, word, word_at, name}
 use Rattle.sg_rules.specs.Grammar.Sentence.{operand_pieces, operator_word, relation_pieces, what_pieces, HasTests, IsRule}
-use Rattle.sg_rules.specs.Grammar.Inside.States.{RuleState, fork, take, termed, picked, tested, ruled, operand, after_first, term, relation, test, what, pick, picks, rows_rest, rows_or, tests_from, tests, if_rest, else_rest, no_tests, given, least_of, terms, due, want, with_rule}
+use Rattle.sg_rules.specs.Grammar.Inside.States.{RuleState, fork, take, termed, picked, tested, ruled, operand, after_first, term, relation, test, what, pick, picks, rows_rest, rows_or, tests_from, tests, if_rest, else_rest, refuse_rest, wait_rest, no_tests, given, row_rest, terms, least_of, first_rest, give_rest, due, want, with_rule}
 use Rattle.sg_rules.proofs.Grammar.Basics.{apart, misses, spelt, IsOwn}
 use Rattle.sg_rules.proofs.Grammar.Steps.{Goes, GoesOn, there, onward}
 use Rattle.sg_rules.proofs.Grammar.Thens.{each, each_more, more_then, term_then, test_then, pick_then, rows_then, tests_of, tests_then, if_of, where_then, rule_then, rules_then}
