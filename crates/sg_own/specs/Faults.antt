@@ -12,7 +12,7 @@ use Rattle.sg_check.specs.sg_check_statements.sg_parse.declared.tree.Tree.{Tree}
 use Rattle.sg_describe.specs.sg_shape.Faults.{HasNoShapeFlaw, IsFirstShapeFlaw}
 use Rattle.sg_describe.specs.sg_shape.ShapeOfText.{shape_of_text}
 use Rattle.sg_describe.specs.sg_described.Described.{Described}
-use Rattle.sg_describe.specs.sg_described.Safe.{is_safe}
+use Rattle.sg_describe.specs.sg_described.Safe.{IsSafe}
 use Rattle.sg_describe.specs.AnswerFaults.{HasNoAnswerFlaw, IsFirstAnswerFlaw}
 use Rattle.sg_describe.specs.DescribedText.{described_of_text}
 use Rattle.sg_describe.specs.Said.{first_in, proto_place}
@@ -47,7 +47,7 @@ IsOwnFault tree (Safety kind) at =
     IsDescription tree × (reason : Unsafe) × (unsafe_in (described_of_text tree) ≡ Some reason)
     × (kind ≡ kind_of reason) × (at ≡ reason_place (shape_of_text tree) tree.statements reason)
 IsOwnFault tree (Walks kind) at =
-    IsDescription tree × (is_safe (described_of_text tree) ≡ true)
+    IsDescription tree × IsSafe (described_of_text tree)
     × (IsFault (itself tree) tree kind at
     ⊎ (((i : Declared) × IsAccepted (itself tree) tree i) × (external_place tree ≡ Some at) × (kind ≡ no_walk)))
 
@@ -55,6 +55,6 @@ IsOwnFault tree (Walks kind) at =
 -- doing again what can't be done again
 pub record IsOwnAccepted (tree : Tree) (i : Declared) : Type 0 where
   pub described : IsDescription tree
-  pub safe : is_safe (described_of_text tree) ≡ true
+  pub safe : IsSafe (described_of_text tree)
   pub accepted : IsAccepted (itself tree) tree i
   pub inside : external_place tree ≡ None

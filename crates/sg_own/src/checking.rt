@@ -5,12 +5,12 @@ ghost use Rattle.sg_facts.specs.Facts.{facts_of};
 ghost use Rattle.sg_facts.specs.Limits.{most_funs};
 ghost use Rattle.sg_check_statements.specs.Faults.{IsAccepted};
 ghost use Rattle.sg_describe.specs.sg_described.Described.{described_of};
-ghost use Rattle.sg_describe.specs.sg_described.Safe.{is_plain, is_safe};
+ghost use Rattle.sg_describe.specs.sg_described.Safe.{IsSafe, is_plain};
 ghost use Rattle.sg_describe.specs.sg_shape.Faults.{HasNoShapeFlaw};
 ghost use Rattle.sg_describe.specs.sg_shape.ShapeOfText.{shape_of_text};
 ghost use Rattle.sg_describe.specs.DescribedText.{described_of_text};
 ghost use Rattle.sg_own.specs.declared.fault.OwnError.TheVariants.{Fault};
-ghost use Rattle.sg_safe.specs.Reasons.{unsafe_in};
+ghost use Rattle.sg_safe.specs.Reasons.{IsReason, unsafe_in};
 ghost use Rattle.sg_own.specs.Faults.{IsDescription, IsOwnAccepted, external_in, external_place, itself};
 ghost use Rattle.sg_own.specs.Inside.Answers.{IsOwnError};
 
@@ -21,7 +21,7 @@ use sg_check_statements::{Statement, Tree};
 use sg_describe::{AnswerError, describe, proto_place};
 use sg_described::Description;
 use sg_facts::Shape;
-use sg_safe::{Unsafe, unsafe_at};
+use sg_safe::{SafeError, Unsafe, safe};
 use sg_shape::{ShapeError, shape_of};
 use std::alloc::Global;
 
@@ -32,9 +32,7 @@ pub fn check_own(alloc: Global, tree: &Tree) -> Result<Accepted, OwnError>
 {
     let shape = own_shape(alloc, tree)?;
     let description = own_description(alloc, tree, &shape)?;
-    if let Some(reason) = unsafe_at(alloc, &description)? {
-        return Err(unsafe_error(tree, &shape, reason));
-    }
+    own_safety(alloc, tree, &shape, &description)?;
     let accepted = own_walks(alloc, tree, shape)?;
     match external_place(tree) {
         Some(at) => Err(fault(OwnKind::Walks(CheckKind::NoWalk), at)),
@@ -72,11 +70,32 @@ fn own_description(alloc: Global, tree: &Tree, shape: &Shape) -> Result<Descript
     }
 }
 
+// A text of this shape that describes this service: it can be recovered, or why it can't.
+fn own_safety(
+    alloc: Global,
+    tree: &Tree,
+    shape: &Shape,
+    description: &Description,
+) -> Result<(), OwnError>
+    requires shape { facts_of shape.now ≡ shape_of_text tree.now }
+    requires described { described_of description.now ≡ described_of_text tree.now }
+    requires flawless { IsDescription tree.now }
+    requires plain { is_plain (described_of description.now) ≡ true }
+    requires few { length (facts_of shape.now).funs ≤ most_funs }
+    ensures { MatchResult result (λ _. IsSafe (described_of_text tree.now)) (IsOwnError tree.now) }
+{
+    match safe(alloc, description) {
+        Ok(()) => Ok(()),
+        Err(SafeError::NoMemory) => Err(OwnError::NoMemory),
+        Err(SafeError::Unsafe(reason)) => Err(unsafe_error(tree, shape, reason)),
+    }
+}
+
 // The error of a text of this shape whose service can't be recovered.
 fn unsafe_error(tree: &Tree, shape: &Shape, reason: Unsafe) -> OwnError
     requires shape { facts_of shape.now ≡ shape_of_text tree.now }
     requires described { IsDescription tree.now }
-    requires reason { unsafe_in (described_of_text tree.now) ≡ Some reason }
+    requires reason { IsReason (described_of_text tree.now) (unsafe_in (described_of_text tree.now)) reason }
     ensures { IsOwnError tree.now result }
 {
     OwnError::Fault(OwnFault {
@@ -90,7 +109,7 @@ fn unsafe_error(tree: &Tree, shape: &Shape, reason: Unsafe) -> OwnError
 fn own_walks(alloc: Global, tree: &Tree, shape: Shape) -> Result<Accepted, OwnError>
     requires shape { facts_of shape ≡ shape_of_text tree.now }
     requires described { IsDescription tree.now }
-    requires safe { is_safe (described_of_text tree.now) ≡ true }
+    requires safe { IsSafe (described_of_text tree.now) }
     ensures { MatchResult result (IsAccepted (itself tree.now) tree.now) (IsOwnError tree.now) }
 {
     match check(alloc, tree, &[shape]) {

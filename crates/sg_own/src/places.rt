@@ -1,13 +1,13 @@
 // Where in a text it stands why its service can't be recovered.
 ghost use Rattle.std.specs.Prelude.{◌≡◌};
 ghost use Rattle.sg_facts.specs.Facts.{facts_of};
-ghost use Rattle.sg_own.specs.SafePlaces.{fun_place, kind_of, most_place, reason_place, rule_at, rule_place};
+ghost use Rattle.sg_own.specs.SafePlaces.{call_place, fun_place, kind_of, obstacle_kind, most_place, reason_place, rule_at, rule_place};
 
 use crate::fault::SafetyKind;
 use sg_check_statements::{Rule, Statement};
 use sg_describe::{most_said, proto_place, rules_said};
 use sg_facts::Shape;
-use sg_safe::Unsafe;
+use sg_safe::{FailingCall, Obstacle, Unsafe};
 
 /// The kind of a reason.
 pub fn kind_of(reason: &Unsafe) -> SafetyKind
@@ -17,9 +17,18 @@ pub fn kind_of(reason: &Unsafe) -> SafetyKind
         Unsafe::CountsFar { .. } => SafetyKind::CountsFar,
         Unsafe::Recounts { .. } => SafetyKind::Recounts,
         Unsafe::Overtaken { .. } => SafetyKind::Overtaken,
-        Unsafe::NoClient { .. } => SafetyKind::NoClient,
-        Unsafe::Refusable { .. } => SafetyKind::Refusable,
-        Unsafe::Overflows { .. } => SafetyKind::Overflows,
+        Unsafe::Fails { call, .. } => obstacle_kind(call.obstacle),
+    }
+}
+
+// The kind of what may make a replayed call fail.
+fn obstacle_kind(obstacle: Obstacle) -> SafetyKind
+    ensures { result ≡ obstacle_kind obstacle }
+{
+    match obstacle {
+        Obstacle::NoClient { .. } => SafetyKind::NoClient,
+        Obstacle::ByRule { .. } => SafetyKind::Refusable,
+        Obstacle::PastMost { .. } => SafetyKind::Overflows,
     }
 }
 
@@ -28,14 +37,23 @@ pub fn kind_of(reason: &Unsafe) -> SafetyKind
 pub fn reason_place(shape: &Shape, statements: &[Statement], reason: &Unsafe) -> usize
     ensures { result ≡ reason_place (facts_of shape.now) statements.now reason.now }
 {
-    match *reason {
-        Unsafe::CountsFar { field } => most_place(shape, statements, field),
-        Unsafe::Recounts { fun, .. } | Unsafe::NoClient { fun, .. } => {
-            fun_place(shape, statements, fun)
+    match reason {
+        Unsafe::CountsFar { field } => most_place(shape, statements, *field),
+        Unsafe::Recounts { fun, .. } => fun_place(shape, statements, *fun),
+        Unsafe::Overtaken { waiter, rule, .. } => rule_at(shape, statements, *waiter, *rule),
+        Unsafe::Fails { call, .. } => call_place(shape, statements, call),
+    }
+}
+
+// Where it stands what may make a replayed call fail: the rule, else the function's prototype.
+fn call_place(shape: &Shape, statements: &[Statement], call: &FailingCall) -> usize
+    ensures { result ≡ call_place (facts_of shape.now) statements.now call.now }
+{
+    match call.obstacle {
+        Obstacle::ByRule { rule } => rule_at(shape, statements, call.fun, rule),
+        Obstacle::NoClient { .. } | Obstacle::PastMost { .. } => {
+            fun_place(shape, statements, call.fun)
         }
-        Unsafe::Overflows { fun, .. } => fun_place(shape, statements, fun),
-        Unsafe::Overtaken { waiter, rule, .. } => rule_at(shape, statements, waiter, rule),
-        Unsafe::Refusable { fun, rule, .. } => rule_at(shape, statements, fun, rule),
     }
 }
 

@@ -22,12 +22,12 @@ use Rattle.sg_parse.specs.sg_rules.declared.tree.Rule.{Rule}
 use Rattle.sg_parse.specs.sg_rules.Versions.{seen}
 use Rattle.sg_parse.specs.sg_rules.Grammar.Pieces.{RulePiece, IsRulePiece}
 use Rattle.sg_parse.specs.sg_rules.Grammar.Sentence.{rule_pieces, IsRule}
-use Rattle.sg_parse.specs.sg_rules.Grammar.Plain.{plain_rule}
+use Rattle.sg_parse.specs.sg_rules.Grammar.Plain.{plain_name, plain_rule}
 use Rattle.sg_parse.specs.Grammar.Pieces.{Piece, word, mark, name, number, version_number, kept, newer, rule, IsPiece}
 use Rattle.sg_parse.specs.sg_lex.Sentences.{ArePieces, separated}
 use Rattle.sg_parse.specs.Grammar.Sentence.{recovery_word, type_pieces, param_pieces, ret_pieces, statement_pieces, tree_pieces, IsStatement}
 use Rattle.sg_parse.specs.Grammar.Inside.Forms.{open_brace, close_brace, equals, open_bracket, close_bracket, comma, semicolon, star, fact_pieces, last_pieces, form_pieces, more_fields, more_params, params_pieces, returned_pieces, IsType, IsRet, IsHead, IsWellFormed}
-use Rattle.sg_parse.specs.Grammar.Plain.{plain_name, plain_type, plain_param, plain_ret, plain_statement, plain_facts, plain}
+use Rattle.sg_parse.specs.Grammar.Plain.{plain_type, plain_param, plain_ret, plain_statement, plain_facts, plain}
 use Rattle.sg_print.proofs.Heads.{shared_pieces, recovery_pieces, end_by, after_brace}
 use Rattle.sg_print.proofs.Levels.{Version, v1, v2, v3}
 use Rattle.sg_print.proofs.Leads.{AreLike, IsLike}
@@ -458,7 +458,6 @@ statement_back (Proto ret n params) more tokens l =
           ∙ (ap (λ m. Proto (plain_ret ret) m (map plain_param b.again)) a.same ∙ ap (λ ms. Proto (plain_ret ret) (plain_name n) ms) b.same);
       kept = λ h. (r.kept h.0, (b.kept (h.1, h.2)).0, (b.kept (h.1, h.2)).1);
     }
-
 statement_back (External fun) more tokens l =
     let a = kept_back (codes "sm_external") (open_bracket ∷ name Name fun ∷ close_bracket ∷ semicolon ∷ more) tokens l in
     let o = mark_back 0x28 (name Name fun ∷ close_bracket ∷ semicolon ∷ more) a.behind a.left in

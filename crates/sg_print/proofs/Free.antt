@@ -1,12 +1,12 @@
 -- Pieces without the word that version 2 keeps for itself are proper in a text of version 2.
-use Rattle.std.proofs.Common.{ℕ, zero, suc, ◌≡◌, ◌≢◌, Bool, true, false, List, [], ◌∷◌, ◌++◌, Option, None, Some, map, replicate, codes, refl, sym, ap, ◌∙◌, nat_eq}
+use Rattle.std.proofs.Common.{ℕ, zero, suc, ◌≡◌, ◌≢◌, ◌||◌, inr, true, false, List, [], ◌∷◌, ◌++◌, Option, None, Some, map, replicate, codes, refl, sym, ap, ◌∙◌, nat_eq}
 use Rattle.std.specs.Prelude.{All}
 use Rattle.std.specs.Cmp.Lexicographic.{pointwise}
 use Rattle.std.specs.List.{flat_map}
 use Rattle.std.proofs.lemmas.List.Elements.{All-head, All-tail}
 use Rattle.sg_parse.specs.declared.tree.Facts.{Facts}
 use Rattle.sg_parse.specs.declared.tree.Statement.{Statement}
-use Rattle.sg_parse.specs.declared.tree.Statement.TheVariants.{One, Two, Proto}
+use Rattle.sg_parse.specs.declared.tree.Statement.TheVariants.{One, Two, Proto, External, Most, Unique, Answer}
 use Rattle.sg_parse.specs.declared.tree.Ret.{Ret}
 use Rattle.sg_parse.specs.declared.tree.Ret.TheVariants.{Plain, Set, Add, Sub}
 use Rattle.sg_parse.specs.declared.tree.TypeName.{TypeName}
@@ -15,22 +15,27 @@ use Rattle.sg_parse.specs.declared.words.Sort.{Sort}
 use Rattle.sg_parse.specs.declared.words.Sort.TheVariants.{Name, One as one_word, Two as two_word, Form, Parents, Closing, Flag}
 use Rattle.sg_parse.specs.sg_lex.Lexeme.{Spelling as Named}
 use Rattle.sg_parse.specs.Grammar.Words.{is_of}
-use Rattle.sg_parse.specs.Grammar.Pieces.{Piece, word, mark, name, two, kept, newer, kept_word}
+use Rattle.sg_parse.specs.sg_rules.declared.version.Newer.TheVariants.{Second}
+use Rattle.sg_parse.specs.sg_rules.Versions.{is_kept}
+use Rattle.sg_parse.specs.Grammar.Pieces.{Piece, word, mark, name, number, version_number, kept, newer, rule}
 use Rattle.sg_parse.specs.Grammar.Sentence.{type_pieces, param_pieces, ret_pieces, statement_pieces}
-use Rattle.sg_parse.specs.Grammar.Inside.Forms.{comma, close_bracket, equals, semicolon, star, fact_pieces, end_pieces, last_pieces, form_pieces, more_params, params_pieces, returned_pieces}
+use Rattle.sg_parse.specs.Grammar.Inside.Forms.{comma, close_bracket, equals, semicolon, star, fact_pieces, last_pieces, form_pieces, more_params, params_pieces, returned_pieces}
 use Rattle.sg_parse.specs.Grammar.Upgraded.{IsFreeName, IsFreeType, IsFreeParam, IsFreeRet, IsFreeStatement}
-use Rattle.sg_parse.proofs.Grammar.Basics.{same_bytes}
-use Rattle.sg_print.proofs.Heads.{shared_pieces}
+use Rattle.sg_parse.proofs.Grammar.Basics.{by_test, same_bytes}
+use Rattle.sg_print.proofs.Heads.{shared_pieces, recovery_pieces}
+use Rattle.sg_print.proofs.Levels.{v1, v2}
 use Rattle.sg_print.proofs.Leads.{IsProper, AreProper, proper_left, proper_right}
 
--- a name isn't the kept word; no word of another sort is
+-- a name isn't the word that version 2 keeps for itself; no word of another sort is
 abbrev IsFreePiece : Piece → Type 0
 IsFreePiece (word bytes) = Unit {0}
 IsFreePiece (mark byte) = Unit {0}
 IsFreePiece (name sort n) = sort ≡ Name → IsFreeName n
-IsFreePiece two = Unit {0}
-IsFreePiece kept = Unit {0}
-IsFreePiece (newer p) = ⊥
+IsFreePiece (number n) = Unit {0}
+IsFreePiece (version_number version) = Unit {0}
+IsFreePiece (kept bytes) = Unit {0}
+IsFreePiece (newer version p) = ⊥
+IsFreePiece (rule p) = ⊥
 
 abbrev pub AreFree : List Piece → Type 0
 AreFree [] = Unit {0}
@@ -42,7 +47,7 @@ free-append (p ∷ ps) qs h g = (h.0, free-append ps qs h.1 g)
 
 -- ---- pieces that are free are proper in version 2
 
-other_sort : (sort : Sort) (n : Named) → (sort ≡ Name → IsFreeName n) → is_of sort n.bytes ≡ true → n.bytes ≢ kept_word
+other_sort : (sort : Sort) (n : Named) → (sort ≡ Name → IsFreeName n) → is_of sort n.bytes ≡ true → n.bytes ≢ codes "desc_data_retval_sub"
 other_sort Name n h is e = h refl e
 other_sort one_word n h is e = let f : false ≡ true = sym (ap (is_of one_word) e) ∙ is in absurd cc
 other_sort two_word n h is e = let f : false ≡ true = sym (ap (is_of two_word) e) ∙ is in absurd cc
@@ -51,29 +56,34 @@ other_sort Parents n h is e = let f : false ≡ true = sym (ap (is_of Parents) e
 other_sort Closing n h is e = let f : false ≡ true = sym (ap (is_of Closing) e) ∙ is in absurd cc
 other_sort Flag n h is e = let f : false ≡ true = sym (ap (is_of Flag) e) ∙ is in absurd cc
 
-another : (bytes : List ℕ) → bytes ≢ kept_word → pointwise nat_eq bytes kept_word ≡ false
-another bytes h = by (pointwise nat_eq bytes kept_word) refl
-  where
-    by : (x : Bool) → pointwise nat_eq bytes kept_word ≡ x → pointwise nat_eq bytes kept_word ≡ false
-    by true e = absurd (h (same_bytes bytes kept_word e))
-    by false e = e
+another : (bytes : List ℕ) → bytes ≢ codes "desc_data_retval_sub" → is_kept Second bytes ≡ false
+another bytes h =
+    by_test (pointwise nat_eq bytes (codes "desc_data_retval_sub"))
+    (λ e. absurd (h (same_bytes bytes (codes "desc_data_retval_sub") e)))
+    (λ e. ap (λ b. b || false) e)
 
-piece_upgraded : (p : Piece) → IsFreePiece p → IsProper false p → IsProper true p
+piece_upgraded : (p : Piece) → IsFreePiece p → IsProper v1 p → IsProper v2 p
 piece_upgraded (word bytes) f h = tt
 piece_upgraded (mark byte) f h = tt
 piece_upgraded (name sort n) f h = (h.0, h.1, another n.bytes (other_sort sort n f h.1))
-piece_upgraded two f h = tt
-piece_upgraded kept f h = refl
-piece_upgraded (newer p) f h = absurd f
+piece_upgraded (number n) f h = h
+piece_upgraded (version_number version) f h = tt
+piece_upgraded (kept bytes) f h = λ is. absurd (h is)
+piece_upgraded (newer version p) f h = absurd f
+piece_upgraded (rule p) f h = absurd f
 
-are_upgraded : (ps : List Piece) → AreFree ps → AreProper false ps → AreProper true ps
+are_upgraded : (ps : List Piece) → AreFree ps → AreProper v1 ps → AreProper v2 ps
 are_upgraded [] f h = tt
 are_upgraded (p ∷ ps) f h = (piece_upgraded p f.0 h.0, are_upgraded ps f.1 h.1)
 
+proper-append : (ps qs : List Piece) → AreProper v2 ps → AreProper v2 qs → AreProper v2 (ps ++ qs)
+proper-append [] qs h g = g
+proper-append (p ∷ ps) qs h g = (h.0, proper-append ps qs h.1 g)
+
 -- and so are they as pieces of any text
-pub newer_proper : (ps : List Piece) → AreProper true ps → AreProper false (map newer ps)
-newer_proper [] h = tt
-newer_proper (p ∷ ps) h = (h.0, newer_proper ps h.1)
+pub second_proper : (ps : List Piece) → AreProper v2 ps → AreProper v1 (map (newer Second) ps)
+second_proper [] h = tt
+second_proper (p ∷ ps) h = (h.0, second_proper ps h.1)
 
 -- ---- parts of a tree
 
@@ -112,20 +122,28 @@ ret_free : (ret : Ret) → IsFreeRet ret → AreFree (ret_pieces ret)
 ret_free (Plain ty) f = type_free ty f
 ret_free (Set ty field) f = returned_free (word (codes "desc_data_retval")) ty field tt f.0 f.1
 ret_free (Add ty field) f = returned_free (word (codes "desc_data_retval_add")) ty field tt f.0 f.1
-ret_free (Sub ty field) f = returned_free kept ty field tt f.0 f.1
+ret_free (Sub ty field) f = returned_free (kept (codes "desc_data_retval_sub")) ty field tt f.0 f.1
 
-statement_free : (s : Statement) → IsFreeStatement s → AreFree (statement_pieces s)
-statement_free (One w fun) f = (λ e. absurd cc, (tt, (λ e. f, (tt, (tt, tt)))))
-statement_free (Two w first second) f = (λ e. absurd cc, (tt, (λ e. f.0, (tt, (λ e. f.1, (tt, (tt, tt)))))))
-statement_free (Proto ret n params) f =
-    free-append (ret_pieces ret) _ (ret_free ret f.0)
-    (λ e. f.1, (tt, free-append (params_pieces params) (close_bracket ∷ semicolon ∷ []) (params_free params f.2) (tt, (tt, tt))))
+-- a statement that a text of version 1 can have
+statement_upgraded : (s : Statement) → IsFreeStatement s → AreProper v1 (statement_pieces s) → AreProper v2 (statement_pieces s)
+statement_upgraded (One w fun) f h = are_upgraded (statement_pieces (One w fun)) (λ e. absurd cc, (tt, (λ e. f, (tt, (tt, tt))))) h
+statement_upgraded (Two w first second) f h =
+    are_upgraded (statement_pieces (Two w first second)) (λ e. absurd cc, (tt, (λ e. f.0, (tt, (λ e. f.1, (tt, (tt, tt))))))) h
+statement_upgraded (Proto ret n params) f h =
+    are_upgraded (statement_pieces (Proto ret n params))
+    (free-append (ret_pieces ret) _ (ret_free ret f.0)
+    (λ e. f.1, (tt, free-append (params_pieces params) (close_bracket ∷ semicolon ∷ []) (params_free params f.2) (tt, (tt, tt))))) h
+statement_upgraded (External fun) f h = absurd (h.0 (inr refl))
+statement_upgraded (Most field most) f h = absurd (h.0 (inr refl))
+statement_upgraded (Unique fields) f h = absurd (h.0 (inr refl))
+statement_upgraded (Answer fun rules) f h = absurd (h.0 (inr refl))
 
-pub statements_free : (ss : List Statement) → All IsFreeStatement ss → AreFree (flat_map statement_pieces ss)
-statements_free [] f = tt
-statements_free (s ∷ ss) f =
-    free-append (statement_pieces s) (flat_map statement_pieces ss) (statement_free s (All-head IsFreeStatement s ss f))
-    (statements_free ss (All-tail IsFreeStatement s ss f))
+pub statements_upgraded : (ss : List Statement) → All IsFreeStatement ss → AreProper v1 (flat_map statement_pieces ss) → AreProper v2 (flat_map statement_pieces ss)
+statements_upgraded [] f h = tt
+statements_upgraded (s ∷ ss) f h =
+    proper-append (statement_pieces s) (flat_map statement_pieces ss)
+    (statement_upgraded s (All-head IsFreeStatement s ss f) (proper_left v1 (statement_pieces s) (flat_map statement_pieces ss) h))
+    (statements_upgraded ss (All-tail IsFreeStatement s ss f) (proper_right v1 (statement_pieces s) (flat_map statement_pieces ss) h))
 
 -- ---- a tree's head, and what follows it
 
@@ -147,15 +165,10 @@ shared_free q f =
     (fact_free (codes "desc_block") Flag q.block m5 (λ e. absurd cc) (fact_free (codes "desc_has_data") Flag q.has_data m6 (λ e. absurd cc) last)))))
 
 -- the end of the head of a text of version 2 has more, in which no name is
-pub upgraded_head : (q : Facts) (more : List Piece) → IsFreeName q.service → AreFree more
-    → AreProper false (shared_pieces q (last_pieces more))
-    → AreProper true (shared_pieces q (end_pieces (record q { version = 2 }) more))
+pub upgraded_head : (q : Facts) (more : List Piece) → IsFreeName q.service → (AreProper v1 more → AreProper v2 more)
+    → AreProper v1 (shared_pieces q (last_pieces more)) → AreProper v2 (shared_pieces q (recovery_pieces q.eager more))
 upgraded_head q more f g h =
     let head : List Piece = shared_pieces q [] in
-    let before = are_upgraded head (shared_free q f) (proper_left false head (last_pieces more) h) in
-    let behind = are_upgraded more g (proper_right false head (last_pieces more) h).1.1 in
-    proper-append head (end_pieces (record q { version = 2 }) more) before (tt, (tt, (tt, (tt, (tt, (tt, behind))))))
-  where
-    proper-append : (ps qs : List Piece) → AreProper true ps → AreProper true qs → AreProper true (ps ++ qs)
-    proper-append [] qs h g = g
-    proper-append (p ∷ ps) qs h g = (h.0, proper-append ps qs h.1 g)
+    let before = are_upgraded head (shared_free q f) (proper_left v1 head (last_pieces more) h) in
+    let behind = g (proper_right v1 head (last_pieces more) h).1.1 in
+    proper-append head (recovery_pieces q.eager more) before (tt, (tt, (tt, (tt, (tt, (tt, behind))))))

@@ -178,7 +178,7 @@ operand_back (Named n) = made_back Named n (λ n. refl) (λ n. refl) (λ other k
 abbrev more_pieces : Option (Operator × Operand) → List RulePiece
 more_pieces more = elim more [ None ↦ [] | Some m ↦ word (operator_word m.0) ∷ operand_pieces m.1 ]
 
-abbrev plain_more : Option (Operator × Operand) → Option (Operator × Operand)
+abbrev pub plain_more : Option (Operator × Operand) → Option (Operator × Operand)
 plain_more more = option_map (λ m. (m.0, plain_operand m.1)) more
 
 more_back : (more : Option (Operator × Operand)) → Reads more_pieces plain_more Any more

@@ -63,8 +63,8 @@ SaysPart b tail text then_of =
 
 module _ (b : Version) (tail : List Piece) where
   -- a text that is another
-  along : (text other : List ℕ) (qs : List RulePiece) → text ≡ other → Says b tail other qs → Says b tail text qs
-  along text other qs e h = subst (λ v. Says b tail v qs) (sym e) h
+  along : (text other : List ℕ) (pieces : List Piece) → text ≡ other → Leads b other pieces → Leads b text pieces
+  along text other pieces e h = subst (λ v. Leads b v pieces) (sym e) h
 
   -- ---- numbers
 

@@ -189,7 +189,6 @@ statement_leads {b = b} (Proto ret n params) rest pieces ok h k =
       append_assoc (ret_pieces ret) (name Name n ∷ open_bracket ∷ (params_pieces params ++ close_bracket ∷ semicolon ∷ [])) pieces,
       append_assoc (params_pieces params) (close_bracket ∷ semicolon ∷ []) pieces,
     ) whole
-
 statement_leads (External fun) rest pieces ok h k =
     simp append_assoc (kept_leads (codes "sm_external") _ _ (refl, refl) (h.0 (inr refl)) refl (mark_leads 0x28 _ _ refl
     (name_leads Name fun _ _ h.1.1.0 refl (line_end rest pieces k))))

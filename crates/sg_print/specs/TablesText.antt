@@ -24,9 +24,9 @@ service_lines f = concat (
     ∷ codes " global=" ∷ flag_word f.global ∷ codes " block=" ∷ flag_word f.block ∷ codes " desc_data=" ∷ flag_word f.has_data
     ∷ codes " resc_data=" ∷ flag_word f.resc_data ∷ [])
 
--- the lines of the service and of its facts, with when descriptors are rebuilt, which an interface of version 2 says
+-- the lines of the service and of its facts, with when descriptors are rebuilt, which an interface of a version after the first says
 abbrev pub facts_lines : Declared → List ℕ
-facts_lines i = concat (service_lines i.facts ∷ (if i.version == 2 then codes " recover=" ++ recovery_word i.eager else []) ∷ line_end ∷ [])
+facts_lines i = concat (service_lines i.facts ∷ (if i.version == 1 then [] else codes " recover=" ++ recovery_word i.eager) ∷ line_end ∷ [])
 
 -- ---- functions
 

@@ -19,7 +19,8 @@ mod words;
 
 pub use laws::{places_are_not_printed, prints_parse_back, upgrades_parse_back};
 pub use sg_parse::{
-    Facts, LexFault, Lexer, ParseError, Ret, Statement, TokenKind, Tree, first_token, parse,
+    Facts, LexFault, Lexer, ParseError, Ret, Rule, Statement, Token, TokenKind, Tree, first_token,
+    parse,
 };
 pub use statements::print;
 pub use tables::print_tables;

@@ -65,14 +65,14 @@ fn put_service(out: &mut Bytes, shape: &Shape) -> Result<(), NoMemory>
     )
 }
 
-// Adds when descriptors are rebuilt, which an interface of version 2 says.
+// Adds when descriptors are rebuilt, which an interface of a version after the first says.
 fn put_recover(out: &mut Bytes, version: u8, eager: bool) -> Result<(), NoMemory>
-    ensures { OnOk result (out.new ≡ out.old ++ (if version == 2 then codes " recover=" ++ recovery_word eager else [])) }
+    ensures { OnOk result (out.new ≡ out.old ++ (if version == 1 then [] else codes " recover=" ++ recovery_word eager)) }
 {
-    if version == 2 {
-        put(out, &[b" recover=", recovery_word(eager)])
-    } else {
+    if version == 1 {
         Ok(())
+    } else {
+        put(out, &[b" recover=", recovery_word(eager)])
     }
 }
 

@@ -143,7 +143,7 @@ tests_over ts k old o =
 
 -- before a further rule: a rule, or the end of them
 pub rule_choice : (rules : List Rule) (old : Reading) → part rule_reader (ruled rules) old ≡ part rule_reader (rule_or (with_rule rules) (ended rules)) old
-unfolding part_from step rules_at
+unfolding part_from step rules_at rule_or
 rule_choice rules old = by old.rest
   where
     by : (answers : List Answer) → part_from rule_reader old.end (ruled rules) answers ≡ part_from rule_reader old.end (rule_or (with_rule rules) (ended rules)) answers

@@ -18,6 +18,7 @@ use crate::words::{Fixed, Keyword, Wanted};
 use std::alloc::Global;
 
 /// Tests with commas between them, at least one, or what is asked of the rows, which is the last.
+#[tactic(auto, using(crate::proofs::ByToken::test_came, crate::proofs::ByToken::tests_over), unfolding(crate::specs::Grammar::Inside::States::tests_from))]
 pub fn tests<'a>(reader: &mut Reader<'a>, alloc: Global) -> Result<Tests<'a>, ParseError>
     ensures leads { (k : AllTests → RuleState) → LeadsOn rule_reader (part rule_reader (tests k) reader.old) result k reader.new }
     ensures fewer { OnOk result (length reader.new.rest ≤ length reader.old.rest) }
@@ -38,6 +39,7 @@ pub fn tests<'a>(reader: &mut Reader<'a>, alloc: Global) -> Result<Tests<'a>, Pa
 }
 
 // A test.
+#[tactic(auto, unfolding(crate::specs::Grammar::Inside::States::test))]
 fn test<'a>(reader: &mut Reader<'a>) -> Result<Test<'a>, ParseError>
     ensures leads { (k : ATest → RuleState) → LeadsOn rule_reader (part rule_reader (test k) reader.old) result k reader.new }
     ensures fewer { OnOk result (length reader.new.rest ≤ length reader.old.rest) }
@@ -53,6 +55,7 @@ fn test<'a>(reader: &mut Reader<'a>) -> Result<Test<'a>, ParseError>
 }
 
 // What is asked of the rows, if that comes.
+#[tactic(auto, unfolding(crate::specs::Grammar::Inside::States::rows_or))]
 fn rows<'a>(reader: &mut Reader<'a>, alloc: Global) -> Result<Option<RowTest<'a>>, ParseError>
     ensures leads { (k : ARowTest → RuleState) (other : RuleState) →
         LeadsOn rule_reader (part rule_reader (rows_or k other) reader.old) result (either_of k other) reader.new }
@@ -70,6 +73,7 @@ fn rows<'a>(reader: &mut Reader<'a>, alloc: Global) -> Result<Option<RowTest<'a>
 }
 
 // What is asked of the rows, after its first word at this place.
+#[tactic(auto, unfolding(crate::specs::Grammar::Inside::States::rows_rest))]
 fn rows_rest<'a>(
     reader: &mut Reader<'a>,
     alloc: Global,
@@ -86,7 +90,7 @@ fn rows_rest<'a>(
 }
 
 /// What holds of a row, with commas between, at least one thing.
-#[tactic(auto, using(crate::proofs::ByToken::pick_came, crate::proofs::ByToken::picks_over))]
+#[tactic(auto, using(crate::proofs::ByToken::pick_came, crate::proofs::ByToken::picks_over), unfolding(crate::specs::Grammar::Inside::States::picks))]
 pub fn picks<'a>(reader: &mut Reader<'a>, alloc: Global) -> Result<PickList<'a>, ParseError>
     ensures leads { (k : List APick → RuleState) → LeadsOn rule_reader (part rule_reader (picks k) reader.old) result k reader.new }
     ensures fewer { OnOk result (length reader.new.rest ≤ length reader.old.rest) }
@@ -100,6 +104,7 @@ pub fn picks<'a>(reader: &mut Reader<'a>, alloc: Global) -> Result<PickList<'a>,
 }
 
 // Something that holds of a row.
+#[tactic(auto, unfolding(crate::specs::Grammar::Inside::States::pick))]
 fn pick<'a>(reader: &mut Reader<'a>) -> Result<Pick<'a>, ParseError>
     ensures leads { (k : APick → RuleState) → LeadsOn rule_reader (part rule_reader (pick k) reader.old) result k reader.new }
     ensures fewer { OnOk result (length reader.new.rest ≤ length reader.old.rest) }

@@ -22,6 +22,7 @@ use std::alloc::Global;
 ///
 /// `Lex` and `Syntax` as for a whole text, at the first place where the tokens cease to be the front of rules; `NoMemory`
 /// where there was no memory for the rules.
+#[tactic(auto, using(crate::proofs::ByToken::rule_choice, crate::proofs::ByToken::rules_end))]
 pub fn parse_rules<'a>(reader: &mut Reader<'a>, alloc: Global) -> Result<RuleList<'a>, ParseError>
     ensures ends { EndsPart rule_reader (part rule_reader (ruled []) reader.old) result reader.new }
     ensures fewer { OnOk result (length reader.new.rest ≤ length reader.old.rest) }
@@ -37,6 +38,7 @@ pub fn parse_rules<'a>(reader: &mut Reader<'a>, alloc: Global) -> Result<RuleLis
 }
 
 // A rule, if one comes.
+#[tactic(auto, unfolding(crate::specs::Grammar::Inside::States::rule_or))]
 fn rule<'a>(reader: &mut Reader<'a>, alloc: Global) -> Result<Option<Rule<'a>>, ParseError>
     ensures leads { (go : ARule → RuleState) (other : RuleState) →
         LeadsOn rule_reader (part rule_reader (rule_or go other) reader.old) result (either_of go other) reader.new }
@@ -59,6 +61,7 @@ fn rule<'a>(reader: &mut Reader<'a>, alloc: Global) -> Result<Option<Rule<'a>>, 
 }
 
 // A rule after `refuse` at this place.
+#[tactic(auto, unfolding(crate::specs::Grammar::Inside::States::refuse_rest))]
 fn refuse<'a>(reader: &mut Reader<'a>, alloc: Global, at: usize) -> Result<Rule<'a>, ParseError>
     ensures leads { (go : ARule → RuleState) → LeadsOn rule_reader (part rule_reader (refuse_rest go at) reader.old) result go reader.new }
     ensures fewer { OnOk result (length reader.new.rest ≤ length reader.old.rest) }
@@ -70,6 +73,7 @@ fn refuse<'a>(reader: &mut Reader<'a>, alloc: Global, at: usize) -> Result<Rule<
 }
 
 // A rule after `wait` at this place.
+#[tactic(auto, unfolding(crate::specs::Grammar::Inside::States::wait_rest))]
 fn wait<'a>(reader: &mut Reader<'a>, alloc: Global, at: usize) -> Result<Rule<'a>, ParseError>
     ensures leads { (go : ARule → RuleState) → LeadsOn rule_reader (part rule_reader (wait_rest go at) reader.old) result go reader.new }
     ensures fewer { OnOk result (length reader.new.rest ≤ length reader.old.rest) }
@@ -80,6 +84,7 @@ fn wait<'a>(reader: &mut Reader<'a>, alloc: Global, at: usize) -> Result<Rule<'a
 }
 
 // A rule after `give` at this place.
+#[tactic(auto, unfolding(crate::specs::Grammar::Inside::States::give_rest))]
 fn give<'a>(reader: &mut Reader<'a>, alloc: Global, at: usize) -> Result<Rule<'a>, ParseError>
     ensures leads { (go : ARule → RuleState) → LeadsOn rule_reader (part rule_reader (give_rest go at) reader.old) result go reader.new }
     ensures fewer { OnOk result (length reader.new.rest ≤ length reader.old.rest) }
@@ -95,6 +100,7 @@ fn give<'a>(reader: &mut Reader<'a>, alloc: Global, at: usize) -> Result<Rule<'a
 }
 
 // A rule that gives a number, after the number.
+#[tactic(auto, unfolding(crate::specs::Grammar::Inside::States::given))]
 fn given<'a>(
     reader: &mut Reader<'a>,
     alloc: Global,
@@ -117,6 +123,7 @@ fn given<'a>(
 }
 
 // A rule after `give row`.
+#[tactic(auto, unfolding(crate::specs::Grammar::Inside::States::row_rest))]
 fn give_row<'a>(reader: &mut Reader<'a>, alloc: Global, at: usize) -> Result<Rule<'a>, ParseError>
     ensures leads { (go : ARule → RuleState) → LeadsOn rule_reader (part rule_reader (row_rest go at) reader.old) result go reader.new }
     ensures fewer { OnOk result (length reader.new.rest ≤ length reader.old.rest) }
@@ -128,6 +135,7 @@ fn give_row<'a>(reader: &mut Reader<'a>, alloc: Global, at: usize) -> Result<Rul
 }
 
 // A rule after `give first`.
+#[tactic(auto, unfolding(crate::specs::Grammar::Inside::States::first_rest))]
 fn give_first<'a>(reader: &mut Reader<'a>, alloc: Global, at: usize) -> Result<Rule<'a>, ParseError>
     ensures leads { (go : ARule → RuleState) → LeadsOn rule_reader (part rule_reader (first_rest go at) reader.old) result go reader.new }
     ensures fewer { OnOk result (length reader.new.rest ≤ length reader.old.rest) }
@@ -137,6 +145,7 @@ fn give_first<'a>(reader: &mut Reader<'a>, alloc: Global, at: usize) -> Result<R
 }
 
 // A rule after `give first` and the numbers by which a row is the least.
+#[tactic(auto, unfolding(crate::specs::Grammar::Inside::States::least_of))]
 fn least_of<'a>(
     reader: &mut Reader<'a>,
     alloc: Global,

@@ -30,6 +30,7 @@ pub fn terms<'a>(reader: &mut Reader<'a>, alloc: Global) -> Result<TermList<'a>,
 }
 
 /// A number.
+#[tactic(auto, unfolding(crate::specs::Grammar::Inside::States::term))]
 pub fn term<'a>(reader: &mut Reader<'a>) -> Result<Term<'a>, ParseError>
     ensures leads { (k : ATerm → RuleState) → LeadsOn rule_reader (part rule_reader (term k) reader.old) result k reader.new }
     ensures fewer { OnOk result (length reader.new.rest ≤ length reader.old.rest) }
@@ -111,6 +112,7 @@ fn named_operand<'a>(reader: &mut Reader<'a>) -> Result<Operand<'a>, ParseError>
 }
 
 /// How two numbers stand to each other.
+#[tactic(auto, unfolding(crate::specs::Grammar::Inside::States::relation))]
 pub fn relation(reader: &mut Reader<'_>) -> Result<Relation, ParseError>
     ensures leads { (k : ARelation → RuleState) → LeadsOn rule_reader (part rule_reader (relation k) reader.old) result k reader.new }
     ensures fewer { OnOk result (length reader.new.rest ≤ length reader.old.rest) }

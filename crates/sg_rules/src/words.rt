@@ -1,5 +1,7 @@
 // The words of rules, and what a token of a rule has to be.
-ghost use Rattle.std.specs.Prelude.{◌≡◌};
+ghost use Rattle.std.specs.Prelude.{◌≡◌, nat_eq};
+ghost use Rattle.std.specs.List.{list_any};
+ghost use Rattle.std.specs.Cmp.Lexicographic.{pointwise};
 ghost use Rattle.sg_rules.specs.Grammar.Words.{word_of, is_name};
 
 use sg_lex::{Token, TokenKind, TokenTest};
@@ -88,7 +90,14 @@ impl Keyword {
 pub fn is_name(word: &[u8]) -> bool
     ensures { result ≡ is_name word.now }
 {
-    !KEYWORDS.iter().any(|keyword| word == keyword.bytes())
+    !is_in(&KEYWORDS, word)
+}
+
+// Whether a word is one of these.
+fn is_in(keywords: &[Keyword], word: &[u8]) -> bool
+    ensures { result ≡ list_any (λ keyword. pointwise nat_eq word.now (word_of keyword)) keywords.now }
+{
+    keywords.iter().any(|keyword| word == keyword.bytes())
 }
 
 /// What a token of a rule has to be, whatever its place: a word of rules, or a mark.

@@ -2,13 +2,17 @@
 //!
 //! - `texts`: the texts of version 1 (`LOCK`, `EVENT`, `MM`, `RAMFS`, `SCHED`), events in version 2 (`EVENT2`) and timers
 //!   (`TIMER`), and a text of version 1 in version 2 (`in_version_2`)
+//! - `own`: texts of version 3 (`SEMAPHORE`, `RWLOCK`, `CHANNEL`, `LEASE`, `DEVICE`, `SOCKETS`)
 //!
 //! The tests:
 //! - `tokens`: the tokens of texts
-//! - `sentences`: which texts are sentences, and where the others fail
+//! - `sentences`: which texts are sentences, and where the others fail; `rules`: the statements and rules of version 3
 //! - `trees`: what the tree of a text keeps, and texts that are printed as they stand
 #![tactic(auto)]
 
+mod own;
+#[cfg(test)]
+mod rules;
 #[cfg(test)]
 mod sentences;
 mod texts;
@@ -17,4 +21,5 @@ mod tokens;
 #[cfg(test)]
 mod trees;
 
+pub use own::{CHANNEL, DEVICE, LEASE, RWLOCK, SEMAPHORE, SOCKETS};
 pub use texts::{EVENT, EVENT2, LOCK, MM, RAMFS, SCHED, TIMER, in_version_2};

@@ -6,16 +6,17 @@ use std::alloc::Global;
 use std::process::Abort;
 use std::test::Fail;
 
-// How a text is answered.
+/// How a text is answered.
 #[derive(Clone, Copy, Debug, PartialEq, Eq)]
-enum Answer {
+pub enum Answer {
     Tree,
     NoMemory,
     Lex(usize),
     Syntax(usize),
 }
 
-fn answer_on(alloc: Global, text: &[u8]) -> Answer {
+/// How a text is answered.
+pub fn answer_on(alloc: Global, text: &[u8]) -> Answer {
     match parse(alloc, text) {
         Ok(_) => Tree,
         Err(ParseError::NoMemory) => NoMemory,
@@ -24,10 +25,10 @@ fn answer_on(alloc: Global, text: &[u8]) -> Answer {
     }
 }
 
-// What stands after a front, and how the whole is answered; places count from the end of the front.
-type Case = (&'static [u8], Answer);
+/// What stands after a front, and how the whole is answered; places count from the end of the front.
+pub type Case = (&'static [u8], Answer);
 
-static ALONE: [Case; 24] = [
+static ALONE: [Case; 32] = [
     (b"", Syntax(0)),
     (b"service_global_info = {", Syntax(23)),
     (b"service_global_info = #", Lex(22)),
@@ -47,7 +48,24 @@ static ALONE: [Case; 24] = [
     (b"service_global_info={service=17", Syntax(29)),
     (b"service_global_info={service=x /* never", Lex(31)),
     // the version
-    (b"service_global_info={version=3,", Syntax(29)),
+    (b"service_global_info={version=3,", Syntax(31)),
+    (b"service_global_info={version=4,", Syntax(29)),
+    (b"service_global_info={version=03", Syntax(31)),
+    (b"service_global_info={version=23,", Syntax(29)),
+    (b"service_global_info={version=3,version=3", Syntax(31)),
+    (
+        b"service_global_info={version=3,service=sm_answer",
+        Syntax(39),
+    ),
+    (
+        b"service_global_info={version=3,service=desc_data_retval_sub",
+        Syntax(39),
+    ),
+    (
+        b"service_global_info={version=2,service=sm_answer",
+        Syntax(48),
+    ),
+    (b"service_global_info={service=sm_answer", Syntax(38)),
     (b"service_global_info={version=1,", Syntax(29)),
     (b"service_global_info={version=20,", Syntax(29)),
     (b"service_global_info={version=02", Syntax(31)),
@@ -73,7 +91,7 @@ static ALONE: [Case; 24] = [
 // The number of bytes of the facts of locks, which stand before the first statement.
 const HEAD: usize = 202;
 
-static BEHIND_FACTS: [Case; 38] = [
+static BEHIND_FACTS: [Case; 46] = [
     (b"", Tree),
     (b"sm_block(f); sm_block(f);", Tree),
     (
@@ -121,6 +139,15 @@ static BEHIND_FACTS: [Case; 38] = [
     (b"desc_data_retval(long, x) int f(a b);", Syntax(30)),
     (b"desc_data_retval_sub(long, x) f(a b);", Syntax(20)),
     (b"desc_data f(a b);", Syntax(0)),
+    // words of version 3
+    (b"sm_external(f);", Syntax(11)),
+    (b"desc_data_most(x, 9);", Syntax(14)),
+    (b"desc_data_unique(x);", Syntax(16)),
+    (b"sm_answer(f) { give 1; }", Syntax(9)),
+    (b"int sm_answer(spdid_t c);", Tree),
+    (b"sm_block(sm_external);", Tree),
+    (b"sm_state(desc_data_most, desc_data_unique);", Tree),
+    (b"refuse wait(give if, where *row);", Tree),
 ];
 
 // The number of bytes of the facts of events in version 2, and of these up to how descriptors are rebuilt.
@@ -128,7 +155,7 @@ const HEAD_2: usize = 246;
 
 const HEAD_2_UP_TO_RECOVERY: usize = 216;
 
-static BEHIND_FACTS_2: [Case; 9] = [
+static BEHIND_FACTS_2: [Case; 17] = [
     (b"", Tree),
     (b"desc_data_retval_sub(long, x) f(a b);", Tree),
     (b"desc_data_retval_sub(char **, x) f(a b);", Tree),
@@ -138,6 +165,15 @@ static BEHIND_FACTS_2: [Case; 9] = [
     (b"int f(a desc_data_retval_sub);", Syntax(8)),
     (b"int f(desc_data_retval_sub b);", Syntax(6)),
     (b"eager demand(version desc_recover);", Tree),
+    // words of version 3
+    (b"sm_external(f);", Syntax(11)),
+    (b"desc_data_most(x, 9);", Syntax(14)),
+    (b"desc_data_unique(x);", Syntax(16)),
+    (b"sm_answer(f) { give 1; }", Syntax(9)),
+    (b"int sm_answer(spdid_t c);", Tree),
+    (b"sm_block(sm_external);", Tree),
+    (b"sm_state(desc_data_most, desc_data_unique);", Tree),
+    (b"refuse wait(give if, where *row);", Tree),
 ];
 
 static BEHIND_FACTS_OF_BOTH: [Case; 8] = [
@@ -151,8 +187,8 @@ static BEHIND_FACTS_OF_BOTH: [Case; 8] = [
     (b", };", Syntax(2)),
 ];
 
-// Asserts that each case is answered so after the front.
-fn try_each(rt: &impl Abort, alloc: Global, front: &[u8], cases: &[Case]) -> Result<(), Fail> {
+/// Asserts that each case is answered so after the front.
+pub fn try_each(rt: &impl Abort, alloc: Global, front: &[u8], cases: &[Case]) -> Result<(), Fail> {
     for (tail, want) in cases {
         let mut text = Vec::from_slice(alloc, front)?;
         text.extend_from_slice(tail)?;

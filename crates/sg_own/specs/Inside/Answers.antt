@@ -2,7 +2,8 @@
 use Rattle.std.specs.Prelude.{ℕ, ◌≡◌, Some}
 use Rattle.sg_check.specs.sg_check_statements.sg_parse.declared.tree.Tree.{Tree}
 use Rattle.sg_describe.specs.DescribedText.{described_of_text}
-use Rattle.sg_safe.specs.Reasons.{unsafe_in}
+use Rattle.sg_safe.specs.Reasons.{IsReason, unsafe_in}
+use Rattle.sg_safe.specs.declared.reason.Unsafe.{Unsafe}
 use Rattle.sg_own.specs.declared.fault.OwnError.{OwnError}
 use Rattle.sg_own.specs.declared.fault.OwnError.TheVariants.{NoMemory, Fault}
 use Rattle.sg_own.specs.declared.fault.OwnFault.{OwnFault}
@@ -14,7 +15,7 @@ use Rattle.sg_own.specs.Faults.{IsOwnFault}
 pub record IsToldFault (tree : Tree) (fault : OwnFault) : Type 0 where
   pub first : IsOwnFault tree fault.kind fault.at
   pub reason : elim fault.kind as (λ kind. Type 0) [
-    | Safety kind ↦ fault.reason ≡ unsafe_in (described_of_text tree)
+    | Safety kind ↦ (reason : Unsafe) × (fault.reason ≡ Some reason) × IsReason (described_of_text tree) (unsafe_in (described_of_text tree)) reason
     | _ ↦ Unit {0}
   ]
 

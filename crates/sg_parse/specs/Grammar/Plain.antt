@@ -9,7 +9,9 @@ use Rattle.sg_parse.specs.declared.tree.Ret.TheVariants.{Plain, Set, Add, Sub}
 use Rattle.sg_parse.specs.declared.tree.TypeName.{TypeName}
 use Rattle.sg_parse.specs.declared.tree.Param.{Param}
 use Rattle.sg_parse.specs.declared.tree.Tree.{Tree}
-use Rattle.sg_rules.specs.Grammar.Plain.{plain_name, plain_rules}
+use Rattle.sg_rules.specs.Grammar.Plain.{plain_rules}
+-- a name or a number at place 0
+pub use Rattle.sg_rules.specs.Grammar.Plain.{plain_name}
 
 -- a type with each name at place 0
 abbrev pub plain_type : TypeName → TypeName

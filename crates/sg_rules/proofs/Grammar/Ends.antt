@@ -67,7 +67,7 @@ zero_given : Rule
 zero_given = Give 0 (record { first = Number (record { bytes = codes "0"; at = 0 }); more = None }) no_tests
 
 completes : (s : RuleState) (f : List RulePiece → List RulePiece) → HasRead false s f → Completes s
-unfolding step zero_given
+unfolding step zero_given term give_rest given
 completes (ended rules) f h = absurd (let e : false ≡ true = h.0 in cc)
 completes (fork p s other) f h =
     let c = completes s _ h.0 in

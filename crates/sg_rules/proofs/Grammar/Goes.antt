@@ -28,7 +28,7 @@ use Rattle.sg_rules.specs.declared.tree.Rule.TheVariants.{Refuse, Wait, Give, Gi
 use Rattle.sg_rules.specs.Grammar.Words.{word_of}
 use Rattle.sg_rules.specs.Grammar.Pieces.{RulePiece, fixed, word, word_at, name}
 use Rattle.sg_rules.specs.Grammar.Sentence.{operand_pieces, operator_word, relation_pieces, what_pieces, HasTests, IsRule}
-use Rattle.sg_rules.specs.Grammar.Inside.States.{RuleState, fork, take, termed, picked, tested, ruled, operand, after_first, term, relation, test, what, pick, picks, rows_rest, rows_or, tests_from, tests, if_rest, else_rest, no_tests, given, least_of, terms, due, want, with_rule}
+use Rattle.sg_rules.specs.Grammar.Inside.States.{RuleState, fork, take, termed, picked, tested, ruled, operand, after_first, term, relation, test, what, pick, picks, rows_rest, rows_or, tests_from, tests, if_rest, else_rest, refuse_rest, wait_rest, no_tests, given, row_rest, terms, least_of, first_rest, give_rest, due, want, with_rule}
 use Rattle.sg_rules.proofs.Grammar.Basics.{apart, misses, spelt, IsOwn}
 use Rattle.sg_rules.proofs.Grammar.Steps.{Goes, GoesOn, there, onward}
 use Rattle.sg_rules.proofs.Grammar.Thens.{each, each_more, more_then, term_then, test_then, pick_then, rows_then, tests_of, tests_then, if_of, where_then, rule_then, rules_then}
@@ -105,11 +105,13 @@ after_goes first (Some (Greatest, second)) k qs end nor g =
     fork_past refl (fork_past refl (fork_past refl (fork_goes (operand_goes second (λ x. k (record { first = first; more = Some (Greatest, x) })) g))))
 
 term_goes : (t : Term) (k : Term → RuleState) (qs : List RulePiece) (end : RuleState) → NoOperator qs → GoesOn (k t) qs end → GoesOn (term k) (term_then t qs) end
+unfolding term
 term_goes t k qs end nor g = operand_goes t.first (after_first k) (after_goes t.first t.more k qs end nor g)
 
 -- how two numbers stand to each other is said before a number, and is no operator
 relation_goes : (o : Relation) (k : Relation → RuleState) (qs : List RulePiece) (end : RuleState) → Past (Key Not) qs → GoesOn (k o) qs end
     → GoesOn (relation k) (relation_pieces o ++ qs) end
+unfolding relation
 relation_goes Is k qs end past g = fork_goes (fork_over qs past g)
 relation_goes IsNot k qs end past g = fork_goes (fork_goes g)
 relation_goes Below k qs end past g = fork_past refl (fork_goes g)
@@ -127,6 +129,7 @@ related_goes o right k qs end nor g =
     relation_goes o (λ o. term (k o)) (term_then right qs) end (operand_past Not refl refl refl right.first (more_then right.more qs)) (term_goes right (k o) qs end nor g)
 
 test_goes : (t : Test) (k : Test → RuleState) (qs : List RulePiece) (end : RuleState) → NoOperator qs → GoesOn (k t) qs end → GoesOn (test k) (test_then t qs) end
+unfolding test
 test_goes t k qs end nor g =
     term_goes t.left (λ left. relation (λ o. term (λ right. k (record { left = left; relation = o; right = right })))) (relation_pieces t.relation ++ term_then t.right qs) end
     (relation_no_operator t.relation (term_then t.right qs))
@@ -158,6 +161,7 @@ terms_goes (t ∷ more) k qs end some past nor g =
     term_goes t (λ x. termed (x ∷ []) k) (each_more term_then more qs) end (more_no_operator term_then more qs nor) (termed_goes more (t ∷ []) k qs end past nor g)
 
 pick_goes : (p : Pick) (k : Pick → RuleState) (qs : List RulePiece) (end : RuleState) → NoOperator qs → GoesOn (k p) qs end → GoesOn (pick k) (pick_then p qs) end
+unfolding pick
 pick_goes p k qs end nor g = by p.what (related_goes p.relation p.right (λ o right. k (record { what = p.what; relation = o; right = right })) qs end nor g)
   where
     by : (w : What) → GoesOn (relation (λ o. term (λ right. k (record { what = w; relation = o; right = right })))) (relation_pieces p.relation ++ term_then p.right qs) end
@@ -179,6 +183,7 @@ picked_goes (p ∷ more) ps k qs end past nor g =
 
 picks_goes : (ps : List Pick) (k : List Pick → RuleState) (qs : List RulePiece) (end : RuleState) → ps ≢ [] → Past Comma qs → NoOperator qs → GoesOn (k ps) qs end
     → GoesOn (picks k) (each pick_then ps qs) end
+unfolding picks
 picks_goes [] k qs end some past nor g = absurd (some refl)
 picks_goes (p ∷ more) k qs end some past nor g =
     pick_goes p (λ x. picked (x ∷ []) k) (each_more pick_then more qs) end (more_no_operator pick_then more qs nor) (picked_goes more (p ∷ []) k qs end past nor g)
@@ -187,6 +192,7 @@ picks_goes (p ∷ more) k qs end some past nor g =
 
 rows_goes : (rows : RowTest) (k : RowTest → RuleState) (other : RuleState) (qs : List RulePiece) (end : RuleState) → rows.picks ≢ [] → Past Comma qs → NoOperator qs → GoesOn (k rows) qs end
     → GoesOn (rows_or k other) (rows_then rows qs) end
+unfolding rows_or rows_rest
 rows_goes rows k other qs end some past nor g = by rows.some (picks_goes rows.picks (λ ps. k (record { at = rows.at; some = rows.some; picks = ps })) qs end some past nor g)
   where
     by : (b : Bool) → GoesOn (picks (λ ps. k (record { at = rows.at; some = b; picks = ps }))) (each pick_then rows.picks qs) end
@@ -197,6 +203,7 @@ rows_goes rows k other qs end some past nor g = by rows.some (picks_goes rows.pi
 -- a test before which something could be asked of the rows
 next_test : (t : Test) (before : List Test) (k : Tests → RuleState) (qs : List RulePiece) (end : RuleState) → NoOperator qs → GoesOn (tested (before ++ t ∷ []) k) qs end
     → GoesOn (tests_from before k) (test_then t qs) end
+unfolding tests_from rows_or
 next_test t before k qs end nor g =
     take_over (test_then t qs) (operand_past SomeRow refl refl refl t.left.first (more_then t.left.more (relation_pieces t.relation ++ term_then t.right qs)))
     (take_over (test_then t qs) (operand_past NoRow refl refl refl t.left.first (more_then t.left.more (relation_pieces t.relation ++ term_then t.right qs)))
@@ -219,6 +226,7 @@ tested_goes (t ∷ more) ts k qs end past nor g =
 -- tests, of which the last is what is asked of the rows
 asked_goes : (more ts : List Test) (rows : RowTest) (k : Tests → RuleState) (qs : List RulePiece) (end : RuleState) → rows.picks ≢ [] → Past Comma qs → NoOperator qs
     → GoesOn (k (record { tests = ts ++ more; rows = Some rows })) qs end → GoesOn (tested ts k) (each_more test_then more (fixed Comma ∷ rows_then rows qs)) end
+unfolding tests_from
 asked_goes [] ts rows k qs end some past nor g =
     onward {next = tests_from ts k} (inl (refl, refl))
     (rows_goes rows (λ x. k (record { tests = ts; rows = Some x })) (test (λ t. tested (ts ++ t ∷ []) k)) qs end some past nor
@@ -231,6 +239,7 @@ asked_goes (t ∷ more) ts rows k qs end some past nor g =
 
 tests_go : (ts : List Test) (rows : Option RowTest) (k : Tests → RuleState) (qs : List RulePiece) (end : RuleState) → HasTests (record { tests = ts; rows = rows })
     → Past Comma qs → NoOperator qs → GoesOn (k (record { tests = ts; rows = rows })) qs end → GoesOn (tests k) (tests_of ts rows qs) end
+unfolding tests_from
 tests_go [] None k qs end some past nor g = absurd (some refl)
 tests_go (t ∷ more) None k qs end some past nor g =
     next_test t [] k (each_more test_then more qs) end (more_no_operator test_then more qs nor) (tested_goes more (t ∷ []) k qs end past nor g)
@@ -254,6 +263,7 @@ else_rest_goes code k qs end g = fork_goes (take_goes code tt (fork_goes g))
 given_goes : (go : Rule → RuleState) (at : ℕ) (t : Term) (ts : List Test) (rows : Option RowTest) (qs : List RulePiece) (end : RuleState)
     → IsRule (Give at t (record { tests = ts; rows = rows })) → GoesOn (go (Give at t (record { tests = ts; rows = rows }))) qs end
     → GoesOn (given go at t) (if_of ts rows (fixed Semicolon ∷ qs)) end
+unfolding given
 given_goes go at t [] None qs end is g = fork_past refl (fork_goes g)
 given_goes go at t (x ∷ ts) None qs end is g =
     fork_goes (if_rest_goes (record { tests = x ∷ ts; rows = None }) (λ when. go (Give at t when)) qs end (λ e. cc) g)
@@ -272,6 +282,7 @@ given_no_operator (x ∷ ts) (Some rows) qs = (refl, refl, refl, refl)
 -- numbers by which a row is the least, and what follows them
 least_goes : (go : Rule → RuleState) (at : ℕ) (terms : List Term) (ps : List Pick) (code : Spelling) (qs : List RulePiece) (end : RuleState)
     → GoesOn (go (GiveFirst at terms ps code)) qs end → GoesOn (least_of go at terms) (where_then ps (word Else ∷ name code ∷ fixed Semicolon ∷ qs)) end
+unfolding least_of
 least_goes go at terms [] code qs end g = fork_past refl (else_rest_goes code (λ c. go (GiveFirst at terms [] c)) qs end g)
 least_goes go at terms (p ∷ ps) code qs end g =
     fork_goes (picks_goes (p ∷ ps) (λ ps. else_rest (λ c. go (GiveFirst at terms ps c))) (word Else ∷ name code ∷ fixed Semicolon ∷ qs) end (λ e. cc) refl (refl, refl, refl, refl)
@@ -282,6 +293,7 @@ where_past [] qs = (refl, (refl, refl, refl, refl))
 where_past (p ∷ ps) qs = (refl, (refl, refl, refl, refl))
 
 rule_goes : (x : Rule) (rules : List Rule) (qs : List RulePiece) (end : RuleState) → IsRule x → GoesOn (with_rule rules x) qs end → GoesOn (ruled rules) (rule_then x qs) end
+unfolding refuse_rest wait_rest give_rest row_rest first_rest
 rule_goes (Refuse at code when) rules qs end is g =
     onward (inl (at, refl, refl)) (take_goes code tt (fork_goes (if_rest_goes when (λ w. with_rule rules (Refuse at code w)) qs end is g)))
 rule_goes (Wait at when) rules qs end is g =

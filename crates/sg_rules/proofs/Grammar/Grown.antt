@@ -81,6 +81,7 @@ operand_read may k f h = (
 
 term_read : (may : Bool) (k : Term → RuleState) (f : List RulePiece → List RulePiece) → ((t : Term) → HasRead false (k t) (λ r. f (term_then t r)))
     → HasRead may (term k) f
+unfolding term
 term_read may k f h = operand_read may (after_first k) f (λ first. (more first Plus, (more first Minus, (more first Least, (more first Greatest, alone first)))))
   where
     more : (first : Operand) (o : Operator)
@@ -94,6 +95,7 @@ term_read may k f h = operand_read may (after_first k) f (λ first. (more first 
 
 relation_read : (may : Bool) (k : Relation → RuleState) (f : List RulePiece → List RulePiece) → ((o : Relation) → HasRead false (k o) (λ r. f (relation_pieces o ++ r)))
     → HasRead may (relation k) f
+unfolding relation
 relation_read may k f h =
     ((h IsNot, weaker (k Is) (λ r. f (word is_word ∷ r)) (h Is)), (h Below, (h Above, (refl, refl))))
 
@@ -105,6 +107,7 @@ related_read k f h = relation_read false (λ o. term (k o)) f (λ o. term_read f
 
 test_read : (may : Bool) (k : Test → RuleState) (f : List RulePiece → List RulePiece) → ((t : Test) → HasRead false (k t) (λ r. f (test_then t r)))
     → HasRead may (test k) f
+unfolding test
 test_read may k f h =
     term_read may (λ left. relation (λ o. term (λ right. k (record { left = left; relation = o; right = right })))) f
     (λ left. related_read (λ o right. k (record { left = left; relation = o; right = right })) (λ r. f (term_then left r))
@@ -112,6 +115,7 @@ test_read may k f h =
 
 pick_read : (may : Bool) (k : Pick → RuleState) (f : List RulePiece → List RulePiece) → ((p : Pick) → HasRead false (k p) (λ r. f (pick_then p r)))
     → HasRead may (pick k) f
+unfolding pick
 pick_read may k f h = (λ n. asked (row_state n.at), (λ n. asked (Field n), (refl, refl)))
   where
     asked : (w : What) → HasRead false (relation (λ o. term (λ right. k (record { what = w; relation = o; right = right })))) (λ r. f (what_pieces w ++ r))
@@ -121,6 +125,7 @@ pick_read may k f h = (λ n. asked (row_state n.at), (λ n. asked (Field n), (re
 
 picks_read : (may : Bool) (k : List Pick → RuleState) (f : List RulePiece → List RulePiece)
     → ((ps : List Pick) → ps ≢ [] → HasRead false (k ps) (λ r. f (each pick_then ps r))) → ((ps : List Pick) → Opens (k ps)) → HasRead may (picks k) f
+unfolding picks
 picks_read may k f h opens = pick_read may (λ p. picked (p ∷ []) k) f (λ p. (λ more. h (p ∷ more) (full p more), opens))
 
 terms_read : (may : Bool) (k : List Term → RuleState) (f : List RulePiece → List RulePiece)
@@ -132,6 +137,7 @@ terms_read may k f h opens = term_read may (λ t. termed (t ∷ []) k) f (λ t. 
 rows_rest_read : (k : RowTest → RuleState) (some : Bool) (at : ℕ) (f : List RulePiece → List RulePiece)
     → ((ps : List Pick) → ps ≢ [] → HasRead false (k (record { at = at; some = some; picks = ps })) (λ r. f (word Row ∷ word Where ∷ each pick_then ps r)))
     → ((rows : RowTest) → Opens (k rows)) → HasRead false (rows_rest k some at) f
+unfolding rows_rest
 rows_rest_read k some at f h opens = (
   (
     picks_read false (λ ps. k (record { at = at; some = some; picks = ps })) (λ r. f (word Row ∷ word Where ∷ r)) h (λ ps. opens (record { at = at; some = some; picks = ps })),
@@ -143,6 +149,7 @@ rows_rest_read k some at f h opens = (
 rows_or_read : (may : Bool) (k : RowTest → RuleState) (other : RuleState) (f : List RulePiece → List RulePiece)
     → ((rows : RowTest) → rows.picks ≢ [] → HasRead false (k rows) (λ r. f (rows_then rows r)))
     → ((rows : RowTest) → Opens (k rows)) → HasRead true other f → HasRead may (rows_or k other) f
+unfolding rows_or
 rows_or_read may k other f h opens g = (
   λ n. rows_rest_read k true n.at (λ r. f (word_at SomeRow n.at ∷ r)) (λ ps some. h (record { at = n.at; some = true; picks = ps }) some) opens,
   (λ n. rows_rest_read k false n.at (λ r. f (word_at NoRow n.at ∷ r)) (λ ps some. h (record { at = n.at; some = false; picks = ps }) some) opens, g),
@@ -157,6 +164,7 @@ record AfterTests (before : List Test) (k : Tests → RuleState) (f : List RuleP
   opens : (when : Tests) → Opens (k when)
 
 tests_from_read : (may : Bool) (before : List Test) (k : Tests → RuleState) (f : List RulePiece → List RulePiece) → AfterTests before k f → HasRead may (tests_from before k) f
+unfolding tests_from
 tests_from_read may before k f a =
     rows_or_read may (λ rows. k (record { tests = before; rows = Some rows })) (test (λ t. tested (before ++ t ∷ []) k)) f
     a.now (λ rows. a.opens (record { tests = before; rows = Some rows }))
@@ -191,15 +199,18 @@ else_rest_read may k f h = ((λ code. (h code, (refl, refl)), (refl, refl)), (re
 -- before a rule after its first word, where the rule is to be read so
 module _ (go : Rule → RuleState) (f : List RulePiece → List RulePiece) (h : (x : Rule) → IsRule x → HasRead false (go x) (λ r. f (rule_then x r))) where
   refuse_read : (at : ℕ) → HasRead false (refuse_rest go at) (λ r. f (word_at refuse_word at ∷ r))
+  unfolding refuse_rest
   refuse_read at = (
     λ code. (if_rest_read false (λ when. go (Refuse at code when)) (λ r. f (word_at refuse_word at ∷ name code ∷ word If ∷ r)) (λ when some. h (Refuse at code when) some), (refl, refl)),
     (refl, refl),
   )
 
   wait_read : (at : ℕ) → HasRead false (wait_rest go at) (λ r. f (word_at wait_word at ∷ r))
+  unfolding wait_rest
   wait_read at = (if_rest_read false (λ when. go (Wait at when)) (λ r. f (word_at wait_word at ∷ word If ∷ r)) (λ when some. h (Wait at when) some), (refl, refl))
 
   given_read : (at : ℕ) (t : Term) → HasRead false (given go at t) (λ r. f (word_at give_word at ∷ term_then t r))
+  unfolding given
   given_read at t = (
     if_rest_read false (λ when. go (Give at t when)) (λ r. f (word_at give_word at ∷ term_then t (word If ∷ r))) (λ when some. by when.tests when.rows some),
     (h (Give at t no_tests) tt, (refl, refl)),
@@ -213,6 +224,7 @@ module _ (go : Rule → RuleState) (f : List RulePiece → List RulePiece) (h : 
       by (x ∷ ts) (Some rows) some = h (Give at t (record { tests = x ∷ ts; rows = Some rows })) some
 
   row_read : (at : ℕ) → HasRead false (row_rest go at) (λ r. f (word_at give_word at ∷ word Row ∷ r))
+  unfolding row_rest
   row_read at = (
     picks_read false (λ ps. else_rest (λ code. go (GiveRow at ps code))) (λ r. f (word_at give_word at ∷ word Row ∷ word Where ∷ r))
         (λ ps some. else_rest_read false (λ code. go (GiveRow at ps code)) (λ r. f (word_at give_word at ∷ word Row ∷ word Where ∷ each pick_then ps r)) (λ code. h (GiveRow at ps code) some))
@@ -221,6 +233,7 @@ module _ (go : Rule → RuleState) (f : List RulePiece → List RulePiece) (h : 
   )
 
   first_read : (at : ℕ) → HasRead false (first_rest go at) (λ r. f (word_at give_word at ∷ word First ∷ r))
+  unfolding first_rest least_of
   first_read at =
       terms_read false (least_of go at) (λ r. f (word_at give_word at ∷ word First ∷ r))
       (λ ts some. (
@@ -238,6 +251,7 @@ module _ (go : Rule → RuleState) (f : List RulePiece → List RulePiece) (h : 
       by ts some (p ∷ ps) any code = h (GiveFirst at ts (p ∷ ps) code) some
 
   give_read : (at : ℕ) → HasRead false (give_rest go at) (λ r. f (word_at give_word at ∷ r))
+  unfolding give_rest
   give_read at = (row_read at, (first_read at, term_read true (given go at) (λ r. f (word_at give_word at ∷ r)) (λ t. given_read at t)))
 
 -- ---- one piece more

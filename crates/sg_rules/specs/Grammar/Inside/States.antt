@@ -82,6 +82,9 @@ due what s = fork what s dead
 abbrev pub want : Wanted → (Spelling → RuleState) → RuleState
 want what k = take what k dead
 
+-- A part that has many beginnings and ends stays closed in the proofs of those that it is a part of: a test has two numbers, and would go on in
+-- thousands of ways.
+
 -- before an operand that is an argument, or that a name says
 abbrev pub named_operand : (Operand → RuleState) → RuleState
 named_operand k =
@@ -104,7 +107,7 @@ after_first k first =
     operator_or (λ o. operand (λ second. k (record { first = first; more = Some (o, second) }))) (k (record { first = first; more = None }))
 
 -- before a number
-abbrev pub term : (Term → RuleState) → RuleState
+unfoldable pub term : (Term → RuleState) → RuleState
 term k = operand (after_first k)
 
 -- after `is`
@@ -112,11 +115,11 @@ abbrev pub is_or_not : (Relation → RuleState) → RuleState
 is_or_not k = fork (Key Not) (k IsNot) (k Is)
 
 -- before how two numbers stand to each other
-abbrev pub relation : (Relation → RuleState) → RuleState
+unfoldable pub relation : (Relation → RuleState) → RuleState
 relation k = fork (Key is_word) (is_or_not k) (fork (Key below_word) (k Below) (due (Key above_word) (k Above)))
 
 -- before a test
-abbrev pub test : (Test → RuleState) → RuleState
+unfoldable pub test : (Test → RuleState) → RuleState
 test k = term (λ left. relation (λ r. term (λ right. k (record { left = left; relation = r; right = right }))))
 
 -- before what is asked of a row
@@ -124,23 +127,23 @@ abbrev pub what : (What → RuleState) → RuleState
 what k = take (a_word state_word) (λ n. k (row_state n.at)) (want a_name (λ n. k (Field n)))
 
 -- before something that holds of a row
-abbrev pub pick : (Pick → RuleState) → RuleState
+unfoldable pub pick : (Pick → RuleState) → RuleState
 pick k = what (λ w. relation (λ r. term (λ right. k (record { what = w; relation = r; right = right }))))
 
 -- before all that holds of a row
-abbrev pub picks : (List Pick → RuleState) → RuleState
+unfoldable pub picks : (List Pick → RuleState) → RuleState
 picks k = pick (λ p. picked (p ∷ []) k)
 
 -- after the first word of what is asked of the rows
-abbrev pub rows_rest : (RowTest → RuleState) → Bool → ℕ → RuleState
+unfoldable pub rows_rest : (RowTest → RuleState) → Bool → ℕ → RuleState
 rows_rest k some at = due (Key Row) (due (Key Where) (picks (λ ps. k (record { at = at; some = some; picks = ps }))))
 
 -- before what is asked of the rows and then the state of it, or as the second state
-abbrev pub rows_or : (RowTest → RuleState) → RuleState → RuleState
+unfoldable pub rows_or : (RowTest → RuleState) → RuleState → RuleState
 rows_or k other = take (a_word SomeRow) (λ n. rows_rest k true n.at) (take (a_word NoRow) (λ n. rows_rest k false n.at) other)
 
 -- after these tests, before a further one or what is asked of the rows
-abbrev pub tests_from : List Test → (Tests → RuleState) → RuleState
+unfoldable pub tests_from : List Test → (Tests → RuleState) → RuleState
 tests_from before k = rows_or (λ rows. k (record { tests = before; rows = Some rows })) (test (λ t. tested (before ++ t ∷ []) k))
 
 -- before tests
@@ -156,11 +159,11 @@ abbrev pub else_rest : (Spelling → RuleState) → RuleState
 else_rest k = due (Key Else) (want a_name (λ code. due Semicolon (k code)))
 
 -- after `refuse`
-abbrev pub refuse_rest : (Rule → RuleState) → ℕ → RuleState
+unfoldable pub refuse_rest : (Rule → RuleState) → ℕ → RuleState
 refuse_rest go at = want a_name (λ code. due (Key If) (if_rest (λ when. go (Refuse at code when))))
 
 -- after `wait`
-abbrev pub wait_rest : (Rule → RuleState) → ℕ → RuleState
+unfoldable pub wait_rest : (Rule → RuleState) → ℕ → RuleState
 wait_rest go at = due (Key If) (if_rest (λ when. go (Wait at when)))
 
 -- no test
@@ -168,11 +171,11 @@ abbrev pub no_tests : Tests
 no_tests = record { tests = []; rows = None }
 
 -- after the number of what is given
-abbrev pub given : (Rule → RuleState) → ℕ → Term → RuleState
+unfoldable pub given : (Rule → RuleState) → ℕ → Term → RuleState
 given go at t = fork (Key If) (if_rest (λ when. go (Give at t when))) (due Semicolon (go (Give at t no_tests)))
 
 -- after `give row`
-abbrev pub row_rest : (Rule → RuleState) → ℕ → RuleState
+unfoldable pub row_rest : (Rule → RuleState) → ℕ → RuleState
 row_rest go at = due (Key Where) (picks (λ ps. else_rest (λ code. go (GiveRow at ps code))))
 
 -- before numbers
@@ -180,20 +183,20 @@ abbrev pub terms : (List Term → RuleState) → RuleState
 terms k = term (λ t. termed (t ∷ []) k)
 
 -- after the numbers by which a row is the least
-abbrev pub least_of : (Rule → RuleState) → ℕ → List Term → RuleState
+unfoldable pub least_of : (Rule → RuleState) → ℕ → List Term → RuleState
 least_of go at ts =
     fork (Key Where) (picks (λ ps. else_rest (λ code. go (GiveFirst at ts ps code)))) (else_rest (λ code. go (GiveFirst at ts [] code)))
 
 -- after `give first`
-abbrev pub first_rest : (Rule → RuleState) → ℕ → RuleState
+unfoldable pub first_rest : (Rule → RuleState) → ℕ → RuleState
 first_rest go at = terms (least_of go at)
 
 -- after `give`
-abbrev pub give_rest : (Rule → RuleState) → ℕ → RuleState
+unfoldable pub give_rest : (Rule → RuleState) → ℕ → RuleState
 give_rest go at = fork (Key Row) (row_rest go at) (fork (Key First) (first_rest go at) (term (given go at)))
 
 -- before a rule and then the state of it, or as the second state
-abbrev pub rule_or : (Rule → RuleState) → RuleState → RuleState
+unfoldable pub rule_or : (Rule → RuleState) → RuleState → RuleState
 rule_or go other =
     take (a_word refuse_word) (λ n. refuse_rest go n.at) (take (a_word wait_word) (λ n. wait_rest go n.at)
     (take (a_word give_word) (λ n. give_rest go n.at) other))
