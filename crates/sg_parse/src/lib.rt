@@ -21,11 +21,9 @@ mod words;
 
 pub use laws::{one_answer, one_tree};
 pub use parser::parse;
-<<<<<<< HEAD
-pub use sg_lex::{LexFault, Lexer, Spelled, SpelledList, TokenKind, first_token, number_of_digits};
-=======
-pub use sg_lex::{LexFault, Lexer, Spelled, SpelledList, Token, TokenKind, first_token};
->>>>>>> 9962dae5edfba0c76653fdcfa4d97d79ec92a9e8
+pub use sg_lex::{
+    LexFault, Lexer, Spelled, SpelledList, Token, TokenKind, first_token, number_of_digits,
+};
 pub use sg_rules::{
     Keyword, Operand, Operator, ParseError, Pick, PickList, Relation, RowTest, Rule, RuleList,
     Term, TermList, Test, TestList, Tests, What,
