@@ -35,7 +35,7 @@ impl Judge for Pairs<'_> {
                     None
                 }
             }
-            Statement::One { .. } | Statement::Proto { .. } => None,
+            _ => None,
         }
     }
 }
