@@ -120,13 +120,14 @@ fn unknown_name(protos: &Protos, statement: &Statement) -> Option<usize>
     ensures { result ≡ unknown_name protos.now statement.now }
 {
     match statement {
-        Statement::One { fun, .. } => bare(protos, fun),
+        Statement::One { fun, .. } | Statement::External { fun } | Statement::Answer { fun, .. } =>
+            { bare(protos, fun) }
         Statement::Two {
             word,
             first,
             second,
         } => bare(protos, first).or(bare_second(protos, word.slice, second)),
-        Statement::Proto { .. } => None,
+        _ => None,
     }
 }
 

@@ -114,7 +114,7 @@ fn pair_in(word: &[u8], protos: &[Proto], statement: &Statement) -> Option<(u8, 
                 None
             }
         }
-        Statement::One { .. } | Statement::Proto { .. } => None,
+        _ => None,
     }
 }
 

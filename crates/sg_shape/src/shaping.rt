@@ -22,6 +22,7 @@ use crate::flaws::place_of;
 use crate::limits::MOST_PARAMS;
 use crate::making::made;
 use crate::protos::{Proto, protos_of};
+use crate::rules::first_extra_rule;
 use crate::uses::{FieldUse, uses_of};
 use sg_check_statements::Tree;
 use sg_facts::{MOST_FUNS, Shape};
@@ -102,9 +103,10 @@ fn within_limits(tree: &Tree, protos: &[Proto], next: Option<usize>) -> Result<(
     requires next { next ≡ option_map (λ u. u.name.at) (slice_get (first_uses (uses_of tree.now.statements)) most_fields) }
     ensures { MatchResult result (λ _. place_of tree.now limit ≡ None) (IsFirstShapeError tree.now) }
 {
+    let statements = tree.statements.as_slice();
     unless(
         ShapeFaultKind::Limit,
-        extra_proto(protos).or(first_long(protos).or(next)),
+        extra_proto(protos).or(first_long(protos).or(next.or(first_extra_rule(statements)))),
     )
 }
 
