@@ -2,6 +2,7 @@ pub mod Places
 pub mod Names
 pub mod Naming
 pub mod FirstUses
+pub mod Data
 pub mod OnFields
 pub mod Listing
 pub mod Clear
