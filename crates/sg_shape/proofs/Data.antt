@@ -59,27 +59,30 @@ told name kinds leaves effects creation terminal block wakeup query all uses_fil
 }
 
 -- the flags that statements say of a function are the bits of their number
-flags_told : (statements : List Statement) (f name : List ℕ) (kinds : List Kind) (leaves : Leaves) (effects : List (ℕ × Effect))
-    → flagged name kinds (number_of (flags_said statements f)) leaves effects
-    ≡ told name kinds leaves effects (says statements (codes "sm_creation") f) (says statements (codes "sm_terminal") f) (says statements (codes "sm_block") f)
-    (says statements (codes "sm_wakeup") f) (says statements (codes "sm_query") f) (says statements (codes "sm_needs_all") f) (says statements (codes "resc_data") f)
-flags_told statements f name kinds leaves effects =
-    ap (λ b. told name kinds leaves effects b (bit 1) (bit 2) (bit 3) (bit 4) (bit 5) (bit 6)) (bit_of flags 0)
-    ∙ ap (λ b. told name kinds leaves effects (say (codes "sm_creation")) b (bit 2) (bit 3) (bit 4) (bit 5) (bit 6)) (bit_of flags 1)
-    ∙ ap (λ b. told name kinds leaves effects (say (codes "sm_creation")) (say (codes "sm_terminal")) b (bit 3) (bit 4) (bit 5) (bit 6)) (bit_of flags 2)
-    ∙ ap (λ b. told name kinds leaves effects (say (codes "sm_creation")) (say (codes "sm_terminal")) (say (codes "sm_block")) b (bit 4) (bit 5) (bit 6)) (bit_of flags 3)
-    ∙ ap (λ b. told name kinds leaves effects (say (codes "sm_creation")) (say (codes "sm_terminal")) (say (codes "sm_block")) (say (codes "sm_wakeup")) b (bit 5) (bit 6)) (bit_of flags 4)
-    ∙ ap (λ b. told name kinds leaves effects (say (codes "sm_creation")) (say (codes "sm_terminal")) (say (codes "sm_block")) (say (codes "sm_wakeup")) (say (codes "sm_query")) b (bit 6)) (bit_of flags 5)
-    ∙ ap (λ b. told name kinds leaves effects (say (codes "sm_creation")) (say (codes "sm_terminal")) (say (codes "sm_block")) (say (codes "sm_wakeup")) (say (codes "sm_query")) (say (codes "sm_needs_all")) b) (bit_of flags 6)
-  where
-    flags : List Bool
-    flags = flags_said statements f
+module _ (statements : List Statement) (f name : List ℕ) (kinds : List Kind) (leaves : Leaves) (effects : List (ℕ × Effect)) where
+  abbrev flags : List Bool
+  flags = flags_said statements f
 
-    abbrev bit : ℕ → Bool
-    bit k = has_flag (number_of (flags_said statements f)) k
+  abbrev bit : ℕ → Bool
+  bit k = has_flag (number_of (flags_said statements f)) k
 
-    abbrev say : List ℕ → Bool
-    say word = says statements word f
+  abbrev say : List ℕ → Bool
+  say word = says statements word f
+
+  abbrev of : Bool → Bool → Bool → Bool → Bool → Bool → Bool → Fun
+  of creation terminal block wakeup query all uses_file = told name kinds leaves effects creation terminal block wakeup query all uses_file
+
+  flags_told : flagged name kinds (number_of (flags_said statements f)) leaves effects
+      ≡ told name kinds leaves effects (says statements (codes "sm_creation") f) (says statements (codes "sm_terminal") f) (says statements (codes "sm_block") f)
+      (says statements (codes "sm_wakeup") f) (says statements (codes "sm_query") f) (says statements (codes "sm_needs_all") f) (says statements (codes "resc_data") f)
+  flags_told =
+      ap (λ b. of b (bit 1) (bit 2) (bit 3) (bit 4) (bit 5) (bit 6)) (bit_of flags 0)
+      ∙ ap (λ b. of (say (codes "sm_creation")) b (bit 2) (bit 3) (bit 4) (bit 5) (bit 6)) (bit_of flags 1)
+      ∙ ap (λ b. of (say (codes "sm_creation")) (say (codes "sm_terminal")) b (bit 3) (bit 4) (bit 5) (bit 6)) (bit_of flags 2)
+      ∙ ap (λ b. of (say (codes "sm_creation")) (say (codes "sm_terminal")) (say (codes "sm_block")) b (bit 4) (bit 5) (bit 6)) (bit_of flags 3)
+      ∙ ap (λ b. of (say (codes "sm_creation")) (say (codes "sm_terminal")) (say (codes "sm_block")) (say (codes "sm_wakeup")) b (bit 5) (bit 6)) (bit_of flags 4)
+      ∙ ap (λ b. of (say (codes "sm_creation")) (say (codes "sm_terminal")) (say (codes "sm_block")) (say (codes "sm_wakeup")) (say (codes "sm_query")) b (bit 6)) (bit_of flags 5)
+      ∙ ap (λ b. of (say (codes "sm_creation")) (say (codes "sm_terminal")) (say (codes "sm_block")) (say (codes "sm_wakeup")) (say (codes "sm_query")) (say (codes "sm_needs_all")) b) (bit_of flags 6)
 
 -- a function that is made of what a prototype declares is that of the prototype
 pub function_is : (statements : List Statement) (p : Prototype) (f : FunShape)
@@ -95,48 +98,59 @@ function_is statements p f name kinds flags leaves effects =
     ∙ ap (λ b. flagged p.name.bytes (map kind_of (drop 1 p.params)) b (leaves_of statements p.name.bytes) own) flags
     ∙ flags_told statements p.name.bytes p.name.bytes (map kind_of (drop 1 p.params)) (leaves_of statements p.name.bytes) own
 
--- a shape that is made of what a text declares is that of the text
-pub shape_is : (tree : Tree) (s : Shape)
-    → s.name.now ≡ tree.facts.service.bytes → s.parents ≡ parents_of tree.facts.parent.bytes → s.subtree ≡ bytes_eq tree.facts.close.bytes (codes "subtree")
-    → s.global ≡ bytes_eq tree.facts.global.bytes (codes "true") → s.block ≡ list_any (λ f. f.block) (map fun_of_shape s.funs.now) → s.has_data ≡ nat_lt 0 (length (fields_in s.fields.now))
-    → s.resc_data ≡ list_any (λ f. f.uses_file) (map fun_of_shape s.funs.now) → fields_in s.fields.now ≡ fields_of_text tree.statements
-    → map fun_of_shape s.funs.now ≡ map (function_of tree.statements) (protos_of tree.statements)
-    → s.moves.now ≡ pairs_of (codes "sm_transition") tree.statements → s.steps.now ≡ pairs_of (codes "sm_recover") tree.statements
-    → facts_of s ≡ shape_of_text tree
-unfolding shape_of_text
-shape_is tree s name parents subtree global block has_data resc_data fields funs moves steps =
-    ap (λ x. of x s.parents s.subtree s.global s.block s.has_data s.resc_data (fields_in s.fields.now) (map fun_of_shape s.funs.now) (map (λ p. (p.0, p.1)) s.moves.now) (map (λ p. (p.0, p.1)) s.steps.now)) name
-    ∙ ap (λ x. of tree.facts.service.bytes x s.subtree s.global s.block s.has_data s.resc_data (fields_in s.fields.now) (map fun_of_shape s.funs.now) (map (λ p. (p.0, p.1)) s.moves.now) (map (λ p. (p.0, p.1)) s.steps.now)) parents
-    ∙ ap (λ x. of tree.facts.service.bytes (parents_of tree.facts.parent.bytes) x s.global s.block s.has_data s.resc_data (fields_in s.fields.now) (map fun_of_shape s.funs.now) (map (λ p. (p.0, p.1)) s.moves.now) (map (λ p. (p.0, p.1)) s.steps.now)) subtree
-    ∙ ap (λ x. of tree.facts.service.bytes (parents_of tree.facts.parent.bytes) (bytes_eq tree.facts.close.bytes (codes "subtree")) x s.block s.has_data s.resc_data (fields_in s.fields.now) (map fun_of_shape s.funs.now) (map (λ p. (p.0, p.1)) s.moves.now) (map (λ p. (p.0, p.1)) s.steps.now)) global
-    ∙ ap (λ x. head x s.has_data s.resc_data (fields_in s.fields.now) (map fun_of_shape s.funs.now) (map (λ p. (p.0, p.1)) s.moves.now) (map (λ p. (p.0, p.1)) s.steps.now)) block
-    ∙ ap (λ x. head (list_any (λ f. f.block) (map fun_of_shape s.funs.now)) x s.resc_data (fields_in s.fields.now) (map fun_of_shape s.funs.now) (map (λ p. (p.0, p.1)) s.moves.now) (map (λ p. (p.0, p.1)) s.steps.now)) has_data
-    ∙ ap (λ x. head (list_any (λ f. f.block) (map fun_of_shape s.funs.now)) (nat_lt 0 (length (fields_in s.fields.now))) x (fields_in s.fields.now) (map fun_of_shape s.funs.now) (map (λ p. (p.0, p.1)) s.moves.now) (map (λ p. (p.0, p.1)) s.steps.now)) resc_data
-    ∙ ap (λ x. rest x (map fun_of_shape s.funs.now) (map (λ p. (p.0, p.1)) s.moves.now) (map (λ p. (p.0, p.1)) s.steps.now)) fields
-    ∙ ap (λ x. rest (fields_of_text tree.statements) x (map (λ p. (p.0, p.1)) s.moves.now) (map (λ p. (p.0, p.1)) s.steps.now)) funs
-    ∙ ap (λ x. rest (fields_of_text tree.statements) (map (function_of tree.statements) (protos_of tree.statements)) x (map (λ p. (p.0, p.1)) s.steps.now)) (same_pairs s.moves.now ∙ moves)
-    ∙ ap (λ x. rest (fields_of_text tree.statements) (map (function_of tree.statements) (protos_of tree.statements)) (pairs_of (codes "sm_transition") tree.statements) x) (same_pairs s.steps.now ∙ steps)
-  where
-    -- a shape by its parts
-    abbrev of : List ℕ → Parents → Bool → Bool → Bool → Bool → Bool → List Field → List Fun → List (ℕ × ℕ) → List (ℕ × ℕ) → Facts
-    of a b c d e f g h i j k = record {
-      name = a;
-      parents = b;
-      subtree = c;
-      global = d;
-      block = e;
-      has_data = f;
-      resc_data = g;
-      fields = h;
-      funs = i;
-      moves = j;
-      steps = k;
-    }
+-- a shape by its parts
+abbrev parted : List ℕ → Parents → Bool → Bool → Bool → Bool → Bool → List Field → List Fun → List (ℕ × ℕ) → List (ℕ × ℕ) → Facts
+parted name parents subtree global block has_data resc_data fields funs moves steps = record {
+  name = name;
+  parents = parents;
+  subtree = subtree;
+  global = global;
+  block = block;
+  has_data = has_data;
+  resc_data = resc_data;
+  fields = fields;
+  funs = funs;
+  moves = moves;
+  steps = steps;
+}
 
-    -- one with the head's words
-    abbrev head : Bool → Bool → Bool → List Field → List Fun → List (ℕ × ℕ) → List (ℕ × ℕ) → Facts
-    head = of tree.facts.service.bytes (parents_of tree.facts.parent.bytes) (bytes_eq tree.facts.close.bytes (codes "subtree")) (bytes_eq tree.facts.global.bytes (codes "true"))
+module _ (tree : Tree) (s : Shape) where
+  abbrev funs_in : List Fun
+  funs_in = map fun_of_shape s.funs.now
 
-    -- one with what its fields and functions tell
-    abbrev rest : List Field → List Fun → List (ℕ × ℕ) → List (ℕ × ℕ) → Facts
-    rest h i j k = head (list_any (λ f. f.block) i) (nat_lt 0 (length h)) (list_any (λ f. f.uses_file) i) h i j k
+  abbrev moves_in : List (ℕ × ℕ)
+  moves_in = map (λ p. (p.0, p.1)) s.moves.now
+
+  abbrev steps_in : List (ℕ × ℕ)
+  steps_in = map (λ p. (p.0, p.1)) s.steps.now
+
+  -- one with the head's words
+  abbrev head : Bool → Bool → Bool → List Field → List Fun → List (ℕ × ℕ) → List (ℕ × ℕ) → Facts
+  head block has_data resc_data fields funs moves steps =
+      parted tree.facts.service.bytes (parents_of tree.facts.parent.bytes) (bytes_eq tree.facts.close.bytes (codes "subtree")) (bytes_eq tree.facts.global.bytes (codes "true"))
+      block has_data resc_data fields funs moves steps
+
+  -- one with what its fields and functions tell
+  abbrev rest : List Field → List Fun → List (ℕ × ℕ) → List (ℕ × ℕ) → Facts
+  rest fields funs moves steps = head (list_any (λ f. f.block) funs) (nat_lt 0 (length fields)) (list_any (λ f. f.uses_file) funs) fields funs moves steps
+
+  -- a shape that is made of what a text declares is that of the text
+  pub shape_is : s.name.now ≡ tree.facts.service.bytes → s.parents ≡ parents_of tree.facts.parent.bytes → s.subtree ≡ bytes_eq tree.facts.close.bytes (codes "subtree")
+      → s.global ≡ bytes_eq tree.facts.global.bytes (codes "true") → s.block ≡ list_any (λ f. f.block) (map fun_of_shape s.funs.now) → s.has_data ≡ nat_lt 0 (length (fields_in s.fields.now))
+      → s.resc_data ≡ list_any (λ f. f.uses_file) (map fun_of_shape s.funs.now) → fields_in s.fields.now ≡ fields_of_text tree.statements
+      → map fun_of_shape s.funs.now ≡ map (function_of tree.statements) (protos_of tree.statements)
+      → s.moves.now ≡ pairs_of (codes "sm_transition") tree.statements → s.steps.now ≡ pairs_of (codes "sm_recover") tree.statements
+      → facts_of s ≡ shape_of_text tree
+  unfolding shape_of_text
+  shape_is name parents subtree global block has_data resc_data fields funs moves steps =
+      ap (λ x. parted x s.parents s.subtree s.global s.block s.has_data s.resc_data (fields_in s.fields.now) funs_in moves_in steps_in) name
+      ∙ ap (λ x. parted tree.facts.service.bytes x s.subtree s.global s.block s.has_data s.resc_data (fields_in s.fields.now) funs_in moves_in steps_in) parents
+      ∙ ap (λ x. parted tree.facts.service.bytes (parents_of tree.facts.parent.bytes) x s.global s.block s.has_data s.resc_data (fields_in s.fields.now) funs_in moves_in steps_in) subtree
+      ∙ ap (λ x. parted tree.facts.service.bytes (parents_of tree.facts.parent.bytes) (bytes_eq tree.facts.close.bytes (codes "subtree")) x s.block s.has_data s.resc_data (fields_in s.fields.now) funs_in moves_in steps_in) global
+      ∙ ap (λ x. head x s.has_data s.resc_data (fields_in s.fields.now) funs_in moves_in steps_in) block
+      ∙ ap (λ x. head (list_any (λ f. f.block) funs_in) x s.resc_data (fields_in s.fields.now) funs_in moves_in steps_in) has_data
+      ∙ ap (λ x. head (list_any (λ f. f.block) funs_in) (nat_lt 0 (length (fields_in s.fields.now))) x (fields_in s.fields.now) funs_in moves_in steps_in) resc_data
+      ∙ ap (λ x. rest x funs_in moves_in steps_in) fields
+      ∙ ap (λ x. rest (fields_of_text tree.statements) x moves_in steps_in) funs
+      ∙ ap (λ x. rest (fields_of_text tree.statements) (map (function_of tree.statements) (protos_of tree.statements)) x steps_in) (same_pairs s.moves.now ∙ moves)
+      ∙ ap (λ x. rest (fields_of_text tree.statements) (map (function_of tree.statements) (protos_of tree.statements)) (pairs_of (codes "sm_transition") tree.statements) x) (same_pairs s.steps.now ∙ steps)
