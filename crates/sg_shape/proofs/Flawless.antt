@@ -1,12 +1,12 @@
 -- What holds of a text with which nothing is wrong, kind by kind.
-use Rattle.std.proofs.Common.{◌≡◌, ℕ, zero, suc, ◌+◌, ◌<◌, ◌≤◌, Bool, true, false, ◌&&◌, ◌||◌, not, List, [], ◌∷◌, map, length, None, Some, refl, sym, ◌∙◌, ap, arith}
-use Rattle.std.specs.Prelude.{find, nat_lt, slice_get, unwrap_or}
+use Rattle.std.proofs.Common.{◌≡◌, ℕ, zero, suc, ◌+◌, ◌<◌, ◌≤◌, Bool, true, false, ◌&&◌, ◌||◌, not, List, [], ◌∷◌, map, length, get_or, None, Some, refl, sym, ◌∙◌, ap, arith}
+use Rattle.std.specs.Prelude.{All, find, nat_lt, slice_get, unwrap_or}
 use Rattle.std.specs.Bool.{then_some}
 use Rattle.std.specs.declared.option.Option.{Option}
 use Rattle.std.specs.List.{filter_map}
 use Rattle.std.specs.Option.{option_map, option_or}
 use Rattle.std.proofs.lemmas.Bool.{ltb-false}
-use Rattle.std.proofs.lemmas.Option.{slice_get-map}
+use Rattle.std.proofs.lemmas.Option.{slice_get-get_or, slice_get-map}
 use Rattle.sg_facts.specs.Allowed.{is_cross}
 use Rattle.sg_facts.specs.Facts.{Fun, fun_at, no_fun}
 use Rattle.sg_facts.specs.Limits.{most_fields, most_funs}
@@ -60,6 +60,9 @@ module _ (tree : Tree) (within : place_of tree Limit ≡ None) where
       ltb-false most_params (length p.params)
       (none_found too_long (protos_of tree.statements) k p
       (no_element (λ q. q.name.at) (find too_long (protos_of tree.statements)) later.0) at)
+
+  pub all_few : All (λ p. length p.params ≤ most_params) (protos_of tree.statements)
+  all_few = λ k d within. few_params k (get_or (protos_of tree.statements) k d) (slice_get-get_or (protos_of tree.statements) k d within)
 
   pub few_fields : length (first_uses (uses_of tree.statements)) ≤ most_fields
   few_fields =

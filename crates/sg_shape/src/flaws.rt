@@ -32,6 +32,7 @@ use std::alloc::Global;
 
 /// The first place at which something of a kind, which isn't `Limit`, is wrong with a text within the limits: one of this shape, with these
 /// prototypes and these uses of fields.
+#[tactic(auto, unfolding(crate::specs::Faults::place_of))]
 pub fn place_of(
     kind: ShapeFaultKind,
     alloc: Global,
@@ -166,6 +167,7 @@ fn is_text_name(fields: &[FieldShape], name: &[u8]) -> bool
 
 // The place at which a private service is said to look around: at the fact that descriptors may have parents of other clients, or at the
 // first prototype of a function that looks at all rows.
+#[tactic(auto, unfolding(crate::specs::Faults::place_of))]
 fn private_place(
     alloc: Global,
     tree: &Tree,

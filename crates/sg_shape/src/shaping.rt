@@ -98,6 +98,7 @@ fn unless(kind: ShapeFaultKind, place: Option<usize>) -> Result<(), ShapeError>
 }
 
 // A text with these prototypes is within the limits; the place is that of the first use of the first field past them.
+#[tactic(auto, unfolding(crate::specs::Faults::place_of))]
 fn within_limits(tree: &Tree, protos: &[Proto], next: Option<usize>) -> Result<(), ShapeError>
     requires protos { protos.now ≡ protos_of tree.now.statements }
     requires next { next ≡ option_map (λ u. u.name.at) (slice_get (first_uses (uses_of tree.now.statements)) most_fields) }
