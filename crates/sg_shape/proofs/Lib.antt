@@ -13,3 +13,4 @@ pub mod Declared
 pub mod Goods
 pub mod Fitting
 pub mod Loops
+pub mod Steps
