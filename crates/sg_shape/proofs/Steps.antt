@@ -1,10 +1,10 @@
--- What is left of arguments, fields and pairs, after one more.
-use Rattle.std.proofs.Common.{◌≡◌, ℕ, zero, suc, ◌+◌, ◌-◌, ◌<◌, ◌≤◌, Bool, true, false, cond, ◌||◌, List, [], ◌∷◌, ◌++◌, map, drop, length, get_or, None, Some, codes, refl, sym, ◌∙◌, ap, append_assoc, arith}
+-- What is left of prototypes, statements, arguments, fields and pairs, after one more.
+use Rattle.std.proofs.Common.{◌≡◌, ℕ, zero, suc, ◌+◌, ◌-◌, ◌<◌, ◌≤◌, Bool, true, false, cond, ◌||◌, List, [], ◌∷◌, ◌++◌, map, take, drop, length, get_or, None, Some, codes, refl, sym, ◌∙◌, ap, append_assoc, arith}
 use Rattle.std.specs.Prelude.{filter, if◌then◌else◌}
 use Rattle.std.specs.declared.option.Option.{Option}
 use Rattle.std.specs.List.{cons_option, flat_map, range_with_len}
-use Rattle.std.specs.Option.{option_map, option_to_list}
-use Rattle.std.proofs.lemmas.List.{append-nil, drop_more}
+use Rattle.std.specs.Option.{option_map, option_or, option_to_list}
+use Rattle.std.proofs.lemmas.List.{append-nil, drop_more, map-append, take_more}
 use Rattle.std.proofs.lemmas.List.Concat.{flat_map-append}
 use Rattle.std.proofs.lemmas.List.Elements.{filter-append}
 use Rattle.std.proofs.lemmas.List.FromFn.{filter_of_map_range_with_len_more}
@@ -13,11 +13,46 @@ use Rattle.sg_facts.specs.declared.shape.Effect.TheVariants.{SetArg, AddArg}
 use Rattle.sg_facts.specs.declared.shape.FieldShape.{FieldShape}
 use Rattle.sg_facts.specs.Interface.{has_pair}
 use Rattle.sg_check_statements.specs.Effects.{arg_effects}
+use Rattle.sg_check_statements.specs.NameSet.{has_name}
 use Rattle.sg_check_statements.specs.Params.{has_word}
 use Rattle.sg_check_statements.specs.sg_parse.declared.tree.Param.{Param}
-use Rattle.sg_shape.specs.Flaws.{is_id_param}
+use Rattle.sg_check_statements.specs.sg_parse.declared.tree.Statement.{Statement}
+use Rattle.sg_shape.specs.Flaws.{is_id_param, second_place}
 use Rattle.sg_shape.specs.Inside.Parts.{arg_effect, fields_in}
-use Rattle.sg_shape.specs.ShapeOfText.{effect_on_name, numbered}
+use Rattle.sg_shape.specs.Prototypes.{Prototype, names_of}
+use Rattle.sg_shape.specs.ShapeOfText.{effect_on_name, numbered, state_in, state_of}
+
+-- ---- prototypes and states
+
+module _ (protos : List Prototype) (n : ℕ) (p : Prototype) (within : n < length protos) (is : p ≡ get_or protos n p)
+    (told : second_place (names_of (take n protos)) (drop n protos) ≡ second_place [] protos) where
+  at_proto : second_place (names_of (take n protos)) (p ∷ drop (n + 1) protos) ≡ second_place [] protos
+  at_proto = ap (second_place (names_of (take n protos))) (sym (drop_more protos n p within ∙ ap (λ q. q ∷ drop (n + 1) protos) (sym is))) ∙ told
+
+  -- a prototype that has the name of one before is the first
+  pub second_here : has_name (names_of (take n protos)) p.name.bytes ≡ true → Some p.name.at ≡ second_place [] protos
+  second_here had =
+      ap (λ (b : Bool). if b then Some p.name.at else second_place (names_of (take n protos) ++ p.name.bytes ∷ []) (drop (n + 1) protos)) (sym had) ∙ at_proto
+
+  -- any other isn't
+  pub second_later : has_name (names_of (take n protos)) p.name.bytes ≡ false → second_place (names_of (take (n + 1) protos)) (drop (n + 1) protos) ≡ second_place [] protos
+  second_later none =
+      ap (λ names. second_place names (drop (n + 1) protos))
+      (ap names_of (take_more protos n p within ∙ ap (λ q. take n protos ++ q ∷ []) (sym is)) ∙ map-append (λ (q : Prototype). q.name.bytes) (take n protos) (p ∷ []))
+      ∙ ap (λ (b : Bool). if b then Some p.name.at else second_place (names_of (take n protos) ++ p.name.bytes ∷ []) (drop (n + 1) protos)) (sym none) ∙ at_proto
+
+module _ (f : List ℕ) (statements : List Statement) (i : ℕ) (s : Statement) (within : i < length statements) (is : s ≡ get_or statements i s)
+    (told : state_of f (drop i statements) ≡ state_of f statements) where
+  at_state : option_or (state_in f s) (state_of f (drop (i + 1) statements)) ≡ state_of f statements
+  at_state = ap (state_of f) (sym (drop_more statements i s within ∙ ap (λ t. t ∷ drop (i + 1) statements) (sym is))) ∙ told
+
+  -- a statement that says a state is the first
+  pub state_here : (o : Option (List ℕ)) (g : List ℕ) → o ≡ Some g → o ≡ state_in f s → Some g ≡ state_of f statements
+  state_here o g some said = ap (λ d. option_or d (state_of f (drop (i + 1) statements))) (sym some ∙ said) ∙ at_state
+
+  -- any other isn't
+  pub state_later : (o : Option (List ℕ)) → o ≡ None → o ≡ state_in f s → state_of f (drop (i + 1) statements) ≡ state_of f statements
+  state_later o none said = ap (λ d. option_or d (state_of f (drop (i + 1) statements))) (sym none ∙ said) ∙ at_state
 
 -- ---- arguments
 
