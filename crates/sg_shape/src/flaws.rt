@@ -52,25 +52,11 @@ pub fn place_of(
     match kind {
         ShapeFaultKind::Limit => unreachable!(),
         ShapeFaultKind::DuplicateName => Ok(second_place(protos)),
-        ShapeFaultKind::UnknownFunction => unknown_place(alloc, statements),
+        ShapeFaultKind::UnknownFunction => Ok(unknown_place(alloc, statements)?),
         ShapeFaultKind::MixedField => Ok(mixed_place(shape.fields, uses)),
-        ShapeFaultKind::PrivateLooksAround => private_place(alloc, tree, protos, shape),
+        ShapeFaultKind::PrivateLooksAround => Ok(private_place(alloc, tree, protos, shape)?),
         ShapeFaultKind::WrongFact => Ok(wrong_fact(shape, &tree.facts)),
-        ShapeFaultKind::BadParams
-        | ShapeFaultKind::TwoEffects
-        | ShapeFaultKind::Contradiction
-        | ShapeFaultKind::QueryTakes
-        | ShapeFaultKind::FileWithoutDesc
-        | ShapeFaultKind::TextChanged
-        | ShapeFaultKind::BlocksOrMakes
-        | ShapeFaultKind::StateOfOther
-        | ShapeFaultKind::MakesOn
-        | ShapeFaultKind::ActsOnNone
-        | ShapeFaultKind::NoParents
-        | ShapeFaultKind::ReplayWrites
-        | ShapeFaultKind::ArgumentLost
-        | ShapeFaultKind::ReplayUnknown
-        | ShapeFaultKind::RecoverMakes => flawed_place(kind, alloc, shape, statements, protos),
+        _ => Ok(flawed_place(kind, alloc, shape, statements, protos)?),
     }
 }
 
@@ -183,13 +169,8 @@ fn private_place(
         return Ok(Some(tree.facts.parent.at));
     }
     let statements = tree.statements.as_slice();
-    flawed_place(
-        ShapeFaultKind::PrivateLooksAround,
-        alloc,
-        shape,
-        statements,
-        protos,
-    )
+    let kind = ShapeFaultKind::PrivateLooksAround;
+    Ok(flawed_place(kind, alloc, shape, statements, protos)?)
 }
 
 // The place of the first prototype that has a flaw of a kind.
@@ -224,7 +205,7 @@ fn is_flawed(
 {
     match kind {
         ShapeFaultKind::BadParams => Ok(!are_params(proto.params())),
-        ShapeFaultKind::TwoEffects => has_two_effects(alloc, statements, proto),
+        ShapeFaultKind::TwoEffects => Ok(has_two_effects(alloc, statements, proto)?),
         ShapeFaultKind::Contradiction => Ok(contradicts(statements, proto.name())),
         _ => Ok(is_of_forbidden(kind, shape, proto.name())),
     }
