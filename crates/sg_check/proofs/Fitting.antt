@@ -19,7 +19,7 @@ use Rattle.sg_check_statements.specs.sg_parse.sg_lex.Lexeme.{Spelling as Named}
 use Rattle.sg_check_statements.specs.sg_parse.declared.tree.Param.{Param}
 use Rattle.sg_check_statements.specs.sg_parse.declared.tree.Ret.{Ret}
 use Rattle.sg_check_statements.specs.sg_parse.declared.tree.Statement.{Statement}
-use Rattle.sg_check_statements.specs.sg_parse.declared.tree.Statement.TheVariants.{One, Two, Proto}
+use Rattle.sg_check_statements.specs.sg_parse.declared.tree.Statement.TheVariants.{Two, Proto}
 use Rattle.sg_check_statements.specs.sg_parse.declared.tree.Tree.{Tree}
 use Rattle.sg_check_statements.specs.declared.fault.CheckKind.TheVariants.{NoCreation, NoWalk, UnknownFunction, Unreached, WrongFlag}
 use Rattle.sg_check_statements.specs.Faults.{IsFirstStatement, interface_of}
@@ -78,12 +78,11 @@ tell_place (Some at) = inr (at, refl)
 
 tell_proto : (facts : Facts) (P : ℕ → Type 0) → ((n : ℕ) → P n ⊎ (P n → ⊥)) → (one : Statement)
     → ((place : ℕ) → IsProtoWhere facts P one place → ⊥) ⊎ ((place : ℕ) × IsProtoWhere facts P one place)
-tell_proto facts P known (One word fun) = inl (λ place is. is)
-tell_proto facts P known (Two word first second) = inl (λ place is. is)
 tell_proto facts P known (Proto ret name params) = elim (known (unwrap_or (fun_number facts.funs name.bytes) 0)) [
   | inl is ↦ inr (name.at, (refl, is))
   | inr isn't ↦ inl (λ place (at, is). isn't is)
 ]
+tell_proto facts P known _ = inl (λ place is. is)
 
 -- a statement that is found stands somewhere
 found_one : (p : Statement → Bool) (statements : List Statement) → list_any p statements ≡ true
@@ -239,8 +238,6 @@ module _ (services : List Facts) (tree : Tree) (facts : Facts) (shape : is_shape
     is : named.bytes ≡ name
 
   proto_from : (name : List ℕ) (before : List Statement) (one : Statement) (after : List Statement) → tree.statements ≡ before ++ one ∷ after → is_proto name one ≡ true → HasProto name
-  proto_from name before (One word fun) after split is = absurd (cc is)
-  proto_from name before (Two word first second) after split is = absurd (cc is)
   proto_from name before (Proto ret named params) after split is = record {
     before = before;
     ret = ret;
@@ -250,6 +247,7 @@ module _ (services : List Facts) (tree : Tree) (facts : Facts) (shape : is_shape
     split = split;
     is = same_bytes named.bytes name is;
   }
+  proto_from name before _ after split is = absurd (cc is)
 
   proto_of : (name : List ℕ) → has_proto tree.statements name ≡ true → HasProto name
   proto_of name has =
@@ -271,14 +269,13 @@ module _ (services : List Facts) (tree : Tree) (facts : Facts) (shape : is_shape
 
   both_from : (w f g : List ℕ) → names_two w ≡ true → (before : List Statement) (one : Statement) (after : List Statement) → tree.statements ≡ before ++ one ∷ after → is_two w f g one ≡ true
       → (has_proto tree.statements f ≡ true) × (has_proto tree.statements g ≡ true)
-  both_from w f g names before (One word fun) after split is = absurd (cc is)
   both_from w f g names before (Two word first second) after split is =
       let heads = and_parts (bytes_eq word.bytes w && bytes_eq first.bytes f) (bytes_eq second.bytes g) is in
       let words = and_parts (bytes_eq word.bytes w) (bytes_eq first.bytes f) heads.0 in
       let told = two_places (has_proto tree.statements first.bytes) (names_two word.bytes) (has_proto tree.statements second.bytes) first.at second.at
       (λ place flaw. none_unknown before (Two word first second) after place split flaw) (ap names_two (same_bytes word.bytes w words.0) ∙ names) in
       (ap (has_proto tree.statements) (sym (same_bytes first.bytes f words.1)) ∙ told.0, ap (has_proto tree.statements) (sym (same_bytes second.bytes g heads.1)) ∙ told.1)
-  both_from w f g names before (Proto ret name params) after split is = absurd (cc is)
+  both_from w f g names before _ after split is = absurd (cc is)
 
   both_declared : (w f g : List ℕ) → names_two w ≡ true → says_of tree.statements w f g ≡ true → (has_proto tree.statements f ≡ true) × (has_proto tree.statements g ≡ true)
   both_declared w f g names is =

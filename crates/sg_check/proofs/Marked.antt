@@ -5,7 +5,7 @@ use Rattle.std.specs.declared.option.Option.{Option}
 use Rattle.std.specs.Str.{bytes_eq}
 use Rattle.sg_facts.specs.Facts.{Facts, Fun}
 use Rattle.sg_check_statements.specs.sg_parse.declared.tree.Statement.{Statement}
-use Rattle.sg_check_statements.specs.sg_parse.declared.tree.Statement.TheVariants.{One, Two, Proto}
+use Rattle.sg_check_statements.specs.sg_parse.declared.tree.Statement.TheVariants.{Proto}
 use Rattle.sg_check_statements.specs.Faults.{IsFirstStatement}
 use Rattle.sg_check_statements.specs.Inside.Pieces.{NoStatement}
 use Rattle.sg_check_statements.specs.Flaws.{IsProtoWhere}
@@ -37,19 +37,17 @@ if_place false at place is = absurd (cc is)
 
 module _ (facts : Facts) (numbers : List ℕ) (P : ℕ → Type 0) (same : (n : ℕ) → n ≤ length facts.funs → (has_number numbers n ≡ true) ↔ P n) where
   to : (s : Statement) (place : ℕ) → marked facts numbers s ≡ Some place → IsProtoWhere facts P s place
-  to (One word fun) place is = absurd (cc is)
-  to (Two word first second) place is = absurd (cc is)
   to (Proto ret name params) place is =
       let n = unwrap_or (fun_number facts.funs name.bytes) 0 in
       let it = if_place (has_number numbers n) name.at place is in
       (it.1, (same n (number_within facts.funs name.bytes)).0 it.0)
+  to _ place is = absurd (cc is)
 
   back : (s : Statement) (place : ℕ) → IsProtoWhere facts P s place → marked facts numbers s ≡ Some place
-  back (One word fun) place is = absurd is
-  back (Two word first second) place is = absurd is
   back (Proto ret name params) place (at, holds) =
       let n = unwrap_or (fun_number facts.funs name.bytes) 0 in
       ap (λ b. then_some b name.at) ((same n (number_within facts.funs name.bytes)).1 holds) ∙ ap Some at
+  back _ place is = absurd is
 
   -- the first prototype in the set is the first of which it holds
   pub first_where : (found : Option ℕ) (statements : List Statement)

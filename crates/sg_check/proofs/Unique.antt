@@ -6,7 +6,7 @@ use Rattle.std.proofs.lemmas.Bool.{cases_lt}
 use Rattle.std.proofs.lemmas.Bool.Decides.{eqb_tells}
 use Rattle.sg_facts.specs.Facts.{Facts}
 use Rattle.sg_check_statements.specs.sg_parse.declared.tree.Statement.{Statement}
-use Rattle.sg_check_statements.specs.sg_parse.declared.tree.Statement.TheVariants.{One, Two, Proto}
+use Rattle.sg_check_statements.specs.sg_parse.declared.tree.Statement.TheVariants.{Proto}
 use Rattle.sg_check_statements.specs.sg_parse.declared.tree.Tree.{Tree}
 use Rattle.sg_check_statements.specs.declared.fault.CheckKind.{CheckKind}
 use Rattle.sg_check_statements.specs.declared.fault.CheckKind.TheVariants.{UnknownService, DuplicateName, UnknownFunction, BadParams, WrongFact, WrongFlag, WrongEffect, ForeignTransition, ForeignRecover, NoCreation, Unreached, NoWalk}
@@ -49,9 +49,8 @@ one_place : (found : Option ℕ) (here there : ℕ) → found ≡ Some here → 
 one_place found here there is other = let same : Some here ≡ Some there = sym is ∙ other in cc same
 
 proto_once : (facts : Facts) (P : ℕ → Type 0) (one : Statement) (here there : ℕ) → IsProtoWhere facts P one here → IsProtoWhere facts P one there → here ≡ there
-proto_once facts P (One word fun) here there is other = absurd is
-proto_once facts P (Two word first second) here there is other = absurd is
 proto_once facts P (Proto ret name params) here there is other = sym is.0 ∙ other.0
+proto_once facts P _ here there is other = absurd is
 
 module _ (services : List Facts) (tree : Tree) where
   of_one_service : (Flaw : Facts → List Statement → Statement → ℕ → Type 0)

@@ -8,8 +8,8 @@
 //! - `protos`: the first prototype of one of some functions; `numbers`: sets of function numbers
 //! - `laws`: laws of the definitions (`one_fault`)
 //!
-//! What a text may have wrong, kind by kind, and what it is to be accepted, is said in `sg_check_statements`, in `specs/Flaws.antt` and
-//! `specs/Faults.antt`; what shapes a text may be checked against, here, in `specs/Shapes.antt`.
+//! What a text may have wrong, kind by kind, what it is to be accepted, and what shapes a text may be checked against, is said in
+//! `sg_check_statements`, in `specs/Flaws.antt`, `specs/Faults.antt` and `specs/Shapes.antt`.
 #![tactic(auto)]
 
 mod accepted;

@@ -21,7 +21,6 @@ impl Judge for Marked<'_> {
 
     fn flaw_in(&self, statement: &Statement) -> Option<usize> {
         match statement {
-            Statement::One { .. } | Statement::Two { .. } => None,
             Statement::Proto { name, .. } => {
                 let number = fun_number(self.shape, name.slice).unwrap_or(0);
                 if self.numbers.has(number) {
@@ -30,6 +29,7 @@ impl Judge for Marked<'_> {
                     None
                 }
             }
+            _ => None,
         }
     }
 }

@@ -4,3 +4,4 @@ pub mod Clear
 pub mod Judged
 pub mod Sets
 pub mod Anywhere
+pub mod Bits

@@ -28,7 +28,6 @@ impl Judge for Effects<'_> {
 
     fn flaw_in(&self, statement: &Statement) -> Option<usize> {
         match statement {
-            Statement::One { .. } | Statement::Two { .. } => None,
             Statement::Proto { ret, name, params } => {
                 let fun = fun_of_name(self.shape, name.slice);
                 let proto = Proto {
@@ -43,6 +42,7 @@ impl Judge for Effects<'_> {
                     Some(name.at)
                 }
             }
+            _ => None,
         }
     }
 }

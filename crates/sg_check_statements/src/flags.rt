@@ -25,7 +25,6 @@ impl Judge for Flags<'_> {
 
     fn flaw_in(&self, statement: &Statement) -> Option<usize> {
         match statement {
-            Statement::One { .. } | Statement::Two { .. } => None,
             Statement::Proto { name, .. } => {
                 if is_declared(self.shape, self.statements, name.slice) {
                     None
@@ -33,6 +32,7 @@ impl Judge for Flags<'_> {
                     Some(name.at)
                 }
             }
+            _ => None,
         }
     }
 }
@@ -100,7 +100,7 @@ fn leaves_some(statements: &[Statement], fun: &[u8]) -> bool
         Statement::Two { word, first, .. } => {
             word.slice == b"sm_state".as_slice() && first.slice == fun
         }
-        Statement::One { .. } | Statement::Proto { .. } => false,
+        _ => false,
     })
 }
 
@@ -114,6 +114,6 @@ pub fn leaves_another(statements: &[Statement], fun: &[u8], state: &[u8]) -> boo
             first,
             second,
         } => { word.slice == b"sm_state".as_slice() && first.slice == fun && second.slice != state }
-        Statement::One { .. } | Statement::Proto { .. } => false,
+        _ => false,
     })
 }

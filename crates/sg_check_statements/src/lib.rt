@@ -39,6 +39,7 @@ pub use funs::{fun_number, fun_of_name};
 pub use heads::wrong_fact;
 pub use judge::{Judge, first_flaw};
 pub use laws::accepted_anywhere;
+pub use pairs::has_pair;
 pub use params::{has_word, is_caller};
 pub use protos::{Protos, duplicate_in};
 pub use said::{says, says_of};

@@ -35,7 +35,7 @@ impl Judge for Pairs<'_> {
                     None
                 }
             }
-            Statement::One { .. } | Statement::Proto { .. } => None,
+            _ => None,
         }
     }
 }
@@ -58,8 +58,8 @@ impl Pairs<'_> {
     }
 }
 
-// Whether a pair is listed.
-fn has_pair(pairs: &[(u8, u8)], first: usize, second: usize) -> bool
+/// Whether a pair is one of these.
+pub fn has_pair(pairs: &[(u8, u8)], first: usize, second: usize) -> bool
     ensures { result ≡ has_pair pairs.now first second }
 {
     pairs.iter().any(|pair| usize::from(pair.0) == first && usize::from(pair.1) == second)

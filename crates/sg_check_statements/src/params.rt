@@ -22,7 +22,6 @@ impl Judge for Parameters<'_> {
 
     fn flaw_in(&self, statement: &Statement) -> Option<usize> {
         match statement {
-            Statement::One { .. } | Statement::Two { .. } => None,
             Statement::Proto { name, params, .. } => {
                 let fun = fun_of_name(self.shape, name.slice);
                 if fit(&fun, params.as_slice()) {
@@ -31,6 +30,7 @@ impl Judge for Parameters<'_> {
                     Some(name.at)
                 }
             }
+            _ => None,
         }
     }
 }

@@ -66,7 +66,7 @@ fn add_proto<'a>(names: &mut NameSet<'a>, statement: &Statement<'a>) -> Result<(
 {
     match statement {
         Statement::Proto { name, .. } => names.add(name.slice),
-        Statement::One { .. } | Statement::Two { .. } => Ok(()),
+        _ => Ok(()),
     }
 }
 
@@ -97,6 +97,6 @@ fn second_in(names: &NameSet, statement: &Statement) -> Option<usize>
                 None
             }
         }
-        Statement::One { .. } | Statement::Two { .. } => None,
+        _ => None,
     }
 }

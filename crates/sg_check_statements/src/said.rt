@@ -36,7 +36,7 @@ fn is_one(statement: &Statement, word: &[u8], fun: &[u8]) -> bool
 {
     match statement {
         Statement::One { word: own, fun: of } => own.slice == word && of.slice == fun,
-        Statement::Two { .. } | Statement::Proto { .. } => false,
+        _ => false,
     }
 }
 
@@ -50,7 +50,7 @@ fn is_two(statement: &Statement, word: &[u8], fun: &[u8], other: &[u8]) -> bool
             first,
             second,
         } => own.slice == word && first.slice == fun && second.slice == other,
-        Statement::One { .. } | Statement::Proto { .. } => false,
+        _ => false,
     }
 }
 
@@ -60,6 +60,6 @@ fn is_proto(statement: &Statement, fun: &[u8]) -> bool
 {
     match statement {
         Statement::Proto { name, .. } => name.slice == fun,
-        Statement::One { .. } | Statement::Two { .. } => false,
+        _ => false,
     }
 }

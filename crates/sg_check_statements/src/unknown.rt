@@ -35,6 +35,7 @@ impl Judge for Unknown<'_, '_, '_> {
                 Some(_) => None,
                 None => Some(name.at),
             },
+            _ => None,
         }
     }
 }

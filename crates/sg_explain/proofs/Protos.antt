@@ -14,7 +14,7 @@ use Rattle.sg_input.specs.sg_check_statements.Flaws.{HasNoWalk, IsProtoWhere}
 use Rattle.sg_input.specs.sg_check_statements.Says.{fun_number, service_of}
 use Rattle.sg_input.specs.sg_check_statements.declared.fault.CheckKind.TheVariants.{NoWalk}
 use Rattle.sg_input.specs.sg_parse.declared.tree.Statement.{Statement}
-use Rattle.sg_input.specs.sg_parse.declared.tree.Statement.TheVariants.{One, Two, Proto}
+use Rattle.sg_input.specs.sg_parse.declared.tree.Statement.TheVariants.{Proto}
 use Rattle.sg_input.specs.sg_parse.declared.tree.Tree.{Tree}
 use Rattle.sg_input.specs.sg_walk.declared.place.Triple.{Triple}
 use Rattle.sg_explain.specs.Stuck.{IsFirstStuck, IsStuckLine}
@@ -41,16 +41,14 @@ no_number place at n isn't same = elim (eqb_tells place at) [
 ]
 
 pub found_in : (i : Declared) (s : Statement) (at state : ℕ) (found : Option Triple) → proto_at i.facts s at ≡ Some state → IsFoundAt i state found → IsFoundIn i s at found
-found_in i (One word fun) at state found is found_at = absurd (cc is)
-found_in i (Two word first second) at state found is found_at = absurd (cc is)
 found_in i (Proto ret name params) at state found is found_at =
     let both = some_number name.at at (unwrap_or (fun_number i.facts.funs name.bytes) 0) state is in
     found_here i state (unwrap_or (fun_number i.facts.funs name.bytes) 0) name.at at found both.0 both.1 found_at
+found_in i _ at state found is found_at = absurd (cc is)
 
 pub none_in : (i : Declared) (s : Statement) (at : ℕ) → proto_at i.facts s at ≡ None → IsFoundIn i s at None
-none_in i (One word fun) at isn't = λ lacks. lacks
-none_in i (Two word first second) at isn't = λ lacks. lacks
 none_in i (Proto ret name params) at isn't = λ lacks. no_number name.at at (unwrap_or (fun_number i.facts.funs name.bytes) 0) isn't lacks.0
+none_in i _ at isn't = λ lacks. lacks
 
 pub not_found : (i : Declared) (s : Statement) (at : ℕ) (found : Option Triple) → found ≡ None → IsFoundIn i s at found → IsProtoWhere i.facts (HasNoWalk i) s at → ⊥
 not_found i s at None none is = is

@@ -141,7 +141,6 @@ fn proto_at(shape: &Shape, statement: &Statement, at: usize) -> Option<usize>
     ensures { result ≡ proto_at (facts_of shape.now) statement.now at }
 {
     match statement {
-        Statement::One { .. } | Statement::Two { .. } => None,
         Statement::Proto { name, .. } => {
             if name.at == at {
                 Some(fun_number(shape, name.slice).unwrap_or(0))
@@ -149,6 +148,7 @@ fn proto_at(shape: &Shape, statement: &Statement, at: usize) -> Option<usize>
                 None
             }
         }
+        _ => None,
     }
 }
 

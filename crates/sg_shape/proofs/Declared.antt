@@ -16,7 +16,7 @@ use Rattle.sg_check_statements.specs.sg_parse.declared.tree.Param.{Param}
 use Rattle.sg_check_statements.specs.sg_parse.declared.tree.Ret.{Ret}
 use Rattle.sg_check_statements.specs.sg_parse.declared.tree.Ret.TheVariants.{Plain, Set, Add, Sub}
 use Rattle.sg_check_statements.specs.sg_parse.declared.tree.Statement.{Statement}
-use Rattle.sg_check_statements.specs.sg_parse.declared.tree.Statement.TheVariants.{One, Two, Proto}
+use Rattle.sg_check_statements.specs.sg_parse.declared.tree.Statement.TheVariants.{Two}
 use Rattle.sg_shape.specs.Fields.{Use, param_use, ret_use, uses_of, word_use}
 use Rattle.sg_shape.specs.Prototypes.{Prototype, protos_of}
 use Rattle.sg_shape.specs.ShapeOfText.{kind_of}
@@ -86,10 +86,9 @@ args_among most k (p ∷ params) within =
     by false false false t a fits rest = let more : k + 1 + count_args (map kind_of params) ≤ most = omega (arith, fits) in by_effect t a more (rest (k + 1) more)
 
 said_among : (most : ℕ) (f : List ℕ) (s : Statement) → list_all (λ e. takes_among most e.1) (statement_effects f s) ≡ true
-said_among most f (One word fun) = refl
-said_among most f (Proto ret name params) = refl
 said_among most f (Two word first second) =
     one_of_two (λ e. takes_among most e.1) (bytes_eq first.bytes f && bytes_eq word.bytes (codes "desc_data_clear")) (bytes_eq first.bytes f && bytes_eq word.bytes (codes "desc_data_sub")) _ _ refl refl
+said_among most f _ = refl
 
 ret_among : (most : ℕ) (ret : Ret) → list_all (λ e. takes_among most e.1) (ret_effects ret) ≡ true
 ret_among most (Plain ty) = refl
@@ -124,10 +123,9 @@ args_into name k (p ∷ params) =
     by false false false same next = next
 
 said_into : (name f : List ℕ) (s : Statement) → list_all (into name) (statement_effects f s) ≡ true
-said_into name f (One word fun) = refl
-said_into name f (Proto ret n params) = refl
 said_into name f (Two word first second) =
     one_of_two (into name) (bytes_eq first.bytes f && bytes_eq word.bytes (codes "desc_data_clear")) (bytes_eq first.bytes f && bytes_eq word.bytes (codes "desc_data_sub")) _ _ refl refl
+said_into name f _ = refl
 
 ret_into : (name : List ℕ) (ret : Ret) → list_all (into name) (ret_effects ret) ≡ true
 ret_into name (Plain ty) = refl
@@ -188,8 +186,6 @@ ret_named names (Add ty field) found = ap (λ b. b && true) (found (record { nam
 ret_named names (Sub ty field) found = ap (λ b. b && true) (found (record { name = field; text = Some false }) refl)
 
 said_named : (names : List (List ℕ)) (f : List ℕ) (s : Statement) → ((u : Use) → word_use s ≡ Some u → named names u ≡ true) → list_all (among names) (statement_effects f s) ≡ true
-said_named names f (One word fun) found = refl
-said_named names f (Proto ret n params) found = refl
 said_named names f (Two word first second) found = by (bytes_eq first.bytes f) (bytes_eq word.bytes (codes "desc_data_clear")) (bytes_eq word.bytes (codes "desc_data_sub")) found
   where
     by : (b c d : Bool) → ((u : Use) → (if c then Some (record { name = second; text = None }) else (if d then Some (record { name = second; text = Some false }) else None)) ≡ Some u → named names u ≡ true)
@@ -198,6 +194,7 @@ said_named names f (Two word first second) found = by (bytes_eq first.bytes f) (
     by true true d found = ap (λ a. a && true) (found (record { name = second; text = None }) refl)
     by true false true found = ap (λ a. a && true) (found (record { name = second; text = Some false }) refl)
     by true false false found = refl
+said_named names f _ found = refl
 
 -- each effect that a text declares for one of its functions is on a field that the text names
 pub effects_named : (statements : List Statement) (k : ℕ) (p : Prototype) → slice_get (protos_of statements) k ≡ Some p

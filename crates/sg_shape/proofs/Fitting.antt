@@ -113,14 +113,13 @@ said_some f (s ∷ statements) none =
     nothing (Some g) b is = absurd (cc is)
 
     not_this : (t : Statement) → state_in f t ≡ None → leaves_some f t ≡ false
-    not_this (One word fun) is = refl
-    not_this (Proto ret name params) is = refl
     not_this (Two word first second) is = by (bytes_eq word.bytes (codes "sm_state")) (bytes_eq first.bytes f) is
       where
         by : (a b : Bool) → (if a then (if b then Some second.bytes else None) else None) ≡ None → (a && b) ≡ false
         by false b none = refl
         by true false none = refl
         by true true none = absurd (cc none)
+    not_this _ is = refl
 
 said_state : (f g : List ℕ) (statements : List Statement) → state_of f statements ≡ Some g → says_of statements (codes "sm_state") f g ≡ true
 said_state f g statements is =
@@ -128,14 +127,13 @@ said_state f g statements is =
     some_passes (is_two (codes "sm_state") f g) statements said.0 said.1 said.2 (this said.1 said.3)
   where
     this : (t : Statement) → state_in f t ≡ Some g → is_two (codes "sm_state") f g t ≡ true
-    this (One word fun) told = absurd (cc told)
-    this (Proto ret name params) told = absurd (cc told)
     this (Two word first second) told = by (bytes_eq word.bytes (codes "sm_state")) (bytes_eq first.bytes f) told
       where
         by : (a b : Bool) → (if a then (if b then Some second.bytes else None) else None) ≡ Some g → (a && b && bytes_eq second.bytes g) ≡ true
         by false b some = absurd (cc some)
         by true false some = absurd (cc some)
         by true true some = let same : second.bytes ≡ g = cc some in ap (λ m. bytes_eq m g) same ∙ own_bytes g
+    this _ told = absurd (cc told)
 
 -- the name of a prototype isn't that of one before it
 not_before : (ps : List Prototype) (p : Prototype) (qs : List Prototype) → all_differ (names_of (ps ++ p ∷ qs)) ≡ true → has_name (names_of ps) p.name.bytes ≡ false
@@ -262,8 +260,6 @@ module _ (tree : Tree) (sound : HasNoShapeFlaw tree) where
       → (has_pair pairs (function_number tree.statements first.bytes) (function_number tree.statements second.bytes) ≡ true)
       × (has_name (names_of (protos_of tree.statements)) first.bytes ≡ true) × (has_name (names_of (protos_of tree.statements)) second.bytes ≡ true))
       → foreign w pairs (shape_of_text tree) s ≡ Some place → ⊥
-  not_foreign w pairs (One word fun) place each is = cc is
-  not_foreign w pairs (Proto ret name params) place each is = cc is
   not_foreign w pairs (Two word first second) place each is = by (bytes_eq word.bytes w) refl is
     where
       by : (b : Bool) → bytes_eq word.bytes w ≡ b
@@ -276,6 +272,7 @@ module _ (tree : Tree) (sound : HasNoShapeFlaw tree) where
           ∙ ap (λ o. option_map_or (λ g. has_pair pairs (function_number tree.statements first.bytes) g) o false) (known_number second.bytes own.2) ∙ own.0 in
           let none : None ≡ Some place = ap (λ b. then_some (not b) first.at) (sym good) ∙ flaw in
           cc none
+  not_foreign w pairs _ place each is = cc is
 
   -- ---- kind by kind
 
@@ -296,30 +293,28 @@ module _ (tree : Tree) (sound : HasNoShapeFlaw tree) where
       let own = own_number tree sound (length (protos_of before)) (record { ret = ret; name = name; params = params }) (stands_proto before after ret name params split) in
       let none : None ≡ Some place = ap (λ o. then_some (is_none o) name.at) (sym own) ∙ flaw in
       cc none
+  none_unknown before after _ place split flaw = cc flaw
 
   none_bad : (before after : List Statement) (s : Statement) (place : ℕ) → tree.statements ≡ before ++ s ∷ after → flaw_of (shape_of_text tree) tree.statements BadParams s ≡ Some place → ⊥
-  none_bad before after (One word fun) place split flaw = cc flaw
-  none_bad before after (Two word first second) place split flaw = cc flaw
   none_bad before after (Proto ret name params) place split flaw =
       let own = fit_own (length (protos_of before)) (record { ret = ret; name = name; params = params }) (stands_proto before after ret name params split) in
       let none : None ≡ Some place = ap (λ b. then_some (not b) name.at) (sym own) ∙ flaw in
       cc none
+  none_bad before after _ place split flaw = cc flaw
 
   none_flagged : (before after : List Statement) (s : Statement) (place : ℕ) → tree.statements ≡ before ++ s ∷ after → flaw_of (shape_of_text tree) tree.statements WrongFlag s ≡ Some place → ⊥
-  none_flagged before after (One word fun) place split flaw = cc flaw
-  none_flagged before after (Two word first second) place split flaw = cc flaw
   none_flagged before after (Proto ret name params) place split flaw =
       let own = declared_own (length (protos_of before)) (record { ret = ret; name = name; params = params }) (stands_proto before after ret name params split) in
       let none : None ≡ Some place = ap (λ b. then_some (not b) name.at) (sym own) ∙ flaw in
       cc none
+  none_flagged before after _ place split flaw = cc flaw
 
   none_changed : (before after : List Statement) (s : Statement) (place : ℕ) → tree.statements ≡ before ++ s ∷ after → flaw_of (shape_of_text tree) tree.statements WrongEffect s ≡ Some place → ⊥
-  none_changed before after (One word fun) place split flaw = cc flaw
-  none_changed before after (Two word first second) place split flaw = cc flaw
   none_changed before after (Proto ret name params) place split flaw =
       let own = own_effects (length (protos_of before)) (record { ret = ret; name = name; params = params }) (stands_proto before after ret name params split) in
       let none : None ≡ Some place = ap (λ b. then_some (not b) name.at) (sym own) ∙ flaw in
       cc none
+  none_changed before after _ place split flaw = cc flaw
 
   none_foreign : (w : List ℕ) (two : (word : List ℕ) → bytes_eq word w ≡ true → names_two word ≡ true) (before after : List Statement) (s : Statement) (place : ℕ) → tree.statements ≡ before ++ s ∷ after
       → foreign w (in_order (filter_map (pair_in w tree.statements) tree.statements) (length (protos_of tree.statements))) (shape_of_text tree) s ≡ Some place → ⊥
@@ -332,8 +327,6 @@ module _ (tree : Tree) (sound : HasNoShapeFlaw tree) where
       flaw
 
   none_twice : (before after : List Statement) (s : Statement) (place : ℕ) → tree.statements ≡ before ++ s ∷ after → duplicate before s ≡ Some place → ⊥
-  none_twice before after (One word fun) place split flaw = cc flaw
-  none_twice before after (Two word first second) place split flaw = cc flaw
   none_twice before after (Proto ret name params) place split flaw =
       let p : Prototype = record { ret = ret; name = name; params = params } in
       let differ : all_differ (names_of (protos_of before ++ p ∷ protos_of after)) ≡ true =
@@ -341,6 +334,7 @@ module _ (tree : Tree) (sound : HasNoShapeFlaw tree) where
       let none : None ≡ Some place =
       ap (λ b. then_some b name.at) (sym (proto_names before name.bytes ∙ not_before (protos_of before) p (protos_of after) differ)) ∙ flaw in
       cc none
+  none_twice before after _ place split flaw = cc flaw
 
   -- ---- the service
 

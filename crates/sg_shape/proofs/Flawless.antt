@@ -1,11 +1,12 @@
 -- What holds of a text with which nothing is wrong, kind by kind.
-use Rattle.std.proofs.Common.{◌≡◌, ℕ, zero, suc, ◌+◌, ◌<◌, ◌≤◌, Bool, true, false, ◌&&◌, ◌||◌, not, List, [], ◌∷◌, map, length, None, Some, refl, sym, ◌∙◌, ap, arith}
-use Rattle.std.specs.Prelude.{find, nat_lt, slice_get, unwrap_or}
+use Rattle.std.proofs.Common.{◌≡◌, ℕ, zero, suc, ◌+◌, ◌<◌, ◌≤◌, Bool, true, false, ◌&&◌, ◌||◌, not, List, [], ◌∷◌, map, length, get_or, None, Some, refl, sym, ◌∙◌, ap, arith}
+use Rattle.std.specs.Prelude.{All, find, nat_lt, slice_get, unwrap_or}
 use Rattle.std.specs.Bool.{then_some}
 use Rattle.std.specs.declared.option.Option.{Option}
+use Rattle.std.specs.List.{filter_map}
 use Rattle.std.specs.Option.{option_map, option_or}
 use Rattle.std.proofs.lemmas.Bool.{ltb-false}
-use Rattle.std.proofs.lemmas.Option.{slice_get-map}
+use Rattle.std.proofs.lemmas.Option.{slice_get-get_or, slice_get-map}
 use Rattle.sg_facts.specs.Allowed.{is_cross}
 use Rattle.sg_facts.specs.Facts.{Fun, fun_at, no_fun}
 use Rattle.sg_facts.specs.Limits.{most_fields, most_funs}
@@ -18,7 +19,7 @@ use Rattle.sg_shape.specs.declared.fault.ShapeFaultKind.{ShapeFaultKind}
 use Rattle.sg_shape.specs.declared.fault.ShapeFaultKind.TheVariants.{Limit, DuplicateName, UnknownFunction, BadParams, MixedField, TwoEffects, Contradiction, PrivateLooksAround, QueryTakes, FileWithoutDesc, TextChanged, BlocksOrMakes, StateOfOther, MakesOn, ActsOnNone, NoParents, ReplayWrites, ArgumentLost, ReplayUnknown, RecoverMakes, WrongFact}
 use Rattle.sg_shape.specs.Faults.{HasNoShapeFlaw, place_of}
 use Rattle.sg_shape.specs.Fields.{first_uses, uses_of}
-use Rattle.sg_shape.specs.Flaws.{are_params, contradicts, is_flawed, is_forbidden, unknown_name}
+use Rattle.sg_shape.specs.Flaws.{are_params, contradicts, extra_rule, is_flawed, is_forbidden, unknown_name}
 use Rattle.sg_shape.specs.Limits.{most_params}
 use Rattle.sg_shape.specs.Prototypes.{Prototype, names_of, protos_of}
 use Rattle.sg_shape.specs.ShapeOfText.{function_of, shape_of_text}
@@ -27,7 +28,7 @@ use Rattle.sg_shape.proofs.Places.{neither, no_element, no_longer, none_found, n
 
 -- ---- the limits
 
--- the first prototype past the limit; the first of too many parameters; the first use of the first field past the limit
+-- the first prototype past the limit; the first of too many parameters; the first use of the first field past the limit; the first rule past it
 abbrev extra : List Statement → Option ℕ
 extra statements = option_map (λ p. p.name.at) (slice_get (protos_of statements) most_funs)
 
@@ -40,10 +41,16 @@ long statements = option_map (λ p. p.name.at) (find too_long (protos_of stateme
 abbrev next : List Statement → Option ℕ
 next statements = option_map (λ u. u.name.at) (slice_get (first_uses (uses_of statements)) most_fields)
 
+abbrev ruled : List Statement → Option ℕ
+ruled statements = slice_get (filter_map extra_rule statements) 0
+
 module _ (tree : Tree) (within : place_of tree Limit ≡ None) where
-  parts : (extra tree.statements ≡ None) × (option_or (long tree.statements) (next tree.statements) ≡ None)
+  parts : (extra tree.statements ≡ None) × (option_or (long tree.statements) (option_or (next tree.statements) (ruled tree.statements)) ≡ None)
   unfolding place_of
-  parts = neither (extra tree.statements) (option_or (long tree.statements) (next tree.statements)) within
+  parts = neither (extra tree.statements) (option_or (long tree.statements) (option_or (next tree.statements) (ruled tree.statements))) within
+
+  later : (long tree.statements ≡ None) × (option_or (next tree.statements) (ruled tree.statements) ≡ None)
+  later = neither (long tree.statements) (option_or (next tree.statements) (ruled tree.statements)) parts.1
 
   pub few_protos : length (protos_of tree.statements) ≤ most_funs
   few_protos = no_longer (protos_of tree.statements) most_funs (no_element (λ p. p.name.at) (slice_get (protos_of tree.statements) most_funs) parts.0)
@@ -52,12 +59,15 @@ module _ (tree : Tree) (within : place_of tree Limit ≡ None) where
   few_params k p at =
       ltb-false most_params (length p.params)
       (none_found too_long (protos_of tree.statements) k p
-      (no_element (λ q. q.name.at) (find too_long (protos_of tree.statements)) (neither (long tree.statements) (next tree.statements) parts.1).0) at)
+      (no_element (λ q. q.name.at) (find too_long (protos_of tree.statements)) later.0) at)
+
+  pub all_few : All (λ p. length p.params ≤ most_params) (protos_of tree.statements)
+  all_few = λ k d within. few_params k (get_or (protos_of tree.statements) k d) (slice_get-get_or (protos_of tree.statements) k d within)
 
   pub few_fields : length (first_uses (uses_of tree.statements)) ≤ most_fields
   few_fields =
       no_longer (first_uses (uses_of tree.statements)) most_fields
-      (no_element (λ u. u.name.at) (slice_get (first_uses (uses_of tree.statements)) most_fields) (neither (long tree.statements) (next tree.statements) parts.1).1)
+      (no_element (λ u. u.name.at) (slice_get (first_uses (uses_of tree.statements)) most_fields) (neither (next tree.statements) (ruled tree.statements) later.1).0)
 
 -- ---- the functions
 

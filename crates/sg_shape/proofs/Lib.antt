@@ -1,6 +1,8 @@
 pub mod Places
 pub mod Names
 pub mod Naming
+pub mod FirstUses
+pub mod Data
 pub mod OnFields
 pub mod Listing
 pub mod Clear
@@ -10,4 +12,6 @@ pub mod Allowed
 pub mod Declared
 pub mod Goods
 pub mod Fitting
+pub mod Kinds
 pub mod Loops
+pub mod Steps

@@ -1,6 +1,6 @@
 -- What loops have gathered, or not found, after one element more.
-use Rattle.std.proofs.Common.{◌≡◌, ℕ, zero, suc, ◌+◌, ◌<◌, ◌≤◌, Bool, true, false, cond, List, [], ◌∷◌, ◌++◌, map, take, drop, length, get_or, None, Some, refl, sym, ◌∙◌, ap, append_assoc, arith}
-use Rattle.std.specs.Prelude.{find}
+use Rattle.std.proofs.Common.{◌≡◌, ℕ, zero, suc, ◌+◌, ◌-◌, ◌<◌, ◌≤◌, Bool, true, false, cond, List, [], ◌∷◌, ◌++◌, map, take, drop, length, get_or, None, Some, refl, sym, ◌∙◌, ap, append_assoc, arith}
+use Rattle.std.specs.Prelude.{◌==◌, ◌&&◌, count_by, find}
 use Rattle.std.specs.declared.option.Option.{Option}
 use Rattle.std.specs.List.{cons_option, filter_map, flat_map}
 use Rattle.std.specs.Option.{option_or, option_to_list}
@@ -8,6 +8,9 @@ use Rattle.std.proofs.lemmas.List.{append-nil, take_more, take-append-drop}
 use Rattle.std.proofs.lemmas.List.Concat.{flat_map-append}
 use Rattle.std.proofs.lemmas.List.Elements.{filter_map-append}
 use Rattle.std.proofs.lemmas.List.Folds.{find-append}
+use Rattle.sg_facts.specs.declared.shape.Effect.{Effect}
+use Rattle.sg_facts.specs.Allowed.{each_arg}
+use Rattle.sg_facts.specs.Inside.Walking.{carries_arg}
 
 one_gathered : {Y : Type 0} (o : Option Y) → cons_option o [] ≡ option_to_list o
 one_gathered None = refl
@@ -59,3 +62,9 @@ pub first_gathered : {X Y : Type 0} (h : X → Option Y) (xs : List X) (i : ℕ)
 first_gathered h xs i x y within is none some =
     ap (filter_map h) (sym (take-append-drop (i + 1) xs)) ∙ filter_map-append h (take (i + 1) xs) (drop (i + 1) xs)
     ∙ ap (λ l. l ++ filter_map h (drop (i + 1) xs)) (gathered_more h xs i x within is ∙ ap (λ l. l ++ option_to_list (h x)) none ∙ ap option_to_list some)
+
+-- an argument fewer is left
+pub arg_step : (effects : List (ℕ × Effect)) (n : ℕ) → (n ≡ 0 → ⊥) → ((count_by (λ e. carries_arg (n - 1) e.1) effects == 1) && each_arg effects (n - 1)) ≡ each_arg effects n
+arg_step effects zero some = absurd (some refl)
+arg_step effects (suc n) some =
+    let less : suc n - 1 ≡ n = omega arith in ap (λ m. (count_by (λ e. carries_arg m e.1) effects == 1) && each_arg effects m) less

@@ -13,7 +13,7 @@ use Rattle.sg_check_statements.specs.NameSet.{has_name}
 use Rattle.sg_check_statements.specs.Says.{fun_number_from, has_proto}
 use Rattle.sg_check_statements.specs.Shapes.{all_differ}
 use Rattle.sg_check_statements.specs.sg_parse.declared.tree.Statement.{Statement}
-use Rattle.sg_check_statements.specs.sg_parse.declared.tree.Statement.TheVariants.{One, Two, Proto}
+use Rattle.sg_check_statements.specs.sg_parse.declared.tree.Statement.TheVariants.{Proto}
 use Rattle.sg_shape.specs.Flaws.{second_place}
 use Rattle.sg_shape.specs.Prototypes.{Prototype, names_of, number_from, protos_of}
 use Rattle.sg_shape.proofs.Places.{each_fails, none_pass}
@@ -43,9 +43,8 @@ named_at (n ∷ names) (suc k) name at = or_right (bytes_eq n name) (has_name na
 -- the functions that have a prototype are those of the prototypes' names
 pub proto_names : (statements : List Statement) (f : List ℕ) → has_proto statements f ≡ has_name (names_of (protos_of statements)) f
 proto_names [] f = refl
-proto_names (One word fun ∷ statements) f = proto_names statements f
-proto_names (Two word first second ∷ statements) f = proto_names statements f
 proto_names (Proto ret name params ∷ statements) f = ap (λ b. bytes_eq name.bytes f || b) (proto_names statements f)
+proto_names (_ ∷ statements) f = proto_names statements f
 
 -- ---- no name twice
 

@@ -19,7 +19,7 @@ use Rattle.sg_check_statements.specs.NameSet.{has_name}
 use Rattle.sg_check_statements.specs.Says.{has_proto, says}
 use Rattle.sg_check_statements.specs.Shapes.{all_differ, are_funs, is_fun, is_shape, leaves_fun}
 use Rattle.sg_check_statements.specs.sg_parse.declared.tree.Statement.{Statement}
-use Rattle.sg_check_statements.specs.sg_parse.declared.tree.Statement.TheVariants.{One, Two, Proto}
+use Rattle.sg_check_statements.specs.sg_parse.declared.tree.Statement.TheVariants.{Two}
 use Rattle.sg_check_statements.specs.sg_parse.declared.tree.Tree.{Tree}
 use Rattle.sg_shape.specs.declared.fault.ShapeFaultKind.TheVariants.{Limit}
 use Rattle.sg_shape.specs.Faults.{HasNoShapeFlaw}
@@ -52,8 +52,6 @@ not_told false at is = refl
 
 -- a statement that names a state names a function that has a prototype, where none is unknown
 state_known : (statements : List Statement) (f g : List ℕ) (s : Statement) → unknown_name statements s ≡ None → state_in f s ≡ Some g → has_proto statements g ≡ true
-state_known statements f g (One word fun) known is = absurd (cc is)
-state_known statements f g (Proto ret name params) known is = absurd (cc is)
 state_known statements f g (Two word first second) known is =
     by (bytes_eq word.bytes (codes "sm_state")) (bytes_eq first.bytes f) (bytes_eq word.bytes (codes "sm_transition")) (bytes_eq word.bytes (codes "sm_recover")) (has_proto statements second.bytes) refl
     (neither (then_some (not (has_proto statements first.bytes)) first.at) (then_some (names_two word.bytes && not (has_proto statements second.bytes)) second.at) known).1 is
@@ -64,6 +62,7 @@ state_known statements f g (Two word first second) known is =
     by true false c d e told none some = absurd (cc some)
     by true true c d true told none some = let same : second.bytes ≡ g = cc some in ap (has_proto statements) (sym same) ∙ told
     by true true c d false told none some = absurd (cc none)
+state_known statements f g _ known is = absurd (cc is)
 
 module _ (tree : Tree) (sound : HasNoShapeFlaw tree) where
   -- the function of a state that a function leaves has a prototype

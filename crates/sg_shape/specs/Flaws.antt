@@ -18,11 +18,13 @@ use Rattle.sg_check_statements.specs.Params.{has_word}
 use Rattle.sg_check_statements.specs.Says.{fun_number, has_proto, says}
 use Rattle.sg_check_statements.specs.sg_parse.declared.tree.Param.{Param}
 use Rattle.sg_check_statements.specs.sg_parse.declared.tree.Statement.{Statement}
-use Rattle.sg_check_statements.specs.sg_parse.declared.tree.Statement.TheVariants.{One, Two}
+use Rattle.sg_check_statements.specs.sg_parse.declared.tree.Statement.TheVariants.{One, Two, External, Answer}
+use Rattle.sg_check_statements.specs.sg_parse.sg_rules.declared.tree.Rule.{Rule}
+use Rattle.sg_check_statements.specs.sg_parse.sg_rules.declared.tree.Rule.TheVariants.{Refuse, Wait, Give, GiveRow, GiveFirst}
 use Rattle.sg_shape.specs.declared.fault.ShapeFaultKind.{ShapeFaultKind}
 use Rattle.sg_shape.specs.declared.fault.ShapeFaultKind.TheVariants.{BadParams, TwoEffects, Contradiction, PrivateLooksAround, QueryTakes, FileWithoutDesc, TextChanged, BlocksOrMakes, StateOfOther, MakesOn, ActsOnNone, NoParents, ReplayWrites, ArgumentLost, ReplayUnknown, RecoverMakes}
 use Rattle.sg_shape.specs.Fields.{Use, fields_of_text, first_uses, uses_of}
-use Rattle.sg_shape.specs.Limits.{most_params}
+use Rattle.sg_shape.specs.Limits.{most_params, most_rules}
 use Rattle.sg_shape.specs.Prototypes.{Prototype, protos_of}
 use Rattle.sg_shape.specs.ShapeOfText.{state_of}
 
@@ -32,13 +34,26 @@ first_proto test statements = option_map (λ p. p.name.at) (find test (protos_of
 
 -- ---- how much there is
 
+-- the place of a rule: that of its first word
+abbrev pub rule_at : Rule → ℕ
+rule_at (Refuse at code when) = at
+rule_at (Wait at when) = at
+rule_at (Give at term when) = at
+rule_at (GiveRow at picks code) = at
+rule_at (GiveFirst at terms picks code) = at
+
+-- the first rule of a statement past the greatest number of them
+abbrev pub extra_rule : Statement → Option ℕ
+extra_rule s = elim s [ Answer fun rules ↦ option_map rule_at (slice_get rules most_rules) | _ ↦ None ]
+
 -- the first prototype past the greatest number of functions; else the first of more than the greatest number of parameters; else the first
--- use of the first field past the greatest number of them
+-- use of the first field past the greatest number of them; else the first rule of a function past the greatest number of these
 abbrev pub limit_place : List Statement → Option ℕ
 limit_place statements =
     option_or (option_map (λ p. p.name.at) (slice_get (protos_of statements) most_funs))
     (option_or (first_proto (λ p. nat_lt most_params (length p.params)) statements)
-    (option_map (λ u. u.name.at) (slice_get (first_uses (uses_of statements)) most_fields)))
+    (option_or (option_map (λ u. u.name.at) (slice_get (first_uses (uses_of statements)) most_fields))
+    (slice_get (filter_map extra_rule statements) 0)))
 
 -- ---- names
 
@@ -51,6 +66,8 @@ second_place names (p ∷ protos) = if has_name names p.name.bytes then Some p.n
 abbrev pub unknown_name : List Statement → Statement → Option ℕ
 unknown_name statements s = elim s [
   | One word fun ↦ then_some (not (has_proto statements fun.bytes)) fun.at
+  | External fun ↦ then_some (not (has_proto statements fun.bytes)) fun.at
+  | Answer fun rules ↦ then_some (not (has_proto statements fun.bytes)) fun.at
   | Two word first second ↦
       option_or (then_some (not (has_proto statements first.bytes)) first.at)
       (then_some (names_two word.bytes && not (has_proto statements second.bytes)) second.at)

@@ -180,7 +180,7 @@ fn word_effect<'a>(statement: &Statement<'a>, fun: &[u8]) -> Option<NamedEffect<
                 None
             }
         }
-        Statement::One { .. } | Statement::Proto { .. } => None,
+        _ => None,
     }
 }
 

@@ -5,7 +5,8 @@ use thiserror::Error;
 /// What is wrong with a text by itself, in the order in which it is looked for.
 #[derive(Clone, Copy, Debug, PartialEq, Eq)]
 pub enum ShapeFaultKind {
-    /// There are more than `MOST_FUNS` prototypes, more than `MOST_PARAMS` parameters of one, or more than `MOST_FIELDS` fields.
+    /// There are more than `MOST_FUNS` prototypes, more than `MOST_PARAMS` parameters of one, more than `MOST_FIELDS` fields, or more than
+    /// `MOST_RULES` rules of a function.
     Limit,
     /// A function has a second prototype.
     DuplicateName,

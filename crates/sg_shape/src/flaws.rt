@@ -32,6 +32,7 @@ use std::alloc::Global;
 
 /// The first place at which something of a kind, which isn't `Limit`, is wrong with a text within the limits: one of this shape, with these
 /// prototypes and these uses of fields.
+#[tactic(auto, unfolding(crate::specs::Faults::place_of))]
 pub fn place_of(
     kind: ShapeFaultKind,
     alloc: Global,
@@ -51,25 +52,11 @@ pub fn place_of(
     match kind {
         ShapeFaultKind::Limit => unreachable!(),
         ShapeFaultKind::DuplicateName => Ok(second_place(protos)),
-        ShapeFaultKind::UnknownFunction => unknown_place(alloc, statements),
+        ShapeFaultKind::UnknownFunction => Ok(unknown_place(alloc, statements)?),
         ShapeFaultKind::MixedField => Ok(mixed_place(shape.fields, uses)),
-        ShapeFaultKind::PrivateLooksAround => private_place(alloc, tree, protos, shape),
+        ShapeFaultKind::PrivateLooksAround => Ok(private_place(alloc, tree, protos, shape)?),
         ShapeFaultKind::WrongFact => Ok(wrong_fact(shape, &tree.facts)),
-        ShapeFaultKind::BadParams
-        | ShapeFaultKind::TwoEffects
-        | ShapeFaultKind::Contradiction
-        | ShapeFaultKind::QueryTakes
-        | ShapeFaultKind::FileWithoutDesc
-        | ShapeFaultKind::TextChanged
-        | ShapeFaultKind::BlocksOrMakes
-        | ShapeFaultKind::StateOfOther
-        | ShapeFaultKind::MakesOn
-        | ShapeFaultKind::ActsOnNone
-        | ShapeFaultKind::NoParents
-        | ShapeFaultKind::ReplayWrites
-        | ShapeFaultKind::ArgumentLost
-        | ShapeFaultKind::ReplayUnknown
-        | ShapeFaultKind::RecoverMakes => flawed_place(kind, alloc, shape, statements, protos),
+        _ => Ok(flawed_place(kind, alloc, shape, statements, protos)?),
     }
 }
 
@@ -120,13 +107,14 @@ fn unknown_name(protos: &Protos, statement: &Statement) -> Option<usize>
     ensures { result ≡ unknown_name protos.now statement.now }
 {
     match statement {
-        Statement::One { fun, .. } => bare(protos, fun),
+        Statement::One { fun, .. } | Statement::External { fun } | Statement::Answer { fun, .. } =>
+            { bare(protos, fun) }
         Statement::Two {
             word,
             first,
             second,
         } => bare(protos, first).or(bare_second(protos, word.slice, second)),
-        Statement::Proto { .. } => None,
+        _ => None,
     }
 }
 
@@ -165,6 +153,7 @@ fn is_text_name(fields: &[FieldShape], name: &[u8]) -> bool
 
 // The place at which a private service is said to look around: at the fact that descriptors may have parents of other clients, or at the
 // first prototype of a function that looks at all rows.
+#[tactic(auto, unfolding(crate::specs::Faults::place_of))]
 fn private_place(
     alloc: Global,
     tree: &Tree,
@@ -180,13 +169,8 @@ fn private_place(
         return Ok(Some(tree.facts.parent.at));
     }
     let statements = tree.statements.as_slice();
-    flawed_place(
-        ShapeFaultKind::PrivateLooksAround,
-        alloc,
-        shape,
-        statements,
-        protos,
-    )
+    let kind = ShapeFaultKind::PrivateLooksAround;
+    Ok(flawed_place(kind, alloc, shape, statements, protos)?)
 }
 
 // The place of the first prototype that has a flaw of a kind.
@@ -221,7 +205,7 @@ fn is_flawed(
 {
     match kind {
         ShapeFaultKind::BadParams => Ok(!are_params(proto.params())),
-        ShapeFaultKind::TwoEffects => has_two_effects(alloc, statements, proto),
+        ShapeFaultKind::TwoEffects => Ok(has_two_effects(alloc, statements, proto)?),
         ShapeFaultKind::Contradiction => Ok(contradicts(statements, proto.name())),
         _ => Ok(is_of_forbidden(kind, shape, proto.name())),
     }

@@ -136,6 +136,6 @@ fn state_in<'a>(statement: &Statement<'a>, fun: &[u8]) -> Option<&'a [u8]>
                 None
             }
         }
-        Statement::One { .. } | Statement::Proto { .. } => None,
+        _ => None,
     }
 }

@@ -5,7 +5,7 @@
 //! - `flaws`: the first place of each kind of flaw; `forbidden`: what no function of a shape may have
 //! - `making`: the shape of a text within the limits, part by part: `funs` its functions, `effects` what they do to fields, `params`
 //!   their parameters, `fields` its fields, `pairs` its transitions and recover steps
-//! - `protos`: the prototypes of a text; `uses`: the uses of fields in one
+//! - `protos`: the prototypes of a text; `uses`: the uses of fields in one; `rules`: the rules
 //! - `keeping`: lists that are kept to the end of the program; `adding`: lists that gain what is found; `limits`: how large a text may be
 //! - `laws`: laws of the definitions (`one_verdict`, `flawless_shapes`, `own_texts_fit`)
 #![tactic(auto)]
@@ -24,6 +24,7 @@ mod making;
 mod pairs;
 mod params;
 mod protos;
+mod rules;
 mod shaping;
 mod uses;
 
@@ -31,6 +32,7 @@ pub use fault::{ShapeError, ShapeFault, ShapeFaultKind};
 pub use forbidden::count_args;
 pub use keeping::kept;
 pub use laws::{flawless_shapes, one_verdict, own_texts_fit};
-pub use limits::MOST_PARAMS;
+pub use limits::{MOST_PARAMS, MOST_RULES};
+pub use rules::rule_at;
 pub use sg_check_statements::{Tree, parse};
 pub use shaping::shape_of;

@@ -1,5 +1,5 @@
 // The pairs of functions that a text names.
-ghost use Rattle.std.specs.Prelude.{◌≡◌, ◌≤◌, ◌++◌, ℕ, List, filter, length, map, IfOk, OnOk};
+ghost use Rattle.std.specs.Prelude.{◌≡◌, ◌≤◌, ◌++◌, List, filter, length, map, IfOk, OnOk};
 ghost use Rattle.std.specs.List.{filter_map, range_with_len};
 ghost use Rattle.sg_facts.specs.Interface.{has_pair};
 ghost use Rattle.sg_facts.specs.Limits.{most_funs};
@@ -7,56 +7,12 @@ ghost use Rattle.sg_shape.specs.Prototypes.{protos_of};
 ghost use Rattle.sg_check_statements.specs.sg_parse.declared.tree.Statement.{Statement as One};
 ghost use Rattle.sg_shape.specs.ShapeOfText.{in_order, pair_in, pairs_of};
 
+use crate::adding::add;
 use crate::keeping::kept;
 use crate::protos::{Proto, number_in};
-use sg_check_statements::Statement;
-use sg_facts::NoMemory;
+use sg_check_statements::{Statement, has_pair};
+use sg_facts::{NoMemory, PairList};
 use std::alloc::Global;
-use std::collections::HashSet;
-use std::marker::Model;
-
-/// A set of pairs of function numbers. Contracts see the pairs, in some order.
-#[derive(Drop)]
-pub struct PairSet {
-    pairs: HashSet<(u8, u8)>,
-}
-
-impl Model for PairSet {
-    ghost use Rattle.std.specs.Prelude.{ℕ, List, map};
-
-    ghost Value = { List (ℕ × ℕ) };
-
-    ghost view = { λ s. map (λ p. (p.0, p.1)) s.pairs.keys };
-}
-
-impl PairSet {
-    ghost use Rattle.std.specs.Prelude.{◌≡◌, [], ◌==◌, ◌&&◌, ◌||◌, ℕ, OnOk};
-    ghost use Rattle.sg_facts.specs.Interface.{has_pair};
-
-    /// No pair. It takes no memory.
-    pub fn new(alloc: Global) -> PairSet
-        ensures { result ≡ [] }
-    {
-        PairSet {
-            pairs: HashSet::new(alloc),
-        }
-    }
-
-    /// Whether a pair is in the set.
-    pub fn has(&self, first: u8, second: u8) -> bool
-        ensures { result ≡ has_pair self.now first second }
-    {
-        self.pairs.contains(&(first, second))
-    }
-
-    /// Adds a pair.
-    pub fn add(&mut self, first: u8, second: u8) -> Result<(), NoMemory>
-        ensures { OnOk result ((a b : ℕ) → has_pair self.new a b ≡ (((first == a) && (second == b)) || has_pair self.old a b)) }
-    {
-        self.pairs.insert((first, second))?;
-        Ok(())
-    }
-}
 
 /// The pairs of functions that statements name under a word, each once, in order, kept to the end of the program. The prototypes are those
 /// of the statements.
@@ -71,25 +27,23 @@ pub fn pairs_of(
     ensures { IfOk result (λ pairs. pairs.now ≡ pairs_of word.now statements.now) }
 {
     let named = named_pairs(alloc, word, statements, protos)?;
-    in_order(alloc, &named, protos.len() as u8)
+    in_order(alloc, named.as_slice(), protos.len() as u8)
 }
 
-// The pairs of functions that statements name under a word.
+// The pairs of functions that statements name under a word, in their order.
 fn named_pairs(
     alloc: Global,
     word: &[u8],
     statements: &[Statement],
     protos: &[Proto],
-) -> Result<PairSet, NoMemory>
+) -> Result<PairList, NoMemory>
     requires protos { protos.now ≡ protos_of statements.now }
     requires few { length protos.now ≤ most_funs }
-    ensures { IfOk result (λ set. (a b : ℕ) → has_pair set a b ≡ has_pair (filter_map (pair_in word.now statements.now) statements.now) a b) }
+    ensures { IfOk result (λ named. named ≡ filter_map (pair_in word.now statements.now) statements.now) }
 {
-    let mut named = PairSet::new(alloc);
+    let mut named = PairList::new(alloc);
     'statements: for statement in statements {
-        if let Some((first, second)) = pair_in(word, protos, statement) {
-            named.add(first, second)?;
-        }
+        add(&mut named, pair_in(word, protos, statement))?;
     }
     Ok(named)
 }
@@ -114,12 +68,12 @@ fn pair_in(word: &[u8], protos: &[Proto], statement: &Statement) -> Option<(u8, 
                 None
             }
         }
-        Statement::One { .. } | Statement::Proto { .. } => None,
+        _ => None,
     }
 }
 
-// The pairs of the numbers from 1 to a count that are in a set, in order, kept to the end of the program.
-fn in_order(alloc: Global, named: &PairSet, count: u8) -> Result<&'static [(u8, u8)], NoMemory>
+// The pairs of the numbers from 1 to a count that are among these, in order, kept to the end of the program.
+fn in_order(alloc: Global, named: &[(u8, u8)], count: u8) -> Result<&'static [(u8, u8)], NoMemory>
     requires { count ≤ most_funs }
     ensures { IfOk result (λ pairs. pairs.now ≡ in_order named.now count) }
 {
@@ -130,10 +84,10 @@ fn in_order(alloc: Global, named: &PairSet, count: u8) -> Result<&'static [(u8, 
     Ok(kept(pairs))
 }
 
-// Adds the pairs of a number with each from 1 to a count that are in a set.
+// Adds the pairs of a number with each from 1 to a count that are among these.
 fn add_pairs(
     pairs: &mut Vec<(u8, u8)>,
-    named: &PairSet,
+    named: &[(u8, u8)],
     first: u8,
     count: u8,
 ) -> Result<(), NoMemory>
@@ -142,7 +96,7 @@ fn add_pairs(
         ++ filter (λ p. has_pair named.now p.0 p.1) (map (λ b. (first, b)) (range_with_len 1 count))) }
 {
     'seconds: for second in 1..=count {
-        if named.has(first, second) {
+        if has_pair(named, usize::from(first), usize::from(second)) {
             pairs.push((first, second))?;
         }
     }

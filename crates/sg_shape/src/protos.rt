@@ -83,7 +83,7 @@ pub fn proto_in<'t, 'a>(statement: &'t Statement<'a>) -> Option<Proto<'t, 'a>>
             name,
             params: params.as_slice(),
         }),
-        Statement::One { .. } | Statement::Two { .. } => None,
+        _ => None,
     }
 }
 

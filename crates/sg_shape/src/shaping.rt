@@ -22,6 +22,7 @@ use crate::flaws::place_of;
 use crate::limits::MOST_PARAMS;
 use crate::making::made;
 use crate::protos::{Proto, protos_of};
+use crate::rules::first_extra_rule;
 use crate::uses::{FieldUse, uses_of};
 use sg_check_statements::Tree;
 use sg_facts::{MOST_FUNS, Shape};
@@ -97,14 +98,16 @@ fn unless(kind: ShapeFaultKind, place: Option<usize>) -> Result<(), ShapeError>
 }
 
 // A text with these prototypes is within the limits; the place is that of the first use of the first field past them.
+#[tactic(auto, unfolding(crate::specs::Faults::place_of))]
 fn within_limits(tree: &Tree, protos: &[Proto], next: Option<usize>) -> Result<(), ShapeError>
     requires protos { protos.now ≡ protos_of tree.now.statements }
     requires next { next ≡ option_map (λ u. u.name.at) (slice_get (first_uses (uses_of tree.now.statements)) most_fields) }
     ensures { MatchResult result (λ _. place_of tree.now limit ≡ None) (IsFirstShapeError tree.now) }
 {
+    let statements = tree.statements.as_slice();
     unless(
         ShapeFaultKind::Limit,
-        extra_proto(protos).or(first_long(protos).or(next)),
+        extra_proto(protos).or(first_long(protos).or(next.or(first_extra_rule(statements)))),
     )
 }
 

@@ -168,6 +168,6 @@ fn word_use<'a>(statement: &Statement<'a>) -> Option<FieldUse<'a>>
                 None
             }
         }
-        Statement::One { .. } | Statement::Proto { .. } => None,
+        _ => None,
     }
 }

@@ -32,6 +32,10 @@ pub const PARENTS: &str =
 pub const PRIVATE: &str =
     "service_global_info = { service = own, desc_has_parent = none, desc_close = refuse, desc_is_global = false, desc_block = false, desc_has_data = false, resc_has_data = false };\n";
 
+/// A global service without parents, files and data, which blocks nobody, in a text of version 3.
+pub const VERSION_3: &str =
+    "service_global_info = { version = 3, service = own, desc_has_parent = none, desc_close = refuse, desc_is_global = true, desc_block = false, desc_has_data = false, resc_has_data = false, desc_recover = demand };\n";
+
 // Adds what stands in a part beside marks, and finds where a mark stands.
 fn add_part(text: &mut Vec<u8>, marked: &mut Option<usize>, part: &str) -> Result<(), AllocError> {
     for byte in part.as_bytes() {

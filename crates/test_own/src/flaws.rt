@@ -1,5 +1,5 @@
 // What is wrong with texts by themselves, kind by kind.
-use crate::cases::{Case, DATA, PARENTS, PLAIN, PRIVATE, try_each};
+use crate::cases::{Case, DATA, PARENTS, PLAIN, PRIVATE, VERSION_3, try_each};
 use sg_shape::ShapeFaultKind;
 use std::test::Fail;
 
@@ -49,6 +49,35 @@ static ACCEPTED: [Case; 5] = [
         head: PLAIN,
         statements: "sm_state(back, make);\nsm_state(back, make);\nsm_creation(make);\nlong make(spdid_t s);\nint back(spdid_t s, long desc(d));\n",
         wrong: None,
+    },
+];
+
+// Names in statements of version 3, which make no field.
+static NEWER: [Case; 5] = [
+    Case {
+        head: VERSION_3,
+        statements: "sm_creation(f);\nsm_external(f);\nint f(spdid_t s);\nsm_answer(f) { wait if x is 1; give 7; }\ndesc_data_most(x, 9);\ndesc_data_unique(x, y);\n",
+        wrong: None,
+    },
+    Case {
+        head: VERSION_3,
+        statements: "sm_external(@f);\nsm_creation(g);\n",
+        wrong: Some(ShapeFaultKind::UnknownFunction),
+    },
+    Case {
+        head: VERSION_3,
+        statements: "sm_answer(@f) { wait if g is 1; }\nsm_external(g);\n",
+        wrong: Some(ShapeFaultKind::UnknownFunction),
+    },
+    Case {
+        head: VERSION_3,
+        statements: "sm_creation(f);\nint f(spdid_t s);\nsm_answer(f) { give 7; }\nsm_answer(@x) { give 7; }\ndesc_data_most(x, 9);\n",
+        wrong: Some(ShapeFaultKind::UnknownFunction),
+    },
+    Case {
+        head: VERSION_3,
+        statements: "sm_answer(f) { give 7; }\nint f(spdid_t s);\nint @f(spdid_t s);\nsm_external(g);\n",
+        wrong: Some(ShapeFaultKind::DuplicateName),
     },
 ];
 
@@ -288,6 +317,11 @@ static HEADS: [Case; 4] = [
 #[test]
 fn accepted_are_told(rt: HostRuntime) -> Result<(), Fail> {
     try_each(&rt, rt.alloc(), &ACCEPTED)
+}
+
+#[test]
+fn newer_are_told(rt: HostRuntime) -> Result<(), Fail> {
+    try_each(&rt, rt.alloc(), &NEWER)
 }
 
 #[test]

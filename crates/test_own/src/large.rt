@@ -1,6 +1,6 @@
 // Texts at the limits, and past them.
-use crate::cases::{Answer, DATA, PLAIN, answer};
-use sg_shape::{MOST_PARAMS, ShapeFaultKind};
+use crate::cases::{Answer, DATA, PLAIN, VERSION_3, answer};
+use sg_shape::{MOST_PARAMS, MOST_RULES, ShapeFaultKind};
 use std::alloc::{AllocError, Global};
 use std::test::Fail;
 
@@ -48,6 +48,23 @@ fn fields(alloc: Global, count: u16) -> Result<(Vec<u8>, usize), AllocError> {
     Ok((text, last))
 }
 
+// A text with a function that answers by one rule, and one that does by as many as are asked for, and the place of the last of these.
+fn rules(alloc: Global, count: usize) -> Result<(Vec<u8>, usize), AllocError> {
+    let mut text = Vec::new(alloc);
+    text.extend_from_slice(VERSION_3.as_bytes())?;
+    text.extend_from_slice(
+        b"sm_creation(f);\nsm_creation(g);\nint f(spdid_t s);\nint g(spdid_t s);\n",
+    )?;
+    text.extend_from_slice(b"sm_answer(f) { give 7; }\nsm_answer(g) {\n")?;
+    let mut last = 0;
+    for _ in 0..count {
+        last = text.len();
+        text.extend_from_slice(b"give 7;\n")?;
+    }
+    text.extend_from_slice(b"}\n")?;
+    Ok((text, last))
+}
+
 // A limit that is passed.
 fn past(at: usize) -> Answer {
     Some((ShapeFaultKind::Limit, at))
@@ -79,6 +96,16 @@ fn many_fields(rt: HostRuntime) -> Result<(), Fail> {
     let (most, _) = fields(alloc, 8)?;
     assert_eq!(rt; answer(alloc, most.as_slice())?, None);
     let (text, at) = fields(alloc, 9)?;
+    assert_eq!(rt; answer(alloc, text.as_slice())?, past(at));
+    Ok(())
+}
+
+#[test]
+fn many_rules(rt: HostRuntime) -> Result<(), Fail> {
+    let alloc = rt.alloc();
+    let (most, _) = rules(alloc, MOST_RULES)?;
+    assert_eq!(rt; answer(alloc, most.as_slice())?, None);
+    let (text, at) = rules(alloc, MOST_RULES + 1)?;
     assert_eq!(rt; answer(alloc, text.as_slice())?, past(at));
     Ok(())
 }

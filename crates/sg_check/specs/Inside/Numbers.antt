@@ -4,7 +4,7 @@ use Rattle.std.specs.declared.option.Option.{Option}
 use Rattle.std.specs.List.{list_any}
 use Rattle.sg_facts.specs.Facts.{Facts}
 use Rattle.sg_check_statements.specs.sg_parse.declared.tree.Statement.{Statement}
-use Rattle.sg_check_statements.specs.sg_parse.declared.tree.Statement.TheVariants.{One, Two, Proto}
+use Rattle.sg_check_statements.specs.sg_parse.declared.tree.Statement.TheVariants.{Proto}
 use Rattle.std.specs.Bool.{then_some}
 use Rattle.sg_check_statements.specs.Says.{fun_number}
 
@@ -18,6 +18,5 @@ GainsNumber old new n = (other : ℕ) → has_number new other ≡ (has_number o
 
 -- the place of a prototype of a function whose number is among these
 abbrev pub marked : Facts → List ℕ → Statement → Option ℕ
-marked facts numbers (One word fun) = None
-marked facts numbers (Two word first second) = None
 marked facts numbers (Proto ret name params) = then_some (has_number numbers (unwrap_or (fun_number facts.funs name.bytes) 0)) name.at
+marked facts numbers _ = None

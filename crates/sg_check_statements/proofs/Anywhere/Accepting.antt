@@ -1,4 +1,4 @@
--- A text that is equal but for places, and of version 2, is accepted where the text is.
+-- A text that is equal but for places to an accepted one once it is upgraded is accepted.
 use Rattle.std.proofs.Common.{◌≡◌, ℕ, Bool, List, map, refl, sym, ◌∙◌, ap, subst}
 use Rattle.std.specs.Prelude.{codes, filter}
 use Rattle.std.specs.Option.{is_some}
@@ -43,8 +43,12 @@ module _ (services : List Facts) (one other : Tree) (same : plain other ≡ plai
   of_one : (facts : Facts) → IsOf services other facts → IsOf services one facts
   of_one facts is = ap (service_of services) (sym named) ∙ is
 
+  -- the version of the one once it is upgraded
+  abbrev later : ℕ
+  later = (upgraded one).facts.version
+
   -- the interfaces are one but for the version
-  declared_there : (facts : Facts) → interface_of facts other ≡ of_version 2 (interface_of facts one)
+  declared_there : (facts : Facts) → interface_of facts other ≡ of_version later (interface_of facts one)
   declared_there facts = sym (interface_same facts other) ∙ ap (interface_of facts) same ∙ interface_same facts (upgraded one)
 
   -- where something is wrong with the one, it is with the other, at some place
@@ -79,21 +83,21 @@ module _ (services : List Facts) (one other : Tree) (same : plain other ≡ plai
   fault_there Unreached at (facts, is, first) =
       let i : Declared = interface_of facts one in
       let r = first_where_there facts (IsUnreached (interface_of facts other)) (IsUnreached i)
-      (λ n un. unreached_on i 2 i.version n (subst (λ j. IsUnreached j n) (declared_there facts) un))
-      (λ n un. subst (λ j. IsUnreached j n) (sym (declared_there facts)) (unreached_on i i.version 2 n un)) other.statements one.statements at listed first in
+      (λ n un. unreached_on i later i.version n (subst (λ j. IsUnreached j n) (declared_there facts) un))
+      (λ n un. subst (λ j. IsUnreached j n) (sym (declared_there facts)) (unreached_on i i.version later n un)) other.statements one.statements at listed first in
       (r.0, (facts, of_one facts is, r.1))
   fault_there NoWalk at (facts, is, first) =
       let i : Declared = interface_of facts one in
       let r = first_where_there facts (HasNoWalk (interface_of facts other)) (HasNoWalk i)
-      (λ n un. stuck_on i 2 i.version n (subst (λ j. HasNoWalk j n) (declared_there facts) un))
-      (λ n un. subst (λ j. HasNoWalk j n) (sym (declared_there facts)) (stuck_on i i.version 2 n un)) other.statements one.statements at listed first in
+      (λ n un. stuck_on i later i.version n (subst (λ j. HasNoWalk j n) (declared_there facts) un))
+      (λ n un. subst (λ j. HasNoWalk j n) (sym (declared_there facts)) (stuck_on i i.version later n un)) other.statements one.statements at listed first in
       (r.0, (facts, of_one facts is, r.1))
 
-  pub accepted_there : (i : Declared) → IsAccepted services one i → IsAccepted services other (of_version 2 i)
+  pub accepted_there : (i : Declared) → IsAccepted services one i → IsAccepted services other (of_version (upgraded one).facts.version i)
   accepted_there i a = record {
     none = λ kind place flaw. let r = fault_there kind place flaw in a.none kind r.0 r.1;
     facts = a.facts;
     service = ap (service_of services) named ∙ a.service;
-    declared = ap (of_version 2) a.declared ∙ sym (declared_there a.facts);
-    fits = fits_on i i.version 2 a.fits;
+    declared = ap (of_version later) a.declared ∙ sym (declared_there a.facts);
+    fits = fits_on i i.version later a.fits;
   }

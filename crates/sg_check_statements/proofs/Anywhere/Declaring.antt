@@ -15,10 +15,11 @@ use Rattle.sg_parse.specs.declared.tree.Param.{Param}
 use Rattle.sg_parse.specs.declared.tree.Ret.{Ret}
 use Rattle.sg_parse.specs.declared.tree.Ret.TheVariants.{Plain, Set, Add, Sub}
 use Rattle.sg_parse.specs.declared.tree.Statement.{Statement}
-use Rattle.sg_parse.specs.declared.tree.Statement.TheVariants.{One, Two, Proto}
+use Rattle.sg_parse.specs.declared.tree.Statement.TheVariants.{Two}
 use Rattle.sg_parse.specs.declared.tree.TypeName.{TypeName}
 use Rattle.sg_parse.specs.sg_lex.Lexeme.{Spelling as Named}
-use Rattle.sg_parse.specs.Grammar.Plain.{plain_name, plain_param, plain_ret, plain_statement, plain_type}
+use Rattle.sg_parse.specs.sg_rules.Grammar.Plain.{plain_name}
+use Rattle.sg_parse.specs.Grammar.Plain.{plain_param, plain_ret, plain_statement, plain_type}
 use Rattle.sg_check_statements.specs.Effects.{arg_effects, declared_effects}
 use Rattle.sg_check_statements.specs.Inside.Pieces.{Named_effect, caller_effects, later_effects, ret_effects, statement_effects, is_caller, is_client_type}
 use Rattle.sg_check_statements.specs.Params.{is_of_kind, fit_params, has_word}
@@ -87,9 +88,8 @@ ret_same (Add ty field) = refl
 ret_same (Sub ty field) = refl
 
 one_same : (f : List ℕ) (s : Statement) → statement_effects f (plain_statement s) ≡ statement_effects f s
-one_same f (One word fun) = refl
 one_same f (Two word first second) = refl
-one_same f (Proto ret name params) = refl
+one_same f _ = refl
 
 all_same : (f : List ℕ) (ss : List Statement) → flat_map (statement_effects f) (map plain_statement ss) ≡ flat_map (statement_effects f) ss
 all_same f [] = refl

@@ -12,7 +12,8 @@ use Rattle.sg_parse.specs.declared.tree.Facts.{Facts as Head}
 use Rattle.sg_parse.specs.declared.tree.Statement.{Statement}
 use Rattle.sg_parse.specs.declared.tree.Statement.TheVariants.{One, Two, Proto}
 use Rattle.sg_parse.specs.sg_lex.Lexeme.{Spelling as Named}
-use Rattle.sg_parse.specs.Grammar.Plain.{plain_facts, plain_name, plain_param, plain_ret, plain_statement}
+use Rattle.sg_parse.specs.sg_rules.Grammar.Plain.{plain_name}
+use Rattle.sg_parse.specs.Grammar.Plain.{plain_facts, plain_param, plain_ret, plain_statement}
 use Rattle.sg_check_statements.specs.Effects.{declared_effects, same_effects}
 use Rattle.sg_check_statements.specs.Inside.Pieces.{Named_effect, service_effects, agree, bad_params, fit_flags, names_two, no_creation, other_value, unknown, wrong_effect, wrong_flag}
 use Rattle.sg_check_statements.specs.Flaws.{fit_leaves, leaves_another, leaves_some, duplicate, foreign, fun_of_name, is_declared, wrong_fact}
@@ -43,10 +44,9 @@ both a b c d one other = some_first a b ∙ ap (λ x. x || is_some b) one ∙ ap
 -- ---- names
 
 pub duplicate_same : (before : List Statement) (s : Statement) → is_some (duplicate (map plain_statement before) (plain_statement s)) ≡ is_some (duplicate before s)
-duplicate_same before (One word fun) = refl
-duplicate_same before (Two word first second) = refl
 duplicate_same before (Proto ret name params) =
     placed (has_proto (map plain_statement before) name.bytes) (has_proto before name.bytes) 0 name.at (ap (λ (has : List ℕ → Bool). has name.bytes) (proto_same before))
+duplicate_same before _ = refl
 
 pub unknown_same : (facts : Facts) (ss : List Statement) (s : Statement) → is_some (unknown facts (map plain_statement ss) (plain_statement s)) ≡ is_some (unknown facts ss s)
 unknown_same facts ss (One word fun) =
@@ -58,15 +58,15 @@ unknown_same facts ss (Two word first second) =
     (placed (names_two word.bytes && not (has_proto (map plain_statement ss) second.bytes)) (names_two word.bytes && not (has_proto ss second.bytes)) 0 second.at
     (ap (λ (has : List ℕ → Bool). names_two word.bytes && not (has second.bytes)) (proto_same ss)))
 unknown_same facts ss (Proto ret name params) = placed _ _ 0 name.at refl
+unknown_same facts ss _ = refl
 
 -- ---- parameters and facts
 
 pub bad_params_same : (facts : Facts) (s : Statement) → is_some (bad_params facts (plain_statement s)) ≡ is_some (bad_params facts s)
-bad_params_same facts (One word fun) = refl
-bad_params_same facts (Two word first second) = refl
 bad_params_same facts (Proto ret name params) =
     placed (not (fit_params (fun_of_name facts name.bytes) (map plain_param params))) (not (fit_params (fun_of_name facts name.bytes) params)) 0 name.at
     (ap not (fit_same (fun_of_name facts name.bytes) params))
+bad_params_same facts _ = refl
 
 value_same : (value : Named) (word : List ℕ) → is_some (other_value (plain_name value) word) ≡ is_some (other_value value word)
 value_same value word = placed _ _ 0 value.at refl
@@ -90,14 +90,12 @@ wrong_fact_same facts head =
 -- ---- flags, states and effects
 
 another_same : (f g : List ℕ) (s : Statement) → leaves_another f g (plain_statement s) ≡ leaves_another f g s
-another_same f g (One word fun) = refl
 another_same f g (Two word first second) = refl
-another_same f g (Proto ret name params) = refl
+another_same f g _ = refl
 
 some_same : (f : List ℕ) (s : Statement) → leaves_some f (plain_statement s) ≡ leaves_some f s
-some_same f (One word fun) = refl
 some_same f (Two word first second) = refl
-some_same f (Proto ret name params) = refl
+some_same f _ = refl
 
 leaves_same : (facts : Facts) (ss : List Statement) (f : List ℕ) (l : Leaves) → fit_leaves facts (map plain_statement ss) f l ≡ fit_leaves facts ss f l
 leaves_same facts ss f Own =
@@ -126,25 +124,22 @@ declared_flags_same facts ss f =
     ∙ ap (λ b. fit_flags ss f (fun_of_name facts f) && b) (leaves_same facts ss f (fun_of_name facts f).leaves)
 
 pub wrong_flag_same : (facts : Facts) (ss : List Statement) (s : Statement) → is_some (wrong_flag facts (map plain_statement ss) (plain_statement s)) ≡ is_some (wrong_flag facts ss s)
-wrong_flag_same facts ss (One word fun) = refl
-wrong_flag_same facts ss (Two word first second) = refl
 wrong_flag_same facts ss (Proto ret name params) =
     placed (not (is_declared facts (map plain_statement ss) name.bytes)) (not (is_declared facts ss name.bytes)) 0 name.at (ap not (declared_flags_same facts ss name.bytes))
+wrong_flag_same facts ss _ = refl
 
 pub wrong_effect_same : (facts : Facts) (ss : List Statement) (s : Statement) → is_some (wrong_effect facts (map plain_statement ss) (plain_statement s)) ≡ is_some (wrong_effect facts ss s)
-wrong_effect_same facts ss (One word fun) = refl
-wrong_effect_same facts ss (Two word first second) = refl
 wrong_effect_same facts ss (Proto ret name params) =
     let own : List Named_effect = service_effects facts (fun_of_name facts name.bytes) in
     placed (not (same_effects (declared_effects (map plain_statement ss) name.bytes (plain_ret ret) (map plain_param params)) own)) (not (same_effects (declared_effects ss name.bytes ret params) own)) 0 name.at
     (ap (λ l. not (same_effects l own)) (declared_same ss name.bytes ret params))
+wrong_effect_same facts ss _ = refl
 
 -- ---- transitions, recover steps and creations
 
 pub foreign_same : (w : List ℕ) (pairs : List (ℕ × ℕ)) (facts : Facts) (s : Statement) → is_some (foreign w pairs facts (plain_statement s)) ≡ is_some (foreign w pairs facts s)
-foreign_same w pairs facts (One word fun) = refl
 foreign_same w pairs facts (Two word first second) = placed _ _ 0 first.at refl
-foreign_same w pairs facts (Proto ret name params) = refl
+foreign_same w pairs facts _ = refl
 
 pub no_creation_same : (facts : Facts) (ss : List Statement) → no_creation facts (map plain_statement ss) ≡ no_creation facts ss
 no_creation_same facts ss = ap (λ (has : List ℕ → Bool). then_some (not (list_any (λ f. f.creation && has f.name) facts.funs)) 0) (proto_same ss)

@@ -14,19 +14,16 @@ any_same test change same [] = refl
 any_same test change same (x ∷ xs) = ap (λ b. b || list_any test (map change xs)) (same x) ∙ ap (λ b. test x || b) (any_same test change same xs)
 
 is_proto_same : (f : List ℕ) (s : Statement) → is_proto f (plain_statement s) ≡ is_proto f s
-is_proto_same f (One word fun) = refl
-is_proto_same f (Two word first second) = refl
 is_proto_same f (Proto ret name params) = refl
+is_proto_same f _ = refl
 
 is_one_same : (w f : List ℕ) (s : Statement) → is_one w f (plain_statement s) ≡ is_one w f s
 is_one_same w f (One word fun) = refl
-is_one_same w f (Two word first second) = refl
-is_one_same w f (Proto ret name params) = refl
+is_one_same w f _ = refl
 
 is_two_same : (w f g : List ℕ) (s : Statement) → is_two w f g (plain_statement s) ≡ is_two w f g s
-is_two_same w f g (One word fun) = refl
 is_two_same w f g (Two word first second) = refl
-is_two_same w f g (Proto ret name params) = refl
+is_two_same w f g _ = refl
 
 pub proto_same : (statements : List Statement) → has_proto (map plain_statement statements) ≡ has_proto statements
 proto_same statements = fun_ext (λ f. any_same (is_proto f) plain_statement (is_proto_same f) statements)

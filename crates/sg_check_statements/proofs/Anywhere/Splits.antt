@@ -5,7 +5,7 @@ use Rattle.std.specs.Option.{is_some}
 use Rattle.std.proofs.lemmas.List.{map-append}
 use Rattle.sg_facts.specs.Facts.{Facts}
 use Rattle.sg_parse.specs.declared.tree.Statement.{Statement}
-use Rattle.sg_parse.specs.declared.tree.Statement.TheVariants.{One, Two, Proto}
+use Rattle.sg_parse.specs.declared.tree.Statement.TheVariants.{Proto}
 use Rattle.sg_parse.specs.Grammar.Plain.{plain_statement}
 use Rattle.sg_check_statements.specs.Faults.{IsFirstStatement}
 use Rattle.sg_check_statements.specs.Inside.Pieces.{NoStatement}
@@ -79,14 +79,12 @@ module _ (flaw : List Statement → List Statement → Statement → Option ℕ)
 -- a prototype of a function of which something holds
 module _ (facts : Facts) where
   at_no_place : (P Q : ℕ → Type 0) → ((n : ℕ) → P n → Q n) → (s : Statement) (at : ℕ) → IsProtoWhere facts P s at → IsProtoWhere facts Q (plain_statement s) 0
-  at_no_place P Q to (One word fun) at is = absurd is
-  at_no_place P Q to (Two word first second) at is = absurd is
   at_no_place P Q to (Proto ret name params) at is = (refl, to _ is.1)
+  at_no_place P Q to _ at is = absurd is
 
   at_some_place : (Q : ℕ → Type 0) (s : Statement) → IsProtoWhere facts Q (plain_statement s) 0 → (place : ℕ) × IsProtoWhere facts Q s place
-  at_some_place Q (One word fun) is = absurd is
-  at_some_place Q (Two word first second) is = absurd is
   at_some_place Q (Proto ret name params) is = (name.at, (refl, is.1))
+  at_some_place Q _ is = absurd is
 
   where_carried : (P Q : ℕ → Type 0) → ((n : ℕ) → P n → Q n) → Carries (λ before s p. IsProtoWhere facts P s p) (λ before s p. IsProtoWhere facts Q s p)
   where_carried P Q to b c s t at before one is = at_some_place Q t (subst (λ u. IsProtoWhere facts Q u 0) one (at_no_place P Q to s at is))

@@ -61,6 +61,7 @@ unknown facts statements (Two word first second) =
     option_or (then_some (not (has_proto statements first.bytes)) first.at)
     (then_some (names_two word.bytes && not (has_proto statements second.bytes)) second.at)
 unknown facts statements (Proto ret name params) = then_some (is_none (fun_number facts.funs name.bytes)) name.at
+unknown facts statements _ = None
 
 -- ---- parameters and facts
 
@@ -76,9 +77,8 @@ is_caller p = is_client_type p.ty && not (has_word p.form (codes "desc") || has_
 
 -- a prototype whose parameters aren't the function's
 abbrev pub bad_params : Facts → Statement → Option ℕ
-bad_params facts (One word fun) = None
-bad_params facts (Two word first second) = None
 bad_params facts (Proto ret name params) = then_some (not (fit_params (fun_of_name facts name.bytes) params)) name.at
+bad_params facts _ = None
 
 -- a value that isn't this word
 abbrev pub other_value : Named → List ℕ → Option ℕ
@@ -110,9 +110,8 @@ fit_flags statements f fun =
 
 -- a prototype of a function whose flags, or whose state, are declared otherwise
 abbrev pub wrong_flag : Facts → List Statement → Statement → Option ℕ
-wrong_flag facts statements (One word fun) = None
-wrong_flag facts statements (Two word first second) = None
 wrong_flag facts statements (Proto ret name params) = then_some (not (is_declared facts statements name.bytes)) name.at
+wrong_flag facts statements _ = None
 
 -- ---- effects
 
@@ -139,12 +138,11 @@ ret_effects (Sub ty field) = (field.bytes, SubRet) ∷ []
 
 -- the effects that one statement declares for a function: a field is cleared, or one is subtracted from it
 abbrev pub statement_effects : List ℕ → Statement → List Named_effect
-statement_effects f (One word fun) = []
 statement_effects f (Two word first second) =
     if bytes_eq first.bytes f && bytes_eq word.bytes (codes "desc_data_clear") then (second.bytes, Clear) ∷ []
     else (if bytes_eq first.bytes f && bytes_eq word.bytes (codes "desc_data_sub") then (second.bytes, SubOne) ∷ []
     else [])
-statement_effects f (Proto ret name params) = []
+statement_effects f _ = []
 
 -- the effects of a function of the service
 abbrev pub service_effects : Facts → Fun → List Named_effect
@@ -152,10 +150,9 @@ service_effects facts f = map (λ e. (field_name facts.fields e.0, e.1)) f.effec
 
 -- a prototype of a function whose effects are declared otherwise than the service has them
 abbrev pub wrong_effect : Facts → List Statement → Statement → Option ℕ
-wrong_effect facts statements (One word fun) = None
-wrong_effect facts statements (Two word first second) = None
 wrong_effect facts statements (Proto ret name params) =
     then_some (not (same_effects (declared_effects statements name.bytes ret params) (service_effects facts (fun_of_name facts name.bytes)))) name.at
+wrong_effect facts statements _ = None
 
 -- ---- transitions, recover steps, and what descriptors can come to
 

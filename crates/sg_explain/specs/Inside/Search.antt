@@ -7,7 +7,7 @@ use Rattle.sg_facts.specs.Interface.{Declared}
 use Rattle.sg_input.specs.sg_check_statements.Flaws.{HasNoWalk, IsProtoWhere}
 use Rattle.sg_input.specs.sg_check_statements.Says.{fun_number}
 use Rattle.sg_input.specs.sg_parse.declared.tree.Statement.{Statement}
-use Rattle.sg_input.specs.sg_parse.declared.tree.Statement.TheVariants.{One, Two, Proto}
+use Rattle.sg_input.specs.sg_parse.declared.tree.Statement.TheVariants.{Proto}
 use Rattle.sg_input.specs.sg_walk.declared.place.Triple.{Triple}
 use Rattle.sg_explain.specs.Stuck.{IsFirstStuck, IsStuck}
 
@@ -47,8 +47,7 @@ GoesOn i state first t next = ((next ≡ first) × (IsStuckIn i state t → ⊥)
 -- the number of the function whose prototype stands at a place; 0 where the service hasn't the function
 abbrev pub proto_at : Facts → Statement → ℕ → Option ℕ
 proto_at facts (Proto ret name params) at = if name.at == at then Some (unwrap_or (fun_number facts.funs name.bytes) 0) else None
-proto_at facts (One word fun) at = None
-proto_at facts (Two word first second) at = None
+proto_at facts _ at = None
 
 -- what was found for a state: the first that is stuck there, or that all there has a walk
 abbrev pub IsFoundAt : Declared → ℕ → Option Triple → Type 0
