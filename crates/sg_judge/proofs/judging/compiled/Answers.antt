@@ -1,0 +1,10 @@
+-- Only one verdict may be given.
+use Rattle.std.proofs.Common.{map}
+use Rattle.sg_facts.specs.Facts.{facts_of}
+use Rattle.sg_input.proofs.OneVerdict.{only}
+use Rattle.sg_judge.specs.Said.{IsTabled}
+use Rattle.sg_judge.proofs.OneSaid.{one_tabled}
+use Rattle.sg_judge.proofs.judging.compiled.Goals as goal
+
+pub returns-clause-only : goal.returns-clause-only
+returns-clause-only c = let services = map facts_of c.args.shapes.now in only (IsTabled services c.args.text.now) c.judge_tables.result (one_tabled services c.args.text.now) c.judge_tables.ensures
