@@ -6,12 +6,12 @@ use Rattle.sg_facts.specs.Interface.{Declared}
 use Rattle.sg_input.specs.sg_script.declared.multi.MultiScript.{MultiScript}
 use Rattle.sg_input.specs.declared.read.Read.{Read}
 use Rattle.sg_input.specs.declared.read.Read.TheVariants.{Ready as ready, Refused as refused}
-use Rattle.sg_input.specs.Verdicts.{IsCompiled, IsUpgraded, IsVerdict}
-use Rattle.sg_explain.proofs.sg_input.OneVerdict.{one_verdict}
+use Rattle.sg_judge.specs.Said.{IsChecked, IsRenewed, IsTabled}
+use Rattle.sg_judge.proofs.OneSaid.{one_checked, one_renewed, one_tabled}
 use Rattle.sg_input.specs.Inputs.{IsInputOf}
 use Rattle.sg_input.specs.MultiInputs.{IsMultiInputOf}
 use Rattle.sg_explain.proofs.sg_input.OneMulti.{one_multi_input}
-use Rattle.sg_explain.proofs.sg_input.OneInput.{never_ready, not_refused}
+use Rattle.sg_explain.proofs.sg_input.OneInput.{never_ready}
 use Rattle.sg_explain.proofs.sg_input.OneRun.{never_ready as never_printed}
 use Rattle.sg_top.specs.Headline.{IsRunOfInput}
 use Rattle.sg_load.specs.Services.{played_services}
@@ -26,17 +26,19 @@ use Rattle.sg_top.specs.Answer.{IsMultiOutput, IsOutput, IsRefusal, has_input, m
 use Rattle.sg_top.specs.Inside.Pieces.{IsRefusedAs}
 
 -- a text isn't accepted and refused
-not_both : (text line output : List ℕ) → IsVerdict services text (ready output) → IsVerdict services text (refused line) → ⊥
+not_both : (text line output : List ℕ) → IsChecked services text (ready output) → IsChecked services text (refused line) → ⊥
 not_both text line output good bad =
-    let same : ◌≡◌ {A = Read (List ℕ)} (ready output) (refused line) = one_verdict services text (ready output) (refused line) good bad in absurd cc
+    let same : ◌≡◌ {A = Read (List ℕ)} (ready output) (refused line) = one_checked services text (ready output) (refused line) good bad in absurd cc
 
 -- a text that has tables isn't refused
-not_untabled : (text line output : List ℕ) → IsCompiled services text (ready output) → IsVerdict services text (refused line) → ⊥
-not_untabled text line output (tree, tables, parses, is, are, prints) bad = not_refused services text tables.iface line (tree, parses, is) bad
+not_untabled : (text line output : List ℕ) → IsTabled services text (ready output) → IsTabled services text (refused line) → ⊥
+not_untabled text line output good bad =
+    let same : ◌≡◌ {A = Read (List ℕ)} (ready output) (refused line) = one_tabled services text (ready output) (refused line) good bad in absurd cc
 
 -- a text that is upgraded isn't refused
-not_unupgraded : (text line output : List ℕ) → IsUpgraded services text (ready output) → IsVerdict services text (refused line) → ⊥
-not_unupgraded text line output (tree, i, parses, is, prints) bad = not_refused services text i line (tree, parses, is) bad
+not_unupgraded : (text line output : List ℕ) → IsRenewed services text (ready output) → IsRenewed services text (refused line) → ⊥
+not_unupgraded text line output good bad =
+    let same : ◌≡◌ {A = Read (List ℕ)} (ready output) (refused line) = one_renewed services text (ready output) (refused line) good bad in absurd cc
 
 -- an input that is played isn't refused
 not_unplayed : (bytes line output : List ℕ) (in_threads : Bool) (shows : Shows) (ended : Ended) → IsRunOfInput played_services bytes in_threads shows ended output → IsInputOf services bytes (refused line) → ⊥

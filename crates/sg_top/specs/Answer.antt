@@ -16,7 +16,7 @@ use Rattle.sg_report.specs.sg_hist.declared.ended.End.{End}
 use Rattle.sg_report.specs.sg_hist.declared.ended.Ended.{Ended}
 use Rattle.sg_input.specs.declared.read.Read.{Read}
 use Rattle.sg_input.specs.declared.read.Read.TheVariants.{Ready as ready, Refused as refused}
-use Rattle.sg_input.specs.Verdicts.{IsCompiled, IsUpgraded, IsVerdict}
+use Rattle.sg_judge.specs.Said.{IsChecked, IsRenewed, IsTabled}
 use Rattle.sg_input.specs.Inputs.{IsInputOf, IsReady, IsRunInputOf, IsRunReady, most_interface, most_run, most_script}
 use Rattle.sg_input.specs.MultiInputs.{IsMultiInputOf}
 use Rattle.sg_multi.specs.Played.{MultiCame}
@@ -172,9 +172,9 @@ abbrev pub IsOutput : Command → List ℕ → Ran → Status → List ℕ → T
 IsOutput (Play shows) bytes ran status output = IsPlayOutput bytes false shows ran status output
 IsOutput (Run trace) bytes ran status output = IsPlayOutput bytes true (report_shown trace) ran status output
 IsOutput (Multi trace) bytes ran status output = IsMultiOutput bytes trace ran status output
-IsOutput Check bytes ran status output = (ran ≡ Nothing) × IsOfText (IsVerdict services bytes) status output
-IsOutput Compile bytes ran status output = (ran ≡ Nothing) × IsOfText (IsCompiled services bytes) status output
-IsOutput Upgrade bytes ran status output = (ran ≡ Nothing) × IsOfText (IsUpgraded services bytes) status output
+IsOutput Check bytes ran status output = (ran ≡ Nothing) × IsOfText (IsChecked services bytes) status output
+IsOutput Compile bytes ran status output = (ran ≡ Nothing) × IsOfText (IsTabled services bytes) status output
+IsOutput Upgrade bytes ran status output = (ran ≡ Nothing) × IsOfText (IsRenewed services bytes) status output
 IsOutput Explain bytes ran status output = (ran ≡ Nothing) × IsOfText (IsExplained services bytes) status output
 IsOutput (Explore most) bytes ran status output =
     (ran ≡ Nothing) × (IsExploredAs bytes most status output ⊎ ((status ≡ Refused) × IsInputOf services bytes (refused output)))
@@ -199,7 +199,7 @@ IsRefusal command bytes output =
       | Verify ↦ IsRunInputOf services bytes (refused output)
       | Multi trace ↦ IsMultiInputOf services bytes (refused output)
       | Load service number ↦ ⊥
-      | _ ↦ IsVerdict services bytes (refused output)
+      | _ ↦ IsChecked services bytes (refused output)
     ]))
     ⊎ ((has_input command ≡ true) × (most_bytes command < length bytes) × (output ≡ too_long_output command))
 

@@ -4,7 +4,7 @@ ghost use Rattle.sg_explain.specs.Explained.{IsExplained};
 ghost use Rattle.sg_report.specs.sg_hist.Recovered.{is_blocked};
 ghost use Rattle.sg_load.specs.sg_plain.Playing.Playable.{IsPlayable};
 ghost use Rattle.sg_load.specs.sg_plain.Inside.Kept.{somebody_waits};
-ghost use Rattle.sg_input.specs.Verdicts.{IsCompiled, IsUpgraded, IsVerdict};
+ghost use Rattle.sg_judge.specs.Said.{IsChecked, IsRenewed, IsTabled};
 ghost use Rattle.sg_load.specs.Generated.{generated};
 ghost use Rattle.sg_load.specs.Services.{answering, facts_by, standard};
 ghost use Rattle.sg_top.specs.Answer.{IsOfText, IsOutput, IsMultiOutput, IsOwnOutput, ended_status, has_input, is_in_threads, multi_status, report_shown, services, IsPlayOutput};
@@ -32,10 +32,8 @@ use sg_edge::Gate;
 use sg_explain::explain;
 use sg_explore::{Explored, Played, Progress};
 use sg_facts::{Bytes, Interface, NoMemory};
-use sg_input::{
-    History, Read, Script, compile, compiled, read_input, read_multi_input, read_run, upgraded,
-    verdict,
-};
+use sg_input::{History, Read, Script, compile, read_input, read_multi_input, read_run};
+use sg_judge::{compiled, upgraded, verdict};
 use sg_load::{Accepted, ServiceKind, generate, standard};
 use sg_multi::{MultiEnd, MultiEnded, multi_text};
 use sg_report::{End, load_line, text};
@@ -84,7 +82,7 @@ pub fn output_of(alloc: Global, command: Command, bytes: &[u8]) -> Result<Output
 // The line of a text, which says that it is accepted or why it is refused.
 fn checked(alloc: Global, text: &[u8]) -> Result<Output, NoMemory>
     ensures ran { IfOk result (λ o. o.ran ≡ nothing) }
-    ensures line { IfOk result (λ o. IsOfText (IsVerdict services text.now) o.status o.text) }
+    ensures line { IfOk result (λ o. IsOfText (IsChecked services text.now) o.status o.text) }
 {
     let said = verdict(alloc, text, &shapes())?;
     Ok(output_saying(said))
@@ -93,7 +91,7 @@ fn checked(alloc: Global, text: &[u8]) -> Result<Output, NoMemory>
 // The text of the tables of an interface that is accepted, or else the line that refuses it.
 fn tabled(alloc: Global, text: &[u8]) -> Result<Output, NoMemory>
     ensures ran { IfOk result (λ o. o.ran ≡ nothing) }
-    ensures tables { IfOk result (λ o. IsOfText (IsCompiled services text.now) o.status o.text) }
+    ensures tables { IfOk result (λ o. IsOfText (IsTabled services text.now) o.status o.text) }
 {
     let said = compiled(alloc, text, &shapes())?;
     Ok(output_saying(said))
@@ -102,7 +100,7 @@ fn tabled(alloc: Global, text: &[u8]) -> Result<Output, NoMemory>
 // The text of an interface that is accepted, as one of version 2, or else the line that refuses it.
 fn upgrade(alloc: Global, text: &[u8]) -> Result<Output, NoMemory>
     ensures ran { IfOk result (λ o. o.ran ≡ nothing) }
-    ensures text { IfOk result (λ o. IsOfText (IsUpgraded services text.now) o.status o.text) }
+    ensures text { IfOk result (λ o. IsOfText (IsRenewed services text.now) o.status o.text) }
 {
     let said = upgraded(alloc, text, &shapes())?;
     Ok(output_saying(said))

@@ -4,7 +4,7 @@ use Rattle.sg_input.specs.declared.read.Read.TheVariants.{Refused as refused}
 use Rattle.sg_input.specs.Inputs.{IsInputOf, IsRunInputOf}
 use Rattle.sg_input.specs.MultiInputs.{IsMultiInputOf}
 use Rattle.sg_explain.specs.Explained.{IsExplained}
-use Rattle.sg_input.specs.Verdicts.{IsVerdict}
+use Rattle.sg_judge.specs.Said.{IsChecked}
 use Rattle.sg_verify.specs.declared.verdict.Verdict.{Verdict}
 use Rattle.sg_verify.specs.declared.verdict.Verdict.TheVariants.{Legal}
 use Rattle.sg_top.specs.Answer.{IsExploredAs, IsJudgedAs, IsRefusal, services, most_bytes}
@@ -35,7 +35,7 @@ IsRefusedAs command bytes output = elim command as (λ c. Type 0) [
   | Verify ↦ IsRunInputOf services bytes (refused output)
   | Multi trace ↦ IsMultiInputOf services bytes (refused output)
   | Load service number ↦ ⊥
-  | _ ↦ IsVerdict services bytes (refused output)
+  | _ ↦ IsChecked services bytes (refused output)
 ]
 
 -- a status for bytes that a command may refuse: where it refuses them the status says so, or that there was a fault or no memory
