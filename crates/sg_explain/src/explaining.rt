@@ -138,8 +138,9 @@ fn too_long(alloc: Global) -> Result<Read<Bytes>, NoMemory>
     Ok(Read::Refused(Bytes::from_slice(alloc, TOO_LONG_EXPLAINED)?))
 }
 
-// What is told of an interface that is accepted.
-fn told_of(alloc: Global, accepted: &Accepted) -> Result<Bytes, NoMemory>
+/// What is told of an interface that is accepted: the line that says so, and a line for each thing that its descriptors can come to, with the
+/// walk that rebuilds it.
+pub fn told_of(alloc: Global, accepted: &Accepted) -> Result<Bytes, NoMemory>
     ensures { IfOk result (TellsInterface accepted.now) }
 {
     let tables = compile(alloc, accepted)?;

@@ -19,5 +19,9 @@ mod rebuilt;
 mod stuck;
 mod words;
 
-pub use explaining::explain;
-pub use words::TOO_LONG_EXPLAINED;
+pub use explaining::{explain, told_of};
+pub use parts::put;
+pub use reasons::put_why;
+pub use rebuilt::put_names;
+pub use stuck::put_stuck;
+pub use words::{Sentences, TOO_LONG_EXPLAINED, check_words};

@@ -5,7 +5,7 @@ ghost use Rattle.std.specs.List.{flat_map};
 use sg_facts::{Bytes, NoMemory};
 
 /// Adds these parts at the end, one after the other.
-pub(crate) fn put(out: &mut Bytes, parts: &[&[u8]]) -> Result<(), NoMemory>
+pub fn put(out: &mut Bytes, parts: &[&[u8]]) -> Result<(), NoMemory>
     ensures { OnOk result (out.new ≡ out.old ++ flat_map (λ part. part.now) parts.now) }
 {
     for part in parts {

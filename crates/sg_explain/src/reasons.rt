@@ -16,8 +16,8 @@ use crate::stuck::put_stuck;
 use crate::words::{Sentences, refusal_words};
 use sg_facts::{Bytes, NoMemory, Shape};
 use sg_input::{
-    Accepted, CheckError, CheckFault, CheckKind, ParseError, Read, RefusalKind, Tree, check, parse,
-    refusal_line,
+    Accepted, CheckError, CheckFault, CheckKind, ParseError, Read, RefusalKind, Tree, check_for,
+    parse, refusal_line,
 };
 use std::alloc::Global;
 
@@ -50,7 +50,7 @@ fn examine_tree(
     requires sentence { Parses text.now (Ok tree.now) }
     ensures { IfOk result (IsExaminedWithReason (map facts_of shapes.now) text.now) }
 {
-    match check(alloc, tree, shapes) {
+    match check_for(alloc, tree, shapes) {
         Ok(accepted) => Ok(Read::Ready(accepted)),
         Err(CheckError::NoMemory) => Err(NoMemory),
         Err(CheckError::Fault(fault)) => {
@@ -127,12 +127,7 @@ fn put_fault(
 }
 
 /// Adds a place in a text, what is wrong there and what is usually meant.
-pub(crate) fn put_why(
-    out: &mut Bytes,
-    text: &[u8],
-    at: usize,
-    words: &Sentences,
-) -> Result<(), NoMemory>
+pub fn put_why(out: &mut Bytes, text: &[u8], at: usize, words: &Sentences) -> Result<(), NoMemory>
     ensures { OnOk result (out.new ≡ out.old ++ why_at text.now at words.now) }
 {
     put_place(out, text, at)?;

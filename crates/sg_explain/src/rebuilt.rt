@@ -35,8 +35,8 @@ fn put_line(out: &mut Bytes, shape: &Shape, line: &WalkLine) -> Result<(), NoMem
     put(out, &[b"\n"])
 }
 
-// Adds the names of functions, each after a space.
-fn put_names(out: &mut Bytes, shape: &Shape, walk: &[u8]) -> Result<(), NoMemory>
+/// Adds the names of functions, each after a space.
+pub fn put_names(out: &mut Bytes, shape: &Shape, walk: &[u8]) -> Result<(), NoMemory>
     ensures { OnOk result (out.new ≡ out.old ++ walk_names (facts_of shape.now).funs walk.now) }
 {
     for fun in walk {

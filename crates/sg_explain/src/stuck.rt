@@ -24,7 +24,7 @@ use std::alloc::Global;
 
 /// Adds the line of the first of what a descriptor can come to in a state that no walk restores, where a text is refused for that state at
 /// this place.
-pub(crate) fn put_stuck(
+pub fn put_stuck(
     out: &mut Bytes,
     alloc: Global,
     tree: &Tree,

@@ -13,10 +13,10 @@ pub const TOO_LONG_EXPLAINED: &[u8] =
 /// What is said of a kind of fault: a sentence that says what is wrong, in two parts around what stands at the place, and one that says
 /// what is usually meant.
 #[derive(Debug, Drop)]
-pub(crate) struct Sentences {
-    pub(crate) before: &'static [u8],
-    pub(crate) after: &'static [u8],
-    pub(crate) meant: &'static [u8],
+pub struct Sentences {
+    pub before: &'static [u8],
+    pub after: &'static [u8],
+    pub meant: &'static [u8],
 }
 
 impl Model for Sentences {
@@ -46,8 +46,8 @@ pub(crate) fn refusal_words(kind: RefusalKind) -> Sentences
     }
 }
 
-// The sentences of an interface that isn't accepted.
-fn check_words(kind: CheckKind) -> Sentences
+/// The sentences of an interface that isn't accepted.
+pub fn check_words(kind: CheckKind) -> Sentences
     ensures { result ≡ check_words kind }
 {
     match kind {

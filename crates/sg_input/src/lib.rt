@@ -39,7 +39,7 @@ mod reading;
 mod refusal;
 mod run_input;
 
-pub use among::is_own;
+pub use among::{check_for, is_own};
 pub use divider::cut;
 pub use judging::{compiled, examine, upgraded, verdict};
 pub use laws::{one_cut, one_input, one_verdict, upgrades_are_accepted};

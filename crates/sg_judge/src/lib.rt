@@ -10,6 +10,6 @@ mod laws;
 mod lines;
 mod names;
 
-pub use judging::{compiled, upgraded, verdict};
+pub use judging::{compiled, own_tree, upgraded, verdict};
 pub use laws::one_verdict;
 pub use lines::own_line;

@@ -1,7 +1,7 @@
 -- An output that isn't a refusal refuses nothing: a text has one verdict, and an input is one thing.
 use Rattle.std.proofs.Common.{◌≡◌, ℕ, ◌≤◌, inl, inr, Bool, false, true, List, arith, length}
 use Rattle.sg_report.specs.sg_hist.declared.ended.Ended.{Ended}
-use Rattle.sg_explain.proofs.Alone.{explained_alone}
+use Rattle.sg_explain_own.proofs.Alone.{any_alone}
 use Rattle.sg_facts.specs.Interface.{Declared}
 use Rattle.sg_input.specs.sg_script.declared.multi.MultiScript.{MultiScript}
 use Rattle.sg_input.specs.declared.read.Read.{Read}
@@ -68,7 +68,7 @@ good_alone (Multi trace) bytes ran status output line good is bad = multi_alone 
 good_alone Check bytes ran status output line good (none, inl accepts) bad = not_both bytes line output accepts.1 bad
 good_alone Compile bytes ran status output line good (none, inl accepts) bad = not_untabled bytes line output accepts.1 bad
 good_alone Upgrade bytes ran status output line good (none, inl accepts) bad = not_unupgraded bytes line output accepts.1 bad
-good_alone Explain bytes ran status output line good (none, inl explained) bad = explained_alone services bytes output line explained.1 bad
+good_alone Explain bytes ran status output line good (none, inl explained) bad = any_alone services bytes output line explained.1 bad
 good_alone (Explore most) bytes ran status output line good (none, inl explored) bad = never_ready services bytes line explored.i explored.script bad explored.ready
 good_alone Verify bytes ran status output line good (none, inl judged) bad = never_printed services bytes line judged.i judged.history bad judged.ready
 good_alone Check bytes ran status output line good (none, inr other) bad = good other.0

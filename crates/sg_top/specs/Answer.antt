@@ -7,7 +7,7 @@ use Rattle.std.specs.declared.alloc.Global.{Global}
 use Rattle.std.specs.List.{list_any}
 use Rattle.sg_facts.specs.Facts.{Facts}
 use Rattle.sg_edge.specs.Edge.{Rose, ConsumesAtMost}
-use Rattle.sg_explain.specs.Explained.{IsExplained}
+use Rattle.sg_explain_own.specs.OwnExplained.{IsExplainedAny}
 use Rattle.sg_explain.specs.Words.{too_long_words}
 use Rattle.sg_explore.specs.Explored.{IsExplored}
 use Rattle.sg_explore.specs.Tried.{most_paired}
@@ -175,7 +175,7 @@ IsOutput (Multi trace) bytes ran status output = IsMultiOutput bytes trace ran s
 IsOutput Check bytes ran status output = (ran ≡ Nothing) × IsOfText (IsChecked services bytes) status output
 IsOutput Compile bytes ran status output = (ran ≡ Nothing) × IsOfText (IsTabled services bytes) status output
 IsOutput Upgrade bytes ran status output = (ran ≡ Nothing) × IsOfText (IsRenewed services bytes) status output
-IsOutput Explain bytes ran status output = (ran ≡ Nothing) × IsOfText (IsExplained services bytes) status output
+IsOutput Explain bytes ran status output = (ran ≡ Nothing) × IsOfText (IsExplainedAny services bytes) status output
 IsOutput (Explore most) bytes ran status output =
     (ran ≡ Nothing) × (IsExploredAs bytes most status output ⊎ ((status ≡ Refused) × IsInputOf services bytes (refused output)))
 IsOutput Verify bytes ran status output =
@@ -194,7 +194,7 @@ IsRefusal command bytes output =
     ((length bytes ≤ most_bytes command) × (elim command as (λ c. Type 0) [
       | Play shows ↦ IsInputOf services bytes (refused output)
       | Run trace ↦ IsInputOf services bytes (refused output)
-      | Explain ↦ IsExplained services bytes (refused output)
+      | Explain ↦ IsExplainedAny services bytes (refused output)
       | Explore most ↦ IsInputOf services bytes (refused output)
       | Verify ↦ IsRunInputOf services bytes (refused output)
       | Multi trace ↦ IsMultiInputOf services bytes (refused output)

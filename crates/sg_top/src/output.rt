@@ -1,6 +1,6 @@
 // What a command makes of its input.
 ghost use Rattle.std.specs.Prelude.{◌≡◌, ◌≤◌, ℕ, List, true, false, if◌then◌else◌, IfOk};
-ghost use Rattle.sg_explain.specs.Explained.{IsExplained};
+ghost use Rattle.sg_explain_own.specs.OwnExplained.{IsExplainedAny};
 ghost use Rattle.sg_report.specs.sg_hist.Recovered.{is_blocked};
 ghost use Rattle.sg_load.specs.sg_plain.Playing.Playable.{IsPlayable};
 ghost use Rattle.sg_load.specs.sg_plain.Inside.Kept.{somebody_waits};
@@ -29,7 +29,7 @@ use crate::status::Status;
 use sg_cost::cost_text;
 use sg_draw::{columns, picture};
 use sg_edge::Gate;
-use sg_explain::explain;
+use sg_explain_own::explain;
 use sg_explore::{Explored, Played, Progress};
 use sg_facts::{Bytes, Interface, NoMemory};
 use sg_input::{History, Read, Script, compile, read_input, read_multi_input, read_run};
@@ -109,7 +109,7 @@ fn upgrade(alloc: Global, text: &[u8]) -> Result<Output, NoMemory>
 // What is explained of an input.
 fn explained(alloc: Global, bytes: &[u8]) -> Result<Output, NoMemory>
     ensures ran { IfOk result (λ o. o.ran ≡ nothing) }
-    ensures said { IfOk result (λ o. IsOfText (IsExplained services bytes.now) o.status o.text) }
+    ensures said { IfOk result (λ o. IsOfText (IsExplainedAny services bytes.now) o.status o.text) }
 {
     let said = explain(alloc, bytes, &shapes())?;
     Ok(output_saying(said))

@@ -3,7 +3,7 @@ use Rattle.std.specs.Prelude.{ℕ, ◌≡◌, ◌≤◌, ◌⊎◌, List, length
 use Rattle.sg_input.specs.declared.read.Read.TheVariants.{Refused as refused}
 use Rattle.sg_input.specs.Inputs.{IsInputOf, IsRunInputOf}
 use Rattle.sg_input.specs.MultiInputs.{IsMultiInputOf}
-use Rattle.sg_explain.specs.Explained.{IsExplained}
+use Rattle.sg_explain_own.specs.OwnExplained.{IsExplainedAny}
 use Rattle.sg_judge.specs.Said.{IsChecked}
 use Rattle.sg_verify.specs.declared.verdict.Verdict.{Verdict}
 use Rattle.sg_verify.specs.declared.verdict.Verdict.TheVariants.{Legal}
@@ -30,7 +30,7 @@ abbrev pub IsRefusedAs : Command → List ℕ → List ℕ → Type 0
 IsRefusedAs command bytes output = elim command as (λ c. Type 0) [
   | Play shows ↦ IsInputOf services bytes (refused output)
   | Run trace ↦ IsInputOf services bytes (refused output)
-  | Explain ↦ IsExplained services bytes (refused output)
+  | Explain ↦ IsExplainedAny services bytes (refused output)
   | Explore most ↦ IsInputOf services bytes (refused output)
   | Verify ↦ IsRunInputOf services bytes (refused output)
   | Multi trace ↦ IsMultiInputOf services bytes (refused output)

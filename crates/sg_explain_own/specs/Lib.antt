@@ -1,0 +1,5 @@
+pub mod AnswerLines
+pub mod Inside
+pub mod OwnExplained
+pub mod OwnWords
+pub mod ReasonLines
