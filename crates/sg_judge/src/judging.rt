@@ -85,7 +85,7 @@ fn judge_upgrade(alloc: Global, text: &[u8], shapes: &[Shape]) -> Result<Read<By
 }
 
 /// The tree of a text that describes a service of its own. The only error is want of memory.
-pub fn own_tree<'a>(alloc: Global, text: &'a [u8]) -> Result<Option<Tree<'a>>, NoMemory>
+pub(crate) fn own_tree<'a>(alloc: Global, text: &'a [u8]) -> Result<Option<Tree<'a>>, NoMemory>
     ensures { IfOk result (λ tree. MatchOption tree (IsOfServices text.now) (IsOwnText text.now)) }
 {
     match parse(alloc, text) {

@@ -1,15 +1,26 @@
 //! What is said of the text of an interface, whatever its version: a text of version 3 describes a service of its own and is judged by itself.
 //!
 //! - `judging`: the verdict on a text, its tables, and its canonical text (`verdict`, `compiled`, `upgraded`)
+//! - `explaining`: what is explained of an input (`explain`): `words` has the sentences of each kind of fault, `reasons` why a described service
+//!   can't be recovered, `answers` how functions answer
 //! - `lines`: the line that refuses a text which describes a service of its own; `names`: the names of what can be wrong with one
 //! - `laws`: of a text one thing alone can be said (`one_verdict`)
+//!
+//! `specs/Said.antt` says what is said of a text, and `specs/OwnExplained.antt` what is explained of one; `specs/Names.antt` and
+//! `specs/OwnWords.antt` have the names and the sentences of each kind of fault, `specs/AnswerLines.antt` those of rules, and
+//! `specs/ReasonLines.antt` the lines of reasons.
 #![tactic(auto)]
 
+mod answers;
+mod explaining;
 mod judging;
 mod laws;
 mod lines;
 mod names;
+mod reasons;
+mod words;
 
-pub use judging::{compiled, own_tree, upgraded, verdict};
+pub use explaining::explain;
+pub use judging::{compiled, upgraded, verdict};
 pub use laws::one_verdict;
-pub use lines::own_line;
+pub use sg_explain::TOO_LONG_EXPLAINED;

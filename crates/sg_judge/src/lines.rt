@@ -10,7 +10,12 @@ use sg_own::OwnKind;
 use std::alloc::Global;
 
 /// The line of a text that is refused for a kind at a place, which is counted in bytes from 0.
-pub fn own_line(alloc: Global, text: &[u8], kind: OwnKind, at: usize) -> Result<Bytes, NoMemory>
+pub(crate) fn own_line(
+    alloc: Global,
+    text: &[u8],
+    kind: OwnKind,
+    at: usize,
+) -> Result<Bytes, NoMemory>
     ensures { IfOk result (λ line. line ≡ refused_line (codes "interface refused at ") text.now at (own_name kind)) }
 {
     interface_line(alloc, text, at, own_name(kind))

@@ -18,7 +18,7 @@ use Rattle.sg_report.specs.sg_hist.declared.ended.Ended.{Ended}
 use Rattle.sg_explore.specs.sg_shared.Runs.{IsRunOf}
 use Rattle.sg_load.specs.sg_plain.Answering.{Answering}
 use Rattle.sg_top.specs.Headline.{HasFewReplays}
-use Rattle.sg_explain.proofs.sg_input.sg_stub.OneTable.{one_table}
+use Rattle.sg_input.proofs.sg_stub.OneTable.{one_table}
 use Rattle.sg_top.proofs.EachKind.{allowed_kind, allowed_standard}
 use Rattle.sg_top.specs.Inside.Plays.{IsPlayOf}
 use Rattle.sg_report.specs.sg_hist.Clients.{AreNumbered}

@@ -14,7 +14,7 @@ use Rattle.sg_verify.specs.Lines.{verdict_line_of}
 use Rattle.sg_verify.specs.Verdicts.{IsVerdictOf}
 use Rattle.sg_verify.specs.declared.verdict.Verdict.{Verdict}
 use Rattle.sg_report.specs.sg_hist.Clients.{MayBeMade}
-use Rattle.sg_explain.proofs.sg_input.OneRun.{never_ready, one_ready}
+use Rattle.sg_input.proofs.OneRun.{never_ready, one_ready}
 use Rattle.sg_verify.proofs.Verdicts.{one_said as one_verdict}
 use Rattle.sg_top.proofs.Fitting.{interface_service}
 use Rattle.sg_top.proofs.EachKind.{its_facts, same_name}

@@ -14,7 +14,7 @@ use Rattle.sg_input.specs.MultiInputs.{IsMultiInputOf, IsMultiReady}
 use Rattle.sg_input.specs.declared.read.Read.{Read}
 use Rattle.sg_input.specs.declared.read.Read.TheVariants.{Ready, Refused}
 use Rattle.sg_input.specs.sg_script.declared.multi.MultiScript.{MultiScript}
-use Rattle.sg_explain.proofs.sg_input.Gathering.{few_members}
+use Rattle.sg_input.proofs.Gathering.{few_members}
 use Rattle.sg_load.specs.Services.{answering, facts_by, played_services}
 use Rattle.sg_load.specs.declared.kind.ServiceKind.{ServiceKind}
 use Rattle.sg_load.specs.sg_check.Shapes.{IsSmall}

@@ -7,8 +7,8 @@ use Rattle.std.specs.declared.alloc.Global.{Global}
 use Rattle.std.specs.List.{list_any}
 use Rattle.sg_facts.specs.Facts.{Facts}
 use Rattle.sg_edge.specs.Edge.{Rose, ConsumesAtMost}
-use Rattle.sg_explain_own.specs.OwnExplained.{IsExplainedAny}
-use Rattle.sg_explain.specs.Words.{too_long_words}
+use Rattle.sg_judge.specs.OwnExplained.{IsExplainedAny}
+use Rattle.sg_judge.specs.sg_explain.Words.{too_long_words}
 use Rattle.sg_explore.specs.Explored.{IsExplored}
 use Rattle.sg_explore.specs.Tried.{most_paired}
 use Rattle.sg_explore.specs.declared.exploring.Explored.{Explored}

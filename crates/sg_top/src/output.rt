@@ -1,6 +1,6 @@
 // What a command makes of its input.
 ghost use Rattle.std.specs.Prelude.{◌≡◌, ◌≤◌, ℕ, List, true, false, if◌then◌else◌, IfOk};
-ghost use Rattle.sg_explain_own.specs.OwnExplained.{IsExplainedAny};
+ghost use Rattle.sg_judge.specs.OwnExplained.{IsExplainedAny};
 ghost use Rattle.sg_report.specs.sg_hist.Recovered.{is_blocked};
 ghost use Rattle.sg_load.specs.sg_plain.Playing.Playable.{IsPlayable};
 ghost use Rattle.sg_load.specs.sg_plain.Inside.Kept.{somebody_waits};
@@ -29,11 +29,10 @@ use crate::status::Status;
 use sg_cost::cost_text;
 use sg_draw::{columns, picture};
 use sg_edge::Gate;
-use sg_explain_own::explain;
 use sg_explore::{Explored, Played, Progress};
 use sg_facts::{Bytes, Interface, NoMemory};
 use sg_input::{History, Read, Script, compile, read_input, read_multi_input, read_run};
-use sg_judge::{compiled, upgraded, verdict};
+use sg_judge::{compiled, explain, upgraded, verdict};
 use sg_load::{Accepted, ServiceKind, generate, standard};
 use sg_multi::{MultiEnd, MultiEnded, multi_text};
 use sg_report::{End, load_line, text};

@@ -3,7 +3,7 @@ use Rattle.std.specs.Prelude.{ℕ, ◌≡◌, ◌≤◌, ◌⊎◌, List, length
 use Rattle.sg_input.specs.declared.read.Read.TheVariants.{Refused as refused}
 use Rattle.sg_input.specs.Inputs.{IsInputOf, IsRunInputOf}
 use Rattle.sg_input.specs.MultiInputs.{IsMultiInputOf}
-use Rattle.sg_explain_own.specs.OwnExplained.{IsExplainedAny}
+use Rattle.sg_judge.specs.OwnExplained.{IsExplainedAny}
 use Rattle.sg_judge.specs.Said.{IsChecked}
 use Rattle.sg_verify.specs.declared.verdict.Verdict.{Verdict}
 use Rattle.sg_verify.specs.declared.verdict.Verdict.TheVariants.{Legal}

@@ -1,7 +1,7 @@
 // How functions answer, in sentences.
 ghost use Rattle.std.specs.Prelude.{◌≡◌, ◌++◌, OnOk};
 ghost use Rattle.std.specs.List.{flat_map};
-ghost use Rattle.sg_explain_own.specs.AnswerLines.{answer_lines, answers_in, rule_sentence, rule_words, where_words};
+ghost use Rattle.sg_judge.specs.AnswerLines.{answer_lines, answers_in, rule_sentence, rule_words, where_words};
 
 use sg_explain::put;
 use sg_facts::{Bytes, NoMemory};

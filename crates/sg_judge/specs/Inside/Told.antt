@@ -2,7 +2,7 @@
 use Rattle.std.specs.Prelude.{ℕ, ◌≡◌, List, ◌++◌}
 use Rattle.sg_print.specs.sg_parse.declared.tree.Tree.{Tree}
 use Rattle.sg_own.specs.declared.fault.OwnKind.{OwnKind}
-use Rattle.sg_explain_own.specs.OwnExplained.{IsOwnMore, IsWalkMore}
+use Rattle.sg_judge.specs.OwnExplained.{IsOwnMore, IsWalkMore}
 
 abbrev pub TellsMore : Tree → OwnKind → ℕ → List ℕ → List ℕ → Type 0
 TellsMore tree kind at old new = (more : List ℕ) × IsOwnMore tree kind at more × (new ≡ old ++ more)

@@ -25,9 +25,9 @@ use Rattle.sg_judge.specs.Said.{IsOwnText}
 use Rattle.sg_explain.specs.Explained.{IsExplained, IsUndivided, why_at}
 use Rattle.sg_explain.specs.Rebuilt.{rebuilt_line}
 use Rattle.sg_explain.specs.Stuck.{IsStuckLine}
-use Rattle.sg_explain_own.specs.AnswerLines.{answers_in}
-use Rattle.sg_explain_own.specs.OwnWords.{own_words}
-use Rattle.sg_explain_own.specs.ReasonLines.{reason_line}
+use Rattle.sg_judge.specs.AnswerLines.{answers_in}
+use Rattle.sg_judge.specs.OwnWords.{own_words}
+use Rattle.sg_judge.specs.ReasonLines.{reason_line}
 
 -- the line of a walk that would have to begin with what can't be done again
 abbrev pub external_line : List ℕ

@@ -1,6 +1,6 @@
 // The sentences of each kind of thing that can be wrong with a text that describes a service of its own.
 ghost use Rattle.std.specs.Prelude.{◌≡◌};
-ghost use Rattle.sg_explain_own.specs.OwnWords.{answer_words, own_words, safety_words, shape_words};
+ghost use Rattle.sg_judge.specs.OwnWords.{answer_words, own_words, safety_words, shape_words};
 
 use sg_explain::{Sentences, check_words};
 use sg_own::{AnswerFaultKind, OwnKind, SafetyKind, ShapeFaultKind};

@@ -6,7 +6,7 @@ use Rattle.sg_input.proofs.OneInput.{one_tree}
 use Rattle.sg_input.specs.declared.read.Read.TheVariants.{Ready, Refused}
 use Rattle.sg_own.proofs.One.{not_both}
 use Rattle.sg_explain.proofs.Alone.{explained_alone}
-use Rattle.sg_explain_own.specs.OwnExplained.{ExplainsOwnFault, IsExplainedAny}
+use Rattle.sg_judge.specs.OwnExplained.{ExplainsOwnFault, IsExplainedAny}
 
 pub any_alone : (services : List Facts) (input told other : List ℕ) → IsExplainedAny services input (Ready told) → IsExplainedAny services input (Refused other) → ⊥
 any_alone services input told other (inl (tree, is, good)) (inl (tree', is', bad)) =
