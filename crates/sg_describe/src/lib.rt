@@ -23,3 +23,6 @@ pub use fault::{AnswerError, AnswerFault, AnswerFaultKind};
 pub use laws::{flawless_texts_are_plain, one_verdict};
 pub use making::MOST_UNSAID;
 pub use said::{most_said, proto_place, rules_said};
+pub use sg_check_statements::{Rule, Statement, Tree};
+pub use sg_described::{Bounds, Description};
+pub use sg_shape::{ShapeError, ShapeFaultKind, shape_of};

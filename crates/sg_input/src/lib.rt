@@ -57,7 +57,9 @@ pub use refusal::{RefusalKind, refusal_name};
 pub use run_input::read_run;
 pub use sg_check_statements::{CheckFault, Protos, Statement, Tree, fun_number, says_of};
 pub use sg_entries::History;
-pub use sg_print::{ParseError, parse};
+pub use sg_print::{
+    ParseError, Rule, Tests, parse, print, print_tables, put_rule, put_term, put_tests,
+};
 pub use sg_script::{MultiScript, Script};
 pub use sg_stub::{
     Accepted, CheckError, CheckKind, Triple, check, compile, interface_of, reachable, restores,

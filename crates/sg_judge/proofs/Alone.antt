@@ -1,9 +1,9 @@
 -- Nothing is explained as accepted and as refused.
 use Rattle.std.proofs.Common.{◌≡◌, inl, inr, ℕ, List, sym, subst}
 use Rattle.sg_facts.specs.Facts.{Facts}
-use Rattle.sg_print.specs.sg_parse.declared.tree.Tree.{Tree}
-use Rattle.sg_input.proofs.OneInput.{one_tree}
-use Rattle.sg_input.specs.declared.read.Read.TheVariants.{Ready, Refused}
+use Rattle.sg_explain.specs.sg_input.sg_print.sg_parse.declared.tree.Tree.{Tree}
+use Rattle.sg_explain.proofs.sg_input.OneInput.{one_tree}
+use Rattle.sg_explain.specs.sg_input.declared.read.Read.TheVariants.{Ready, Refused}
 use Rattle.sg_own.proofs.One.{not_both}
 use Rattle.sg_explain.proofs.Alone.{explained_alone}
 use Rattle.sg_judge.specs.OwnExplained.{ExplainsOwnFault, IsExplainedAny}

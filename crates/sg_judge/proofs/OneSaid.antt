@@ -4,16 +4,16 @@ use Rattle.std.specs.Prelude.{Ok, codes}
 use Rattle.sg_facts.specs.Facts.{Facts}
 use Rattle.sg_facts.specs.Interface.{Declared}
 use Rattle.sg_facts.specs.Tables.{AreTables}
-use Rattle.sg_print.specs.Printed.{printed}
-use Rattle.sg_print.specs.TablesText.{tables_text}
-use Rattle.sg_print.specs.sg_parse.declared.tree.Tree.{Tree}
-use Rattle.sg_input.proofs.OneInput.{one_tree}
-use Rattle.sg_input.proofs.OneVerdict.{one_compiled, one_upgraded, one_verdict}
-use Rattle.sg_input.proofs.sg_stub.OneTable.{one_table}
-use Rattle.sg_input.specs.Inside.Said.{accepted_line}
-use Rattle.sg_input.specs.Lines.{refused_line}
-use Rattle.sg_input.specs.declared.read.Read.{Read}
-use Rattle.sg_input.specs.declared.read.Read.TheVariants.{Ready, Refused}
+use Rattle.sg_explain.specs.sg_input.sg_print.Printed.{printed}
+use Rattle.sg_explain.specs.sg_input.sg_print.TablesText.{tables_text}
+use Rattle.sg_explain.specs.sg_input.sg_print.sg_parse.declared.tree.Tree.{Tree}
+use Rattle.sg_explain.proofs.sg_input.OneInput.{one_tree}
+use Rattle.sg_explain.proofs.sg_input.OneVerdict.{one_compiled, one_upgraded, one_verdict}
+use Rattle.sg_explain.proofs.sg_input.sg_stub.OneTable.{one_table}
+use Rattle.sg_explain.specs.sg_input.Inside.Said.{accepted_line}
+use Rattle.sg_explain.specs.sg_input.Lines.{refused_line}
+use Rattle.sg_explain.specs.sg_input.declared.read.Read.{Read}
+use Rattle.sg_explain.specs.sg_input.declared.read.Read.TheVariants.{Ready, Refused}
 use Rattle.sg_own.specs.Faults.{IsOwnAccepted}
 use Rattle.sg_own.proofs.One.{not_both, one_fault, one_interface}
 use Rattle.sg_judge.specs.Names.{own_name}

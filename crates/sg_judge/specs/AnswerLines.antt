@@ -2,12 +2,12 @@
 use Rattle.std.specs.Prelude.{ℕ, List, [], ◌∷◌, ◌++◌, None, Some, codes}
 use Rattle.std.specs.List.{concat, flat_map}
 use Rattle.sg_facts.specs.Words.{line_end}
-use Rattle.sg_print.specs.RulesText.{rule_text, term_text, tests_text}
-use Rattle.sg_print.specs.sg_parse.declared.tree.Statement.{Statement}
-use Rattle.sg_print.specs.sg_parse.declared.tree.Statement.TheVariants.{Answer}
-use Rattle.sg_print.specs.sg_parse.sg_rules.declared.tree.Rule.{Rule}
-use Rattle.sg_print.specs.sg_parse.sg_rules.declared.tree.Rule.TheVariants.{Refuse, Wait, Give}
-use Rattle.sg_print.specs.sg_parse.sg_rules.declared.tree.Tests.{Tests}
+use Rattle.sg_explain.specs.sg_input.sg_print.RulesText.{rule_text, term_text, tests_text}
+use Rattle.sg_explain.specs.sg_input.sg_print.sg_parse.declared.tree.Statement.{Statement}
+use Rattle.sg_explain.specs.sg_input.sg_print.sg_parse.declared.tree.Statement.TheVariants.{Answer}
+use Rattle.sg_explain.specs.sg_input.sg_print.sg_parse.sg_rules.declared.tree.Rule.{Rule}
+use Rattle.sg_explain.specs.sg_input.sg_print.sg_parse.sg_rules.declared.tree.Rule.TheVariants.{Refuse, Wait, Give}
+use Rattle.sg_explain.specs.sg_input.sg_print.sg_parse.sg_rules.declared.tree.Tests.{Tests}
 
 -- where tests hold, if there are any
 abbrev pub where_words : Tests → List ℕ

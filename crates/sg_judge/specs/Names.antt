@@ -1,7 +1,7 @@
 -- The names of what can be wrong with a text that describes a service of its own.
 use Rattle.std.specs.Prelude.{ℕ, List, codes}
-use Rattle.sg_input.specs.Verdicts.{refusal_name}
-use Rattle.sg_input.specs.declared.refusal.RefusalKind.TheVariants.{Check}
+use Rattle.sg_explain.specs.sg_input.Verdicts.{refusal_name}
+use Rattle.sg_explain.specs.sg_input.declared.refusal.RefusalKind.TheVariants.{Check}
 use Rattle.sg_own.specs.declared.fault.OwnKind.{OwnKind}
 use Rattle.sg_own.specs.declared.fault.OwnKind.TheVariants.{Shape, Answers, Safety, Walks}
 use Rattle.sg_own.specs.declared.fault.SafetyKind.{SafetyKind}

@@ -6,20 +6,20 @@ use Rattle.sg_facts.specs.Interface.{Declared}
 use Rattle.sg_facts.specs.Tables.{AreTables}
 use Rattle.sg_facts.specs.Words.{line_end}
 use Rattle.sg_facts.specs.declared.tables.WalkLine.{WalkLine}
-use Rattle.sg_print.specs.sg_parse.declared.tree.Tree.{Tree}
-use Rattle.sg_check_statements.specs.Faults.{IsAccepted, IsFault}
-use Rattle.sg_check_statements.specs.declared.fault.CheckKind.TheVariants.{NoWalk}
-use Rattle.sg_input.specs.Inputs.{most_interface}
-use Rattle.sg_input.specs.Lines.{refused_line}
-use Rattle.sg_input.specs.declared.read.Read.{Read}
-use Rattle.sg_input.specs.declared.read.Read.TheVariants.{Ready, Refused}
+use Rattle.sg_explain.specs.sg_input.sg_print.sg_parse.declared.tree.Tree.{Tree}
+use Rattle.sg_own.specs.sg_check_statements.Faults.{IsAccepted, IsFault}
+use Rattle.sg_own.specs.sg_check_statements.declared.fault.CheckKind.TheVariants.{NoWalk}
+use Rattle.sg_explain.specs.sg_input.Inputs.{most_interface}
+use Rattle.sg_explain.specs.sg_input.Lines.{refused_line}
+use Rattle.sg_explain.specs.sg_input.declared.read.Read.{Read}
+use Rattle.sg_explain.specs.sg_input.declared.read.Read.TheVariants.{Ready, Refused}
 use Rattle.sg_own.specs.Faults.{IsOwnAccepted, IsOwnFault, itself}
 use Rattle.sg_own.specs.declared.fault.OwnKind.{OwnKind}
 use Rattle.sg_own.specs.declared.fault.OwnKind.TheVariants.{Shape, Answers, Safety, Walks}
 use Rattle.sg_own.specs.sg_describe.DescribedText.{described_of_text}
 use Rattle.sg_own.specs.sg_shape.ShapeOfText.{shape_of_text}
-use Rattle.sg_safe.specs.Reasons.{IsReason, unsafe_in}
-use Rattle.sg_safe.specs.declared.reason.Unsafe.{Unsafe}
+use Rattle.sg_own.specs.sg_safe.Reasons.{IsReason, unsafe_in}
+use Rattle.sg_own.specs.sg_safe.declared.reason.Unsafe.{Unsafe}
 use Rattle.sg_judge.specs.Names.{own_name}
 use Rattle.sg_judge.specs.Said.{IsOwnText}
 use Rattle.sg_explain.specs.Explained.{IsExplained, IsUndivided, why_at}

@@ -5,14 +5,14 @@ use Rattle.std.specs.List.{concat, flat_map}
 use Rattle.std.specs.Option.{option_map_or}
 use Rattle.sg_facts.specs.Facts.{Facts, fun_at}
 use Rattle.sg_facts.specs.Words.{line_end}
-use Rattle.sg_described.specs.declared.bounds.Bounds.{Bounds}
-use Rattle.sg_safe.specs.declared.reason.FailingCall.{FailingCall}
-use Rattle.sg_safe.specs.declared.reason.KnownField.{KnownField}
-use Rattle.sg_safe.specs.declared.reason.KnownSpot.{KnownSpot}
-use Rattle.sg_safe.specs.declared.reason.Obstacle.{Obstacle}
-use Rattle.sg_safe.specs.declared.reason.Obstacle.TheVariants.{ByRule, NoClient, PastMost}
-use Rattle.sg_safe.specs.declared.reason.Unsafe.{Unsafe}
-use Rattle.sg_safe.specs.declared.reason.Unsafe.TheVariants.{CountsFar, Recounts, Overtaken, Fails}
+use Rattle.sg_own.specs.sg_described.declared.bounds.Bounds.{Bounds}
+use Rattle.sg_own.specs.sg_safe.declared.reason.FailingCall.{FailingCall}
+use Rattle.sg_own.specs.sg_safe.declared.reason.KnownField.{KnownField}
+use Rattle.sg_own.specs.sg_safe.declared.reason.KnownSpot.{KnownSpot}
+use Rattle.sg_own.specs.sg_safe.declared.reason.Obstacle.{Obstacle}
+use Rattle.sg_own.specs.sg_safe.declared.reason.Obstacle.TheVariants.{ByRule, NoClient, PastMost}
+use Rattle.sg_own.specs.sg_safe.declared.reason.Unsafe.{Unsafe}
+use Rattle.sg_own.specs.sg_safe.declared.reason.Unsafe.TheVariants.{CountsFar, Recounts, Overtaken, Fails}
 
 -- the name of the field of a number
 abbrev pub field_name : Facts → ℕ → List ℕ

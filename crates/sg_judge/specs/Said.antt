@@ -4,14 +4,14 @@ use Rattle.sg_facts.specs.Facts.{Facts}
 use Rattle.sg_facts.specs.Interface.{Declared}
 use Rattle.sg_facts.specs.Tables.{AreTables, Compiled}
 use Rattle.sg_facts.specs.Words.{line_end}
-use Rattle.sg_print.specs.Printed.{printed}
-use Rattle.sg_print.specs.TablesText.{tables_text}
-use Rattle.sg_print.specs.sg_parse.declared.tree.Tree.{Tree}
-use Rattle.sg_print.specs.sg_parse.Grammar.Parses.{Parses}
-use Rattle.sg_input.specs.Lines.{refused_line}
-use Rattle.sg_input.specs.Verdicts.{IsCompiled, IsUpgraded, IsVerdict, is_own}
-use Rattle.sg_input.specs.declared.read.Read.{Read}
-use Rattle.sg_input.specs.declared.read.Read.TheVariants.{Ready, Refused}
+use Rattle.sg_explain.specs.sg_input.sg_print.Printed.{printed}
+use Rattle.sg_explain.specs.sg_input.sg_print.TablesText.{tables_text}
+use Rattle.sg_explain.specs.sg_input.sg_print.sg_parse.declared.tree.Tree.{Tree}
+use Rattle.sg_explain.specs.sg_input.sg_print.sg_parse.Grammar.Parses.{Parses}
+use Rattle.sg_explain.specs.sg_input.Lines.{refused_line}
+use Rattle.sg_explain.specs.sg_input.Verdicts.{IsCompiled, IsUpgraded, IsVerdict, is_own}
+use Rattle.sg_explain.specs.sg_input.declared.read.Read.{Read}
+use Rattle.sg_explain.specs.sg_input.declared.read.Read.TheVariants.{Ready, Refused}
 use Rattle.sg_own.specs.Faults.{IsOwnAccepted, IsOwnFault}
 use Rattle.sg_own.specs.declared.fault.OwnKind.{OwnKind}
 use Rattle.sg_judge.specs.Names.{own_name}

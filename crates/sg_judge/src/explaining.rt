@@ -2,11 +2,11 @@
 ghost use Rattle.std.specs.Prelude.{◌≡◌, ◌++◌, MatchOption, map, true, IfOk, OnOk};
 ghost use Rattle.std.specs.List.{flat_map};
 ghost use Rattle.sg_facts.specs.Facts.{facts_of};
-ghost use Rattle.sg_check_statements.specs.Shapes.{are_shapes};
+ghost use Rattle.sg_own.specs.sg_check_statements.Shapes.{are_shapes};
 ghost use Rattle.sg_own.specs.Faults.{IsOwnAccepted};
 ghost use Rattle.sg_own.specs.Inside.Answers.{IsToldFault};
 ghost use Rattle.sg_judge.specs.Said.{IsOwnText};
-ghost use Rattle.sg_print.specs.sg_parse.declared.tree.Tree.{Tree as Sentence};
+ghost use Rattle.sg_explain.specs.sg_input.sg_print.sg_parse.declared.tree.Tree.{Tree as Sentence};
 ghost use Rattle.sg_judge.specs.OwnExplained.{ExplainsOwn, ExplainsOwnFault, IsExplainedAny, IsOwnExplained, IsOwnInput};
 ghost use Rattle.sg_judge.specs.Inside.Told.{TellsMore};
 
@@ -15,11 +15,9 @@ use crate::judging::own_tree;
 use crate::lines::own_line;
 use crate::reasons::put_more;
 use crate::words::own_words;
-use sg_explain::{put_why, told_of};
+use sg_explain::{Accepted, MOST_INTERFACE, Read, Tree, cut, put_why, told_of};
 use sg_facts::{Bytes, NoMemory, Shape};
-use sg_input::{Accepted, MOST_INTERFACE, Read, cut};
 use sg_own::{OwnError, OwnFault, check_own};
-use sg_print::Tree;
 use std::alloc::Global;
 
 /// What is explained of an input, as `sg_explain` says, of the text alone of a service of its own too. Where nothing is wrong with that: the

@@ -2,18 +2,19 @@
 ghost use Rattle.std.specs.Prelude.{◌≡◌, ℕ, Ok, List, MatchOption, map, true, IfOk};
 ghost use Rattle.std.specs.Result.{MatchResult};
 ghost use Rattle.sg_facts.specs.Facts.{facts_of};
-ghost use Rattle.sg_input.specs.sg_check.Shapes.{are_shapes};
-ghost use Rattle.sg_input.specs.declared.read.Read.{Read as AnyRead};
+ghost use Rattle.sg_explain.specs.sg_input.sg_check.Shapes.{are_shapes};
+ghost use Rattle.sg_explain.specs.sg_input.declared.read.Read.{Read as AnyRead};
 ghost use Rattle.sg_own.specs.Faults.{IsOwnAccepted};
 ghost use Rattle.sg_judge.specs.Said.{IsChecked, IsOfServices, IsOwnText, IsRenewed, IsTabled};
 ghost use Rattle.sg_judge.specs.Said.{IsOwnSaid, OwnAccepted, OwnPrinted, OwnTables};
 ghost use Rattle.sg_judge.specs.Inside.Examined.{IsOwnExamined};
 
 use crate::lines::own_line;
+use sg_explain::{
+    Accepted, ParseError, Read, Tree, accepted_line, compile, is_own, parse, print, print_tables,
+};
 use sg_facts::{Bytes, NoMemory, Shape};
-use sg_input::{Accepted, ParseError, Read, accepted_line, compile, is_own, parse};
 use sg_own::{OwnError, check_own};
-use sg_print::{Tree, print, print_tables};
 use std::alloc::Global;
 
 /// What `check` says of an interface text. One of version 3 describes a service of its own and is judged by itself; one of version 1 or 2 may be
@@ -58,7 +59,7 @@ fn judge(alloc: Global, text: &[u8], shapes: &[Shape]) -> Result<Read<Bytes>, No
 {
     match own_tree(alloc, text)? {
         Some(tree) => own_verdict(alloc, text, &tree),
-        None => sg_input::verdict(alloc, text, shapes),
+        None => sg_explain::verdict(alloc, text, shapes),
     }
 }
 
@@ -69,7 +70,7 @@ fn judge_tables(alloc: Global, text: &[u8], shapes: &[Shape]) -> Result<Read<Byt
 {
     match own_tree(alloc, text)? {
         Some(tree) => own_tables(alloc, text, &tree),
-        None => sg_input::compiled(alloc, text, shapes),
+        None => sg_explain::compiled(alloc, text, shapes),
     }
 }
 
@@ -80,7 +81,7 @@ fn judge_upgrade(alloc: Global, text: &[u8], shapes: &[Shape]) -> Result<Read<By
 {
     match own_tree(alloc, text)? {
         Some(tree) => own_text(alloc, text, &tree),
-        None => sg_input::upgraded(alloc, text, shapes),
+        None => sg_explain::upgraded(alloc, text, shapes),
     }
 }
 

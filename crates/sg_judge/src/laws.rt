@@ -1,7 +1,7 @@
 // Laws of what is said of texts.
 ghost use Rattle.std.specs.Prelude.{◌≡◌, ℕ, List};
 ghost use Rattle.sg_facts.specs.Facts.{Facts};
-ghost use Rattle.sg_input.specs.declared.read.Read.{Read};
+ghost use Rattle.sg_explain.specs.sg_input.declared.read.Read.{Read};
 ghost use Rattle.sg_judge.specs.Said.{IsChecked};
 
 /// Of a text one thing alone can be said, whatever its version.

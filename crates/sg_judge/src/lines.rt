@@ -1,11 +1,11 @@
 // The line that refuses a text which describes a service of its own.
 ghost use Rattle.std.specs.Prelude.{◌≡◌, codes, IfOk};
-ghost use Rattle.sg_input.specs.Lines.{refused_line};
+ghost use Rattle.sg_explain.specs.sg_input.Lines.{refused_line};
 ghost use Rattle.sg_judge.specs.Names.{own_name};
 
 use crate::names::own_name;
+use sg_explain::interface_line;
 use sg_facts::{Bytes, NoMemory};
-use sg_input::interface_line;
 use sg_own::OwnKind;
 use std::alloc::Global;
 

@@ -2,7 +2,7 @@
 ghost use Rattle.std.specs.Prelude.{◌≡◌};
 ghost use Rattle.sg_judge.specs.Names.{answer_name, own_name, safety_name, shape_name};
 
-use sg_input::{RefusalKind, refusal_name};
+use sg_explain::{RefusalKind, refusal_name};
 use sg_own::{AnswerFaultKind, OwnKind, SafetyKind, ShapeFaultKind};
 
 /// The name of a kind, as it is written.

@@ -6,21 +6,19 @@ ghost use Rattle.sg_own.specs.Faults.{IsDescription};
 ghost use Rattle.sg_own.specs.Inside.Answers.{IsToldFault};
 ghost use Rattle.sg_own.specs.sg_shape.Faults.{HasNoShapeFlaw};
 ghost use Rattle.sg_own.specs.sg_shape.ShapeOfText.{shape_of_text};
-ghost use Rattle.sg_check_statements.specs.Shapes.{is_shape};
+ghost use Rattle.sg_own.specs.sg_check_statements.Shapes.{is_shape};
 ghost use Rattle.sg_judge.specs.Inside.Told.{TellsMore, TellsWalkMore};
 ghost use Rattle.sg_judge.specs.ReasonLines.{bounds_words, call_line, field_name, fields_words, obstacle_words, reason_line, walk_words};
 ghost use Rattle.sg_own.specs.declared.fault.OwnKind.TheVariants.{Walks};
-ghost use Rattle.sg_check_statements.specs.declared.fault.CheckKind.TheVariants.{NoWalk};
+ghost use Rattle.sg_own.specs.sg_check_statements.declared.fault.CheckKind.TheVariants.{NoWalk};
 ghost use Rattle.sg_own.specs.Faults.{IsOwnFault};
 
-use sg_check::{CheckError, CheckKind, check};
-use sg_described::Bounds;
-use sg_explain::{put, put_names, put_stuck};
+use sg_explain::{Tree, put, put_names, put_stuck};
 use sg_facts::{Bytes, NoMemory, Shape};
-use sg_own::{OwnFault, OwnKind};
-use sg_print::Tree;
-use sg_safe::{FailingCall, KnownField, Obstacle, Unsafe};
-use sg_shape::{ShapeError, shape_of};
+use sg_own::{
+    Bounds, CheckError, CheckKind, FailingCall, KnownField, Obstacle, OwnFault, OwnKind,
+    ShapeError, Unsafe, check, shape_of,
+};
 use std::alloc::Global;
 
 /// Adds what is told besides of the first fault of a text.

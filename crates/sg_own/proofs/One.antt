@@ -12,8 +12,8 @@ use Rattle.sg_describe.specs.sg_shape.ShapeOfText.{shape_of_text}
 use Rattle.sg_describe.specs.sg_described.Safe.{IsSafe}
 use Rattle.sg_describe.specs.DescribedText.{described_of_text}
 use Rattle.sg_describe.proofs.Clear.{not_both as not_both_answers, one_first as one_answers}
-use Rattle.sg_shape.proofs.Clear.{not_both as not_both_shapes, one_first as one_shape}
-use Rattle.sg_shape.proofs.Fitting.{own_fault}
+use Rattle.sg_describe.proofs.sg_shape.Clear.{not_both as not_both_shapes, one_first as one_shape}
+use Rattle.sg_describe.proofs.sg_shape.Fitting.{own_fault}
 use Rattle.sg_safe.specs.Reasons.{unsafe_in}
 use Rattle.sg_safe.specs.declared.reason.Unsafe.{Unsafe}
 use Rattle.sg_own.specs.declared.fault.OwnKind.{OwnKind}

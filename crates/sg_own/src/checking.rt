@@ -3,7 +3,7 @@ ghost use Rattle.std.specs.Prelude.{◌≡◌, ◌≤◌, None, Some, true, leng
 ghost use Rattle.std.specs.Result.{MatchResult};
 ghost use Rattle.sg_facts.specs.Facts.{facts_of};
 ghost use Rattle.sg_facts.specs.Limits.{most_funs};
-ghost use Rattle.sg_check_statements.specs.Faults.{IsAccepted};
+ghost use Rattle.sg_check.specs.sg_check_statements.Faults.{IsAccepted};
 ghost use Rattle.sg_describe.specs.sg_described.Described.{described_of};
 ghost use Rattle.sg_describe.specs.sg_described.Safe.{IsSafe, is_plain};
 ghost use Rattle.sg_describe.specs.sg_shape.Faults.{HasNoShapeFlaw};
@@ -17,12 +17,11 @@ ghost use Rattle.sg_own.specs.Inside.Answers.{IsOwnError};
 use crate::fault::{OwnError, OwnFault, OwnKind};
 use crate::places::{kind_of, reason_place};
 use sg_check::{Accepted, CheckError, CheckFault, CheckKind, check};
-use sg_check_statements::{Statement, Tree};
-use sg_describe::{AnswerError, describe, proto_place};
-use sg_described::Description;
+use sg_describe::{
+    AnswerError, Description, ShapeError, Statement, Tree, describe, proto_place, shape_of,
+};
 use sg_facts::Shape;
 use sg_safe::{SafeError, Unsafe, safe};
-use sg_shape::{ShapeError, shape_of};
 use std::alloc::Global;
 
 /// The interface that a text declares, where it describes a service of its own that can be recovered; else what is first wrong with it, at its

@@ -1,9 +1,8 @@
 // What is wrong with a text that describes a service of its own.
 use sg_check::CheckKind;
-use sg_describe::AnswerFaultKind;
+use sg_describe::{AnswerFaultKind, ShapeFaultKind};
 use sg_facts::NoMemory;
 use sg_safe::Unsafe;
-use sg_shape::ShapeFaultKind;
 use thiserror::Error;
 
 /// Why a described service can't be recovered, in the order in which it is looked for.

@@ -1,9 +1,9 @@
 // Laws of the definitions.
 ghost use Rattle.std.specs.Prelude.{◌≡◌, ◌⊎◌, ℕ};
 ghost use Rattle.sg_facts.specs.Interface.{Declared};
-ghost use Rattle.sg_check_statements.specs.declared.fault.CheckKind.{CheckKind};
-ghost use Rattle.sg_check_statements.specs.declared.fault.CheckKind.TheVariants.{NoCreation, NoWalk, Unreached};
-ghost use Rattle.sg_check_statements.specs.sg_parse.declared.tree.Tree.{Tree};
+ghost use Rattle.sg_check.specs.sg_check_statements.declared.fault.CheckKind.{CheckKind};
+ghost use Rattle.sg_check.specs.sg_check_statements.declared.fault.CheckKind.TheVariants.{NoCreation, NoWalk, Unreached};
+ghost use Rattle.sg_check.specs.sg_check_statements.sg_parse.declared.tree.Tree.{Tree};
 ghost use Rattle.sg_describe.specs.sg_described.DescribedLaws.{KeepsLaws};
 ghost use Rattle.sg_describe.specs.DescribedText.{described_of_text};
 ghost use Rattle.sg_own.specs.declared.fault.OwnKind.{OwnKind};

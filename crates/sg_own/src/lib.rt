@@ -14,5 +14,5 @@ mod places;
 pub use checking::check_own;
 pub use fault::{OwnError, OwnFault, OwnKind, SafetyKind};
 pub use laws::{accepted_services_keep_laws, one_own_verdict, own_kinds};
-pub use sg_describe::AnswerFaultKind;
-pub use sg_shape::ShapeFaultKind;
+pub use sg_describe::{AnswerFaultKind, ShapeFaultKind};
+pub use sg_safe::{FailingCall, KnownField, Obstacle, Unsafe};

@@ -4,8 +4,7 @@ ghost use Rattle.sg_facts.specs.Facts.{facts_of};
 ghost use Rattle.sg_own.specs.SafePlaces.{call_place, fun_place, kind_of, obstacle_kind, most_place, reason_place, rule_at, rule_place};
 
 use crate::fault::SafetyKind;
-use sg_check_statements::{Rule, Statement};
-use sg_describe::{most_said, proto_place, rules_said};
+use sg_describe::{Rule, Statement, most_said, proto_place, rules_said};
 use sg_facts::Shape;
 use sg_safe::{FailingCall, Obstacle, Unsafe};
 

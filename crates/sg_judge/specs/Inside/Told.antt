@@ -1,6 +1,6 @@
 -- What is told besides, after what was there.
 use Rattle.std.specs.Prelude.{ℕ, ◌≡◌, List, ◌++◌}
-use Rattle.sg_print.specs.sg_parse.declared.tree.Tree.{Tree}
+use Rattle.sg_explain.specs.sg_input.sg_print.sg_parse.declared.tree.Tree.{Tree}
 use Rattle.sg_own.specs.declared.fault.OwnKind.{OwnKind}
 use Rattle.sg_judge.specs.OwnExplained.{IsOwnMore, IsWalkMore}
 

@@ -1,6 +1,6 @@
 -- Safe services keep the laws.
 use Rattle.sg_describe.specs.DescribedText.{described_of_text}
-use Rattle.sg_described.proofs.Keeping.SafeLaw.{keeps_laws}
+use Rattle.sg_describe.proofs.sg_described.Keeping.SafeLaw.{keeps_laws}
 use Rattle.sg_own.proofs.laws.accepted_services_keep_laws.Goals as goal
 
 pub returns : goal.returns
