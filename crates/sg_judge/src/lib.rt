@@ -23,4 +23,4 @@ mod words;
 pub use explaining::explain;
 pub use judging::{compiled, upgraded, verdict};
 pub use laws::one_verdict;
-pub use sg_explain::TOO_LONG_EXPLAINED;
+pub use sg_explain::{Read, TOO_LONG_EXPLAINED};

@@ -1,0 +1,16 @@
+//! What is said of texts that describe services of their own.
+//!
+//! The tests:
+//! - `cases`: texts with one piece changed, and the line that is said of each (`Case`, `try_each`); `flaws` lists them, kind by kind
+//! - `examples`: the examples
+//! - `explained`: what is explained of texts
+#![tactic(auto)]
+
+#[cfg(test)]
+mod cases;
+#[cfg(test)]
+mod examples;
+#[cfg(test)]
+mod explained;
+#[cfg(test)]
+mod flaws;
