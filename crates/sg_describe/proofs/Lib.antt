@@ -1,3 +1,4 @@
+pub mod ByDigit
 pub mod Clear
 pub mod Few
 pub mod Finding

@@ -19,7 +19,7 @@ use Rattle.sg_check_statements.specs.sg_parse.declared.tree.Statement.{Statement
 use Rattle.sg_check_statements.specs.sg_parse.declared.tree.Statement.TheVariants.{One, Two, Proto, External, Most, Unique, Answer}
 use Rattle.sg_check_statements.specs.sg_parse.declared.tree.Tree.{Tree}
 use Rattle.sg_check_statements.specs.sg_parse.sg_lex.Lexeme.{Spelling}
-use Rattle.sg_check_statements.specs.sg_parse.sg_lex.Numbers.{bounded, number_of_digits, value_of_digits}
+use Rattle.sg_describe.specs.Digits.{bounded, number_of_digits, value_of_digits}
 use Rattle.sg_shape.specs.Faults.{HasNoShapeFlaw}
 use Rattle.sg_shape.specs.Fields.{fields_of_text}
 use Rattle.sg_shape.specs.Prototypes.{Prototype, protos_of}

@@ -15,7 +15,7 @@ use Rattle.sg_check_statements.specs.sg_parse.declared.tree.Statement.{Statement
 use Rattle.sg_check_statements.specs.sg_parse.declared.tree.Statement.TheVariants.{One, Proto, External, Most, Unique, Answer}
 use Rattle.sg_check_statements.specs.sg_parse.declared.tree.Tree.{Tree}
 use Rattle.sg_check_statements.specs.sg_parse.sg_lex.Lexeme.{Spelling}
-use Rattle.sg_check_statements.specs.sg_parse.sg_lex.Numbers.{number_of_digits}
+use Rattle.sg_describe.specs.Digits.{number_of_digits}
 use Rattle.sg_check_statements.specs.sg_parse.sg_rules.declared.tree.Operand.{Operand}
 use Rattle.sg_check_statements.specs.sg_parse.sg_rules.declared.tree.Operand.TheVariants.{Number, Argument, GreatestOf, Named}
 use Rattle.sg_check_statements.specs.sg_parse.sg_rules.declared.tree.Rule.{Rule}

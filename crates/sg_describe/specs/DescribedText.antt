@@ -5,7 +5,7 @@ use Rattle.sg_facts.specs.Facts.{Facts, Fun}
 use Rattle.sg_facts.specs.sg_base.declared.reply.Code.TheVariants.{NotFound}
 use Rattle.sg_check_statements.specs.sg_parse.declared.tree.Statement.{Statement}
 use Rattle.sg_check_statements.specs.sg_parse.declared.tree.Tree.{Tree}
-use Rattle.sg_check_statements.specs.sg_parse.sg_lex.Numbers.{number_of_digits}
+use Rattle.sg_describe.specs.Digits.{number_of_digits}
 use Rattle.sg_check_statements.specs.sg_parse.sg_rules.declared.tree.Operand.{Operand as TextOperand}
 use Rattle.sg_check_statements.specs.sg_parse.sg_rules.declared.tree.Operand.TheVariants.{Number as TextNumber, Caller as TextCaller, State as TextState, Argument as TextArgument, GreatestOf, Named}
 use Rattle.sg_check_statements.specs.sg_parse.sg_rules.declared.tree.Operator.{Operator}

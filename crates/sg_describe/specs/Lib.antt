@@ -1,6 +1,7 @@
 pub mod AnswerFaults
 pub mod AnswerFlaws
 pub mod DescribedText
+pub mod Digits
 pub mod Inside
 pub mod Names
 pub mod Said

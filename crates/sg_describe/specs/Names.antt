@@ -11,7 +11,7 @@ use Rattle.sg_facts.specs.sg_base.Codes.{code_name}
 use Rattle.sg_facts.specs.sg_base.declared.reply.Code.{Code}
 use Rattle.sg_facts.specs.sg_base.declared.reply.Code.TheVariants.{NoDesc, NoParent, BadState, HasChildren, Full, NotOwner, Held, Occupied, NotFound, Overflow, Gap, TooBig, BadName}
 use Rattle.sg_check_statements.specs.Says.{fun_number}
-use Rattle.sg_check_statements.specs.sg_parse.sg_lex.Numbers.{number_of_digits}
+use Rattle.sg_describe.specs.Digits.{number_of_digits}
 use Rattle.sg_described.specs.declared.description.Operand.{Operand}
 use Rattle.sg_described.specs.declared.description.Operand.TheVariants.{Number, Own}
 

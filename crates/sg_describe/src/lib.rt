@@ -5,11 +5,12 @@
 //! - `fault`: what is wrong, and where (`AnswerFaultKind`, `AnswerFault`, `AnswerError`)
 //! - `flaws`: the first place of each kind of flaw; `rule_flaws` looks for it in rules
 //! - `making`: the description of a text in which nothing is wrong, part by part
-//! - `names`: what names and numbers in rules stand for; `said`: what statements say of fields and functions
+//! - `digits`: what digits stand for; `names`: what names and numbers in rules stand for; `said`: what statements say of fields and functions
 //! - `laws`: laws of the definitions (`one_verdict`, `flawless_texts_are_plain`)
 #![tactic(auto)]
 
 mod describing;
+mod digits;
 mod fault;
 mod flaws;
 mod laws;

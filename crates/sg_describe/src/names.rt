@@ -4,7 +4,8 @@ ghost use Rattle.sg_facts.specs.Facts.{facts_of};
 ghost use Rattle.sg_facts.specs.Limits.{most_fields, most_funs};
 ghost use Rattle.sg_describe.specs.Names.{argument_at, argument_named, code_named, field_number, named, param_place};
 
-use sg_check_statements::{fun_number, number_of_digits};
+use crate::digits::number_of_digits;
+use sg_check_statements::fun_number;
 use sg_described::Operand;
 use sg_facts::{Code, Kind, Shape};
 use sg_shape::count_args;

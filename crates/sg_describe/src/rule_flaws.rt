@@ -8,11 +8,10 @@ ghost use Rattle.sg_describe.specs.AnswerFlaws.{operand_flaw, operands_flaw, own
 ghost use Rattle.sg_describe.specs.Names.{code_named, named};
 ghost use Rattle.sg_describe.specs.Said.{first_in};
 
+use crate::digits::number_of_digits;
 use crate::fault::AnswerFaultKind;
 use crate::names::{code_named, field_number, is_argument};
-use sg_check_statements::{
-    Operand, RowTest, Rule, Spelled, Term, Test, fun_number, number_of_digits,
-};
+use sg_check_statements::{Operand, RowTest, Rule, Spelled, Term, Test, fun_number};
 use sg_facts::{Code, FunShape, Shape};
 
 /// What is looked for: a flaw of a kind in the rules of a function of a shape.

@@ -1,3 +1,4 @@
+pub mod Digits
 pub mod Earliest
 pub mod Held
 pub mod Naming

@@ -2,7 +2,7 @@
 use Rattle.std.specs.Prelude.{ℕ, ◌+◌, ◌*◌, ◌-◌, nat_le, if◌then◌else◌, List, None, Some}
 use Rattle.std.specs.declared.option.Option.{Option}
 use Rattle.std.specs.List.{fold}
-use Rattle.sg_base.specs.Counts.{last_count}
+use Rattle.sg_facts.specs.sg_base.Counts.{last_count}
 
 -- what digits stand for
 abbrev pub value_of_digits : List ℕ → ℕ

@@ -1,6 +1,6 @@
 // What digits stand for.
 ghost use Rattle.std.specs.Prelude.{◌≡◌, ◌+◌, ◌*◌, ◌-◌};
-ghost use Rattle.sg_lex.specs.Numbers.{bounded, number_of_digits};
+ghost use Rattle.sg_describe.specs.Digits.{bounded, number_of_digits};
 
 /// What digits stand for; None where that is above the greatest number of 64 bits.
 pub fn number_of_digits(digits: &[u8]) -> Option<u64>
