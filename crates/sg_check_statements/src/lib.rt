@@ -45,7 +45,7 @@ pub use protos::{Protos, duplicate_in};
 pub use said::{says, says_of};
 pub use sg_parse::{
     Facts, Operand, Operator, Param, Relation, Ret, RowTest, Rule, Spelled, Statement, Term, Test,
-    Tree, TypeName, number_of_digits, parse,
+    Tree, TypeName, parse,
 };
 pub use stages::{fit_one_by_one, unless};
 pub use unknown::{bare, bare_second};

@@ -21,9 +21,7 @@ mod words;
 
 pub use laws::{one_answer, one_tree};
 pub use parser::parse;
-pub use sg_lex::{
-    LexFault, Lexer, Spelled, SpelledList, Token, TokenKind, first_token, number_of_digits,
-};
+pub use sg_lex::{LexFault, Lexer, Spelled, SpelledList, Token, TokenKind, first_token};
 pub use sg_rules::{
     Keyword, Operand, Operator, ParseError, Pick, PickList, Relation, RowTest, Rule, RuleList,
     Term, TermList, Test, TestList, Tests, What,
