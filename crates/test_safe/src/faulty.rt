@@ -145,7 +145,7 @@ pub fn heap() -> Description
     }
 }
 
-static CRATE_FUNS: [FunShape; 2] = [
+static CRATE_FUNS: [FunShape; 3] = [
     FunShape {
         name: b"crate_make",
         kinds: &[],
@@ -153,25 +153,35 @@ static CRATE_FUNS: [FunShape; 2] = [
         leaves: Leaves::Own,
         effects: &[(0, Effect::SetRet)],
     },
+    FunShape {
+        name: b"crate_empty",
+        kinds: &[Kind::Desc],
+        flags: 0,
+        leaves: Leaves::Own,
+        effects: &[(0, Effect::Clear)],
+    },
     SEM_FREE,
 ];
 
-static CRATE_MOVES: [(u8, u8); 1] = [(1, 2)];
+static CRATE_MOVES: [(u8, u8); 3] = [(1, 2), (1, 3), (2, 3)];
+
+static CRATE_STEPS: [(u8, u8); 1] = [(1, 2)];
 
 static CRATE_RULES: [RuleShape; 1] = [RuleShape {
     tests: &[],
     verdict: Verdict::Give(Term::Only(Operand::Number(70000))),
 }];
 
-static CRATE_ANSWERS: [AnswerShape; 2] = [
+static CRATE_ANSWERS: [AnswerShape; 3] = [
     AnswerShape {
         rules: &CRATE_RULES,
     },
     DONE,
+    DONE,
 ];
 
-/// Crates that are made with more than they may hold.
-pub fn crate_of() -> Description
+/// Crates that are made with more than they may hold, and emptied when they are rebuilt.
+pub fn crate_overfull() -> Description
     ensures { length (described_of result).facts.funs ≤ most_funs }
 {
     Description {
@@ -179,6 +189,7 @@ pub fn crate_of() -> Description
             name: b"crate",
             funs: &CRATE_FUNS,
             moves: &CRATE_MOVES,
+            steps: &CRATE_STEPS,
             ..SINGLE
         },
         most: &[65535],

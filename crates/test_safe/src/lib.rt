@@ -14,5 +14,7 @@ mod services;
 #[cfg(test)]
 mod verdicts;
 
-pub use faulty::{counter, crate_of, forgetful_lock, heap, limited_event, mute_semaphore, tally};
+pub use faulty::{
+    counter, crate_overfull, forgetful_lock, heap, limited_event, mute_semaphore, tally,
+};
 pub use services::{event, lock, semaphore};

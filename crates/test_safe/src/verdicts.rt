@@ -4,7 +4,7 @@ ghost use Rattle.sg_facts.specs.Limits.{most_funs};
 ghost use Rattle.sg_described.specs.Described.{described_of};
 
 use crate::faulty::{
-    counter, crate_of, forgetful_lock, heap, limited_event, mute_semaphore, tally,
+    counter, crate_overfull, forgetful_lock, heap, limited_event, mute_semaphore, tally,
 };
 use crate::services::{event, lock, semaphore};
 use sg_described::{Bounds, Description};
@@ -172,7 +172,7 @@ fn a_field_may_go_past_its_greatest(rt: HostRuntime) -> Result<(), Fail> {
         state: 1,
         field: UNSET,
     };
-    try_one(&rt, alloc, &crate_of(), at_once)
+    try_one(&rt, alloc, &crate_overfull(), at_once)
 }
 
 #[test]
