@@ -39,10 +39,17 @@ pub enum Expected {
     },
 }
 
-/// A field that isn't set.
+/// A number up to 65535.
+const SMALL: Bounds = Bounds {
+    least: 0,
+    most: 65535,
+};
+
+/// A field that isn't set, of a row that may have a small number.
 const UNSET: KnownField = KnownField {
     mark: FieldState::Unset,
     bounds: Bounds { least: 0, most: 0 },
+    own: SMALL,
 };
 
 // Whether a call fails so, on a row of one field.
@@ -133,7 +140,10 @@ fn a_replayed_call_may_have_no_client(rt: HostRuntime) -> Result<(), Fail> {
         fun: 2,
         obstacle: Obstacle::NoClient { field: 0 },
         state: 1,
-        field: UNSET,
+        field: KnownField {
+            own: Bounds { least: 0, most: 64 },
+            ..UNSET
+        },
     };
     try_one(&rt, rt.alloc(), &forgetful_lock(), alone)
 }
@@ -158,10 +168,8 @@ fn a_field_may_go_past_its_greatest(rt: HostRuntime) -> Result<(), Fail> {
         state: 1,
         field: KnownField {
             mark: FieldState::Good,
-            bounds: Bounds {
-                least: 0,
-                most: 65535,
-            },
+            bounds: SMALL,
+            own: SMALL,
         },
     };
     try_one(&rt, alloc, &heap(), twice)?;
