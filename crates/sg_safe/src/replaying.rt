@@ -5,8 +5,8 @@ ghost use Rattle.std.specs.Option.{option_map};
 ghost use Rattle.sg_facts.specs.Facts.{fun_of_shape};
 ghost use Rattle.sg_described.specs.Described.{rule_of};
 ghost use Rattle.sg_described.specs.Safe.{IsPlain};
-ghost use Rattle.sg_described.specs.Walking.{bounds_at, caller_fits, known_at, left_most};
-ghost use Rattle.sg_known.specs.Seen.{known_in, pairs_of};
+ghost use Rattle.sg_described.specs.Walking.{bounds_at, caller_fits, field_known, known_at, left_most};
+ghost use Rattle.sg_known.specs.Seen.{fields_in, known_in, pairs_of};
 ghost use Rattle.sg_known.specs.Surveys.{IsSurvey, subject_of};
 ghost use Rattle.sg_safe.specs.Inside.Replays.{IsLater, clients_at, fields_from, past_at, spots_from, stops_at};
 ghost use Rattle.sg_safe.specs.Inside.Routes.{IsReached, most_before, place_in};
@@ -115,24 +115,23 @@ fn add_known(
     }
 }
 
-// A spot with what is known of its fields, by what is known of the replayed call of a function there.
+// A spot with what is known of its fields.
 fn known_of_spot(
     alloc: Global,
     survey: &Survey<'_>,
-    fun: u8,
     spot: Spot,
-    seen: &Seen<'_>,
+    fields: &[Bounds],
 ) -> Result<KnownSpot, NoMemory>
     requires survey { IsSurvey survey.now }
     requires fields { HasFewFields (subject_of survey.now) }
-    requires known { known_in seen.now ≡ known_at (subject_of survey.now) fun (shown (subject_of survey.now) spot) }
+    requires known { fields_in fields.now ≡ field_known (subject_of survey.now) (shown (subject_of survey.now) spot) }
     ensures { let d = subject_of survey.now in IfOk result (λ known. known ≡ known_spot d (shown d spot)) }
 {
     let count = survey.description.shape.fields.len();
     let mut known = ListOf::new(alloc);
     add_known(
         &mut known,
-        seen.fields.as_slice(),
+        fields,
         survey.greatest.as_slice(),
         0,
         &spot.marks[..count],
@@ -277,7 +276,7 @@ fn failure_at(
         None => Ok(None),
         Some(obstacle) => Ok(Some(FailingCall {
             fun,
-            spot: known_of_spot(alloc, survey, fun, spot, &seen)?,
+            spot: known_of_spot(alloc, survey, spot, seen.fields.as_slice())?,
             obstacle,
         })),
     }
