@@ -12,7 +12,7 @@ use Rattle.sg_described.specs.Described.{Described}
 use Rattle.sg_described.specs.Walking.{add_spot, add_spots, begins, is_lost, is_step, nexts, spots_of, spots_within}
 use Rattle.sg_described.proofs.Keeping.Basics.{both_true, or_true, own_test, same_of}
 use Rattle.sg_safe.specs.declared.spots.Reached.{Reached}
-use Rattle.sg_safe.specs.Inside.Routes.{IsReached, add_unlost, are_steps, nexts_by, place_in}
+use Rattle.sg_safe.specs.Inside.Routes.{IsReached, add_begin, add_step, add_unlost, are_steps, nexts_by, place_in}
 use Rattle.sg_safe.specs.Reasons.{goes_on, led_by, led_on}
 
 -- ---- walks of one call more
@@ -107,42 +107,37 @@ funs_rest funs (suc k) f rest low is =
 
 -- ---- spots
 
-pub begin_more : (d : Described) (n : ℕ) (f : Fun) (funs : List Fun) (old mid new : List Spot) (s : Spot) → f.creation ≡ true → s ≡ first_spot d.facts n
-    → mid ≡ add_unlost d old s → new ≡ add_spots mid (begins d (n + 1) funs) → new ≡ add_spots old (begins d n (f ∷ funs))
-begin_more d n f funs old mid new s creation place one rest =
-    let next : n + 1 ≡ suc n = omega arith in
-    let start : mid ≡ add_unlost d old (first_spot d.facts n) = one ∙ ap (add_unlost d old) place in
-    rest ∙ ap (λ m. add_spots mid (begins d m funs)) next ∙ ap (λ l. add_spots l (begins d (suc n) funs)) start
-    ∙ at (is_lost d (first_spot d.facts n)) ∙ ap (λ b. add_spots old (cond (b && not (is_lost d (first_spot d.facts n))) (first_spot d.facts n ∷ begins d (suc n) funs) (begins d (suc n) funs))) (sym creation)
+begin_at : (d : Described) (n : ℕ) (funs : List Fun) (old : List Spot) (makes : Bool)
+    → add_spots (cond makes (add_unlost d old (first_spot d.facts n)) old) (begins d (suc n) funs)
+    ≡ add_spots old (cond (makes && not (is_lost d (first_spot d.facts n))) (first_spot d.facts n ∷ begins d (suc n) funs) (begins d (suc n) funs))
+begin_at d n funs old false = refl
+begin_at d n funs old true = at (is_lost d (first_spot d.facts n))
   where
     at : (b : Bool) → add_spots (cond b old (add_spot old (first_spot d.facts n))) (begins d (suc n) funs)
         ≡ add_spots old (cond (not b) (first_spot d.facts n ∷ begins d (suc n) funs) (begins d (suc n) funs))
     at true = refl
     at false = refl
 
-pub begin_none : (d : Described) (n : ℕ) (f : Fun) (funs : List Fun) (old new : List Spot) → f.creation ≡ false → new ≡ add_spots old (begins d (n + 1) funs)
+pub begin_more : (d : Described) (n : ℕ) (f : Fun) (funs : List Fun) (old mid new : List Spot) → mid ≡ add_begin d old n f → new ≡ add_spots mid (begins d (n + 1) funs)
     → new ≡ add_spots old (begins d n (f ∷ funs))
-begin_none d n f funs old new creation rest =
+begin_more d n f funs old mid new one rest =
     let next : n + 1 ≡ suc n = omega arith in
-    rest ∙ ap (λ m. add_spots old (begins d m funs)) next
-    ∙ ap (λ b. add_spots old (cond (b && not (is_lost d (first_spot d.facts n))) (first_spot d.facts n ∷ begins d (suc n) funs) (begins d (suc n) funs))) (sym creation)
+    rest ∙ ap (λ m. add_spots mid (begins d m funs)) next ∙ ap (λ l. add_spots l (begins d (suc n) funs)) one ∙ begin_at d n funs old f.creation
 
-pub step_more : (d : Described) (s next : Spot) (p : ℕ × ℕ) (pairs : List (ℕ × ℕ)) (old mid new : List Spot) → is_step d s p ≡ true → next ≡ next_spot d.facts p.1 s
-    → mid ≡ add_unlost d old next → new ≡ add_spots mid (nexts_by d s pairs) → new ≡ add_spots old (nexts_by d s (p ∷ pairs))
-step_more d s next p pairs old mid new step place one rest =
-    let start : mid ≡ add_unlost d old (next_spot d.facts p.1 s) = one ∙ ap (add_unlost d old) place in
-    rest ∙ ap (λ l. add_spots l (nexts_by d s pairs)) start ∙ at (is_lost d (next_spot d.facts p.1 s))
-    ∙ ap (λ b. add_spots old (filter (λ t. not (is_lost d t)) (map (λ q. next_spot d.facts q.1 s) (cond b (p ∷ filter (is_step d s) pairs) (filter (is_step d s) pairs))))) (sym step)
+step_at : (d : Described) (s : Spot) (p : ℕ × ℕ) (pairs : List (ℕ × ℕ)) (old : List Spot) (steps : Bool)
+    → add_spots (cond steps (add_unlost d old (next_spot d.facts p.1 s)) old) (nexts_by d s pairs)
+    ≡ add_spots old (filter (λ t. not (is_lost d t)) (map (λ q. next_spot d.facts q.1 s) (cond steps (p ∷ filter (is_step d s) pairs) (filter (is_step d s) pairs))))
+step_at d s p pairs old false = refl
+step_at d s p pairs old true = at (is_lost d (next_spot d.facts p.1 s))
   where
     at : (b : Bool) → add_spots (cond b old (add_spot old (next_spot d.facts p.1 s))) (nexts_by d s pairs)
         ≡ add_spots old (cond (not b) (next_spot d.facts p.1 s ∷ nexts_by d s pairs) (nexts_by d s pairs))
     at true = refl
     at false = refl
 
-pub step_none : (d : Described) (s : Spot) (p : ℕ × ℕ) (pairs : List (ℕ × ℕ)) (old new : List Spot) → is_step d s p ≡ false → new ≡ add_spots old (nexts_by d s pairs)
+pub step_more : (d : Described) (s : Spot) (p : ℕ × ℕ) (pairs : List (ℕ × ℕ)) (old mid new : List Spot) → mid ≡ add_step d old s p → new ≡ add_spots mid (nexts_by d s pairs)
     → new ≡ add_spots old (nexts_by d s (p ∷ pairs))
-step_none d s p pairs old new step rest =
-    rest ∙ ap (λ b. add_spots old (filter (λ t. not (is_lost d t)) (map (λ q. next_spot d.facts q.1 s) (cond b (p ∷ filter (is_step d s) pairs) (filter (is_step d s) pairs))))) (sym step)
+step_more d s p pairs old mid new one rest = rest ∙ ap (λ l. add_spots l (nexts_by d s pairs)) one ∙ step_at d s p pairs old (is_step d s p)
 
 add_both : (old some more : List Spot) → add_spots old (some ++ more) ≡ add_spots (add_spots old some) more
 add_both old [] more = refl

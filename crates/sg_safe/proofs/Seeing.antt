@@ -107,9 +107,10 @@ mark_shown Unset = refl
 mark_shown Good = refl
 mark_shown Unknown = refl
 
-pub spots_known : (d : Described) (s : Place) (fields : List Bounds) → fields_in fields ≡ field_known d s → (x : ℕ) (marks : List FieldState) → spots_from fields x marks ≡ known_fields d s x (map known_of marks)
+pub spots_known : (d : Described) (s : Place) (fields : List Bounds) → fields_in fields ≡ field_known d s → (x : ℕ) (marks : List FieldState)
+    → spots_from fields (greatest d) x marks ≡ known_fields d s x (map known_of marks)
 spots_known d s fields same x [] = refl
 spots_known d s fields same x (m ∷ marks) =
-    ap (λ n. let f : KnownField = record { mark = n; bounds = fields_in fields x } in f ∷ spots_from fields (suc x) marks) (mark_shown m)
-    ∙ ap (λ (g : ℕ → Bounds). let f : KnownField = record { mark = shown_mark (known_of m); bounds = g x } in f ∷ spots_from fields (suc x) marks) same
-    ∙ ap (λ l. let f : KnownField = record { mark = shown_mark (known_of m); bounds = field_known d s x } in f ∷ l) (spots_known d s fields same (suc x) marks)
+    ap (λ n. let f : KnownField = record { mark = n; bounds = fields_in fields x; own = between 0 (most_at (greatest d) x) } in f ∷ spots_from fields (greatest d) (suc x) marks) (mark_shown m)
+    ∙ ap (λ (g : ℕ → Bounds). let f : KnownField = record { mark = shown_mark (known_of m); bounds = g x; own = between 0 (most_at (greatest d) x) } in f ∷ spots_from fields (greatest d) (suc x) marks) same
+    ∙ ap (λ l. let f : KnownField = record { mark = shown_mark (known_of m); bounds = field_known d s x; own = between 0 (most_at (greatest d) x) } in f ∷ l) (spots_known d s fields same (suc x) marks)

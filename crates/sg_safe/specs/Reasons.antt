@@ -14,7 +14,8 @@ use Rattle.sg_facts.specs.Walks.{FieldMark, Spot, unset, good, unknown}
 use Rattle.sg_walk.specs.declared.spot.FieldState.{FieldState}
 use Rattle.sg_walk.specs.declared.spot.FieldState.TheVariants.{Unset, Good, Unknown}
 use Rattle.sg_described.specs.Described.{Described, Rule, rules_at}
-use Rattle.sg_described.specs.Known.{is_wait, may_stop}
+use Rattle.sg_described.specs.Known.{between, greatest, is_wait, may_stop}
+use Rattle.sg_described.specs.Meaning.{most_at}
 use Rattle.sg_described.specs.NeverZero.{all_from}
 use Rattle.sg_described.specs.Safe.{adds, counts_slowly, replays_slowly}
 use Rattle.sg_described.specs.Waiting.{leaves_waiting, waits_well}
@@ -74,7 +75,7 @@ shown_mark m = elim m [ unset ↦ Unset | good ↦ Good | unknown ↦ Unknown ]
 -- what is known of fields, numbered from a number on
 abbrev pub known_fields : Described → Spot → ℕ → List FieldMark → List KnownField
 known_fields d s x [] = []
-known_fields d s x (m ∷ marks) = record { mark = shown_mark m; bounds = field_known d s x } ∷ known_fields d s (suc x) marks
+known_fields d s x (m ∷ marks) = record { mark = shown_mark m; bounds = field_known d s x; own = between 0 (most_at (greatest d) x) } ∷ known_fields d s (suc x) marks
 
 abbrev pub known_spot : Described → Spot → KnownSpot
 known_spot d s = record { state = s.state; fields = known_fields d s 0 s.marks }

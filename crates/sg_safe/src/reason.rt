@@ -4,11 +4,13 @@ use sg_facts::{ListOf, NoMemory, Walk};
 use sg_walk::FieldState;
 use thiserror::Error;
 
-/// What is known of a field where a walk has come to.
+/// What is known of a field where a walk has come to: whether it is restored, what it may be there, and what it may be in the row
+/// that is rebuilt. An argument that a replayed function takes into the field is the latter.
 #[derive(Clone, Copy, Debug, PartialEq, Eq)]
 pub struct KnownField {
     pub mark: FieldState,
     pub bounds: Bounds,
+    pub own: Bounds,
 }
 
 /// Where a walk has come to: the state, and what is known of each field. Before its first call a walk stands in the state of the

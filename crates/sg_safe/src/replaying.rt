@@ -3,10 +3,10 @@ ghost use Rattle.std.specs.Prelude.{◌≡◌, ◌+◌, ◌<◌, ◌≤◌, ◌^
 ghost use Rattle.std.specs.List.{list_all};
 ghost use Rattle.std.specs.Option.{option_map};
 ghost use Rattle.sg_facts.specs.Facts.{fun_of_shape};
-ghost use Rattle.sg_described.specs.Described.{described_of, rule_of};
+ghost use Rattle.sg_described.specs.Described.{rule_of};
 ghost use Rattle.sg_described.specs.Safe.{IsPlain};
-ghost use Rattle.sg_described.specs.Walking.{bounds_at, caller_fits, known_at, left_most};
-ghost use Rattle.sg_known.specs.Seen.{known_in, pairs_of};
+ghost use Rattle.sg_described.specs.Walking.{bounds_at, caller_fits, field_known, known_at, left_most};
+ghost use Rattle.sg_known.specs.Seen.{fields_in, known_in, pairs_of};
 ghost use Rattle.sg_known.specs.Surveys.{IsSurvey, subject_of};
 ghost use Rattle.sg_safe.specs.Inside.Replays.{IsLater, clients_at, fields_from, past_at, spots_from, stops_at};
 ghost use Rattle.sg_safe.specs.Inside.Routes.{IsReached, most_before, place_in};
@@ -16,7 +16,7 @@ ghost use Rattle.sg_walk.specs.Marks.{known_of};
 
 use crate::reason::{FailingCall, KnownField, KnownSpot, Obstacle, Unsafe};
 use crate::spots::{Reached, blank_spot, loses, spot_after, steps_from};
-use sg_described::{Bounds, Description, RuleShape};
+use sg_described::{Bounds, RuleShape};
 use sg_facts::{Effect, FunShape, LAST_CLIENT, ListOf, NoMemory};
 use sg_known::{
     ANY, ArgsKnown, Seen, Survey, ZERO, bounds_up_to, field_bounds, greatest_word, is_some_in,
@@ -91,15 +91,16 @@ fn seen_at<'a>(
     })
 }
 
-// Adds what is known of fields with their marks, numbered from one on.
+// Adds what is known of fields with their marks, numbered from one on, by their greatest numbers.
 fn add_known(
     known: &mut ListOf<KnownField>,
     fields: &[Bounds],
+    most: &[u64],
     field: u8,
     marks: &[FieldState],
 ) -> Result<(), NoMemory>
     requires numbers { field + length marks.now < 2 ^ 8 }
-    ensures { OnOk result (known.new ≡ known.old ++ spots_from fields.now field marks.now) }
+    ensures { OnOk result (known.new ≡ known.old ++ spots_from fields.now most.now field marks.now) }
 {
     match marks {
         [] => Ok(()),
@@ -107,8 +108,9 @@ fn add_known(
             known.push(KnownField {
                 mark: *first,
                 bounds: field_bounds(fields, field),
+                own: bounds_up_to(most, field),
             })?;
-            add_known(known, fields, field + 1, rest)
+            add_known(known, fields, most, field + 1, rest)
         }
     }
 }
@@ -116,18 +118,24 @@ fn add_known(
 // A spot with what is known of its fields.
 fn known_of_spot(
     alloc: Global,
-    description: &Description,
-    fun: u8,
+    survey: &Survey<'_>,
     spot: Spot,
-    seen: &Seen<'_>,
+    fields: &[Bounds],
 ) -> Result<KnownSpot, NoMemory>
-    requires fields { HasFewFields (described_of description.now) }
-    requires known { known_in seen.now ≡ known_at (described_of description.now) fun (shown (described_of description.now) spot) }
-    ensures { let d = described_of description.now in IfOk result (λ known. known ≡ known_spot d (shown d spot)) }
+    requires survey { IsSurvey survey.now }
+    requires fields { HasFewFields (subject_of survey.now) }
+    requires known { fields_in fields.now ≡ field_known (subject_of survey.now) (shown (subject_of survey.now) spot) }
+    ensures { let d = subject_of survey.now in IfOk result (λ known. known ≡ known_spot d (shown d spot)) }
 {
-    let count = description.shape.fields.len();
+    let count = survey.description.shape.fields.len();
     let mut known = ListOf::new(alloc);
-    add_known(&mut known, seen.fields.as_slice(), 0, &spot.marks[..count])?;
+    add_known(
+        &mut known,
+        fields,
+        survey.greatest.as_slice(),
+        0,
+        &spot.marks[..count],
+    )?;
     Ok(KnownSpot {
         state: spot.state,
         fields: known,
@@ -268,7 +276,7 @@ fn failure_at(
         None => Ok(None),
         Some(obstacle) => Ok(Some(FailingCall {
             fun,
-            spot: known_of_spot(alloc, survey.description, fun, spot, &seen)?,
+            spot: known_of_spot(alloc, survey, spot, seen.fields.as_slice())?,
             obstacle,
         })),
     }

@@ -1,8 +1,9 @@
 // Where walks come to.
-ghost use Rattle.std.specs.Prelude.{◌≡◌, ◌+◌, ◌-◌, ◌<◌, ◌≤◌, ◌^◌, ◌==◌, ◌&&◌, ◌++◌, ◌∷◌, [], ℕ, All, IfOk, OnOk, drop, length, map, not};
+ghost use Rattle.std.specs.Prelude.{◌≡◌, ◌+◌, ◌-◌, ◌<◌, ◌≤◌, ◌^◌, ◌==◌, ◌&&◌, ◌++◌, true, ◌∷◌, [], ℕ, All, IfOk, OnOk, drop, length, map, not};
 ghost use Rattle.std.specs.List.{flat_map, list_all, list_any};
 ghost use Rattle.sg_facts.specs.Facts.{fun_at, fun_of_shape};
 ghost use Rattle.sg_facts.specs.Inside.Walking.{first_spot, next_spot};
+ghost use Rattle.sg_facts.specs.Interface.{has_pair};
 ghost use Rattle.sg_facts.specs.Limits.{most_fields};
 ghost use Rattle.sg_facts.specs.Walks.{most_calls};
 ghost use Rattle.sg_described.specs.Described.{described_of};
@@ -10,7 +11,7 @@ ghost use Rattle.sg_described.specs.NeverZero.{all_from};
 ghost use Rattle.sg_described.specs.Walking.{add_spots, begins, blank, brings_back, is_lost, is_step, is_stuck, is_unknown, nexts, same_mark, same_marks, same_spot, spots_of, spots_within};
 ghost use Rattle.sg_known.specs.Seen.{pairs_of};
 ghost use Rattle.sg_safe.specs.Inside.Seen.{HasFewFields, pairs_in, shown, spot_in};
-ghost use Rattle.sg_safe.specs.Inside.Routes.{IsReached, add_unlost, are_steps, most_before, nexts_by, place_in};
+ghost use Rattle.sg_safe.specs.Inside.Routes.{IsReached, add_begin, add_step, add_unlost, are_steps, most_before, nexts_by, place_in};
 ghost use Rattle.sg_walk.specs.Marks.{known_of};
 
 use sg_described::Description;
@@ -190,7 +191,7 @@ fn add_one(
     if loses(description, reached.spot) || has_spot(description, found.as_slice(), reached.spot) {
         return Ok(());
     }
-    found.push(reached)
+    Ok(found.push(reached)?)
 }
 
 // ---- where walks lead to
@@ -224,6 +225,25 @@ fn continued(description: &Description, from: &Reached, fun: u8) -> Result<Reach
     })
 }
 
+// Adds where the walk of one call leads to, where the function of a number makes a descriptor.
+fn add_begin(
+    found: &mut ReachedList,
+    description: &Description,
+    number: u8,
+    fun: &FunShape,
+) -> Result<(), NoMemory>
+    requires fields { HasFewFields (described_of description.now) }
+    requires fun { fun_at (described_of description.now).facts.funs number ≡ fun_of_shape fun.now }
+    ensures spots { let d = described_of description.now in let all = map (place_in d) in
+        OnOk result (all found.new ≡ add_begin d (all found.old) number (fun_of_shape fun.now)) }
+    ensures reached { OnOk result (All (IsReached (described_of description.now) 1) found.old → All (IsReached (described_of description.now) 1) found.new) }
+{
+    if !fun.is_creation() {
+        return Ok(());
+    }
+    Ok(add_one(found, description, begun(description, number)?)?)
+}
+
 // Adds where walks of one call lead to, by functions that are numbered from one on: those of the description from there on.
 fn add_begins(
     found: &mut ReachedList,
@@ -242,10 +262,8 @@ fn add_begins(
     match funs {
         [] => Ok(()),
         [first, rest @ ..] => {
-            if first.is_creation() {
-                add_one(found, description, begun(description, number)?)?;
-            }
-            add_begins(found, description, number + 1, rest)
+            add_begin(found, description, number, first)?;
+            Ok(add_begins(found, description, number + 1, rest)?)
         }
     }
 }
@@ -255,6 +273,27 @@ pub(crate) fn steps_from(description: &Description, spot: Spot, pair: (u8, u8)) 
     ensures { (count : ℕ) → result ≡ is_step (described_of description.now) (spot_in count spot) (pair.0, pair.1) }
 {
     pair.0 == spot.state && !description.shape.fun(pair.1).is_terminal()
+}
+
+// Adds where a walk leads to with one more call, by a recover step of the description.
+fn add_step(
+    found: &mut ReachedList,
+    description: &Description,
+    from: &Reached,
+    pair: (u8, u8),
+) -> Result<(), NoMemory>
+    requires fields { HasFewFields (described_of description.now) }
+    requires room { length from.now.walk < most_calls }
+    requires step { has_pair (described_of description.now).facts.steps pair.0 pair.1 ≡ true }
+    ensures spots { let d = described_of description.now in let all = map (place_in d) in
+        OnOk result (all found.new ≡ add_step d (all found.old) (place_in d from.now) (pair.0, pair.1)) }
+    ensures reached { (calls : ℕ) → IsReached (described_of description.now) calls from.now
+        → OnOk result (All (IsReached (described_of description.now) (calls + 1)) found.old → All (IsReached (described_of description.now) (calls + 1)) found.new) }
+{
+    if !steps_from(description, from.spot, pair) {
+        return Ok(());
+    }
+    Ok(add_one(found, description, continued(description, from, pair.1)?)?)
 }
 
 // Adds where a walk leads to with one more call, by recover steps of the description.
@@ -275,10 +314,8 @@ fn add_steps(
     match steps {
         [] => Ok(()),
         [first, rest @ ..] => {
-            if steps_from(description, from.spot, *first) {
-                add_one(found, description, continued(description, from, first.1)?)?;
-            }
-            add_steps(found, description, from, rest)
+            add_step(found, description, from, *first)?;
+            Ok(add_steps(found, description, from, rest)?)
         }
     }
 }
@@ -300,7 +337,7 @@ fn add_nexts(
         [] => Ok(()),
         [first, rest @ ..] => {
             add_steps(found, description, first, description.shape.steps)?;
-            add_nexts(found, description, rest)
+            Ok(add_nexts(found, description, rest)?)
         }
     }
 }

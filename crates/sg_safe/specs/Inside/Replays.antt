@@ -11,7 +11,7 @@ use Rattle.sg_described.specs.Known.{Known, greatest, may_stop}
 use Rattle.sg_described.specs.Meaning.{most_at}
 use Rattle.sg_described.specs.NeverZero.{is_never_zero}
 use Rattle.sg_described.specs.Walking.{bounds_at, caller_fits, left_most}
-use Rattle.sg_known.specs.Seen.{fields_in}
+use Rattle.sg_known.specs.Seen.{fields_in, up_to}
 use Rattle.sg_safe.specs.declared.reason.FailingCall.{FailingCall}
 use Rattle.sg_safe.specs.declared.reason.KnownField.{KnownField}
 use Rattle.sg_safe.specs.declared.reason.Obstacle.{Obstacle}
@@ -25,10 +25,10 @@ abbrev pub fields_from : Described → ℕ → ℕ → List FieldMark → List B
 fields_from d state x [] = []
 fields_from d state x (m ∷ marks) = bounds_at m (is_never_zero d.facts state x) (most_at (greatest d) x) ∷ fields_from d state (suc x) marks
 
--- the same with the marks of the code, by what is listed
-abbrev pub spots_from : List Bounds → ℕ → List FieldState → List KnownField
-spots_from fields x [] = []
-spots_from fields x (m ∷ marks) = record { mark = m; bounds = fields_in fields x } ∷ spots_from fields (suc x) marks
+-- the same with the marks of the code, by what is listed of fields and their greatest numbers
+abbrev pub spots_from : List Bounds → List ℕ → ℕ → List FieldState → List KnownField
+spots_from fields most x [] = []
+spots_from fields most x (m ∷ marks) = record { mark = m; bounds = fields_in fields x; own = up_to most x } ∷ spots_from fields most (suc x) marks
 
 -- the first field that effects set to the caller and that may hold no client
 abbrev pub clients_at : Described → ℕ → List (ℕ × Effect) → Option Obstacle

@@ -2,7 +2,8 @@
 use Rattle.std.specs.Prelude.{ℕ, ◌≡◌, ◌≤◌, ◌+◌, Bool, not, if◌then◌else◌, List, Some, filter, length, map}
 use Rattle.std.specs.List.{list_all}
 use Rattle.sg_facts.specs.Interface.{has_pair}
-use Rattle.sg_facts.specs.Inside.Walking.{next_spot}
+use Rattle.sg_facts.specs.Facts.{Fun}
+use Rattle.sg_facts.specs.Inside.Walking.{first_spot, next_spot}
 use Rattle.sg_facts.specs.Walks.{Spot}
 use Rattle.sg_described.specs.Described.{Described}
 use Rattle.sg_described.specs.Walking.{add_spot, is_lost, is_step, most_more}
@@ -26,6 +27,14 @@ pub record IsReached (d : Described) (calls : ℕ) (r : Reached) : Type 0 where
 -- spots with one more, unless it is listed or a field is lost for good there
 abbrev pub add_unlost : Described → List Spot → Spot → List Spot
 add_unlost d spots s = if is_lost d s then spots else add_spot spots s
+
+-- with where the walk of one call leads to, by a function that makes a descriptor
+abbrev pub add_begin : Described → List Spot → ℕ → Fun → List Spot
+add_begin d spots fun f = if f.creation then add_unlost d spots (first_spot d.facts fun) else spots
+
+-- with where one more call leads to from a spot, by a pair that is a recover step from there
+abbrev pub add_step : Described → List Spot → Spot → ℕ × ℕ → List Spot
+add_step d spots s p = if is_step d s p then add_unlost d spots (next_spot d.facts p.1 s) else spots
 
 -- pairs are recover steps of a description
 abbrev pub are_steps : Described → List (ℕ × ℕ) → Bool

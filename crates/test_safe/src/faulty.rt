@@ -1,0 +1,273 @@
+// Services that can't be recovered.
+ghost use Rattle.std.specs.Prelude.{◌≤◌, length};
+ghost use Rattle.sg_facts.specs.Limits.{most_funs};
+ghost use Rattle.sg_described.specs.Described.{described_of};
+
+use crate::parts::{ARGUMENT, DONE, SINGLE};
+use crate::services::{
+    EVENT_SHAPE, GIVES, LOCK_ALLOC, LOCK_ANSWERS, LOCK_FREE, LOCK_SHAPE, LOCK_TAKE, SEM_ANSWERS,
+    SEM_DOWN, SEM_FREE, SEM_MAKE, SEM_SHAPE, SEM_UP, WAITS,
+};
+use sg_described::{AnswerShape, Description, Operand, Relation, RuleShape, Term, Test, Verdict};
+use sg_facts::{Code, Effect, FunShape, Kind, Leaves, Shape};
+
+// ---- a replayed call that may be refused
+
+static LIMIT_RULES: [RuleShape; 1] = [RuleShape {
+    tests: &[Test {
+        left: ARGUMENT,
+        relation: Relation::Above,
+        right: Term::Only(Operand::Number(100)),
+    }],
+    verdict: Verdict::Refuse(Code::TooBig),
+}];
+
+static LIMITED_ANSWERS: [AnswerShape; 5] = [
+    DONE,
+    WAITS,
+    AnswerShape {
+        rules: &LIMIT_RULES,
+    },
+    DONE,
+    GIVES,
+];
+
+/// Events of which at most 100 are triggered at once: more may have come together when they are rebuilt.
+pub fn limited_event() -> Description
+    ensures { length (described_of result).facts.funs ≤ most_funs }
+{
+    Description {
+        shape: EVENT_SHAPE,
+        most: &[65535],
+        answers: &LIMITED_ANSWERS,
+    }
+}
+
+// ---- a replayed call without a client
+
+static FORGETFUL_FUNS: [FunShape; 4] = [
+    LOCK_ALLOC,
+    LOCK_TAKE,
+    FunShape {
+        name: b"lock_release",
+        kinds: &[Kind::Desc],
+        flags: FunShape::WAKEUP,
+        leaves: Leaves::Same,
+        effects: &[(0, Effect::Clear)],
+    },
+    LOCK_FREE,
+];
+
+/// Locks whose release clears the owner, and leaves the state of a lock that is taken.
+pub fn forgetful_lock() -> Description
+    ensures { length (described_of result).facts.funs ≤ most_funs }
+{
+    Description {
+        shape: Shape {
+            funs: &FORGETFUL_FUNS,
+            ..LOCK_SHAPE
+        },
+        most: &[4294967295],
+        answers: &LOCK_ANSWERS,
+    }
+}
+
+// ---- a missed wake-up
+
+static MUTE_FUNS: [FunShape; 4] = [
+    SEM_MAKE,
+    SEM_DOWN,
+    FunShape {
+        name: b"sem_up",
+        kinds: &[Kind::Desc, Kind::Word],
+        flags: 0,
+        leaves: Leaves::Same,
+        effects: &[(0, Effect::AddArg(0))],
+    },
+    SEM_FREE,
+];
+
+/// Semaphores whose up is no wake-up.
+pub fn mute_semaphore() -> Description
+    ensures { length (described_of result).facts.funs ≤ most_funs }
+{
+    Description {
+        shape: Shape {
+            funs: &MUTE_FUNS,
+            ..SEM_SHAPE
+        },
+        most: &[65535],
+        answers: &SEM_ANSWERS,
+    }
+}
+
+// ---- a field past its greatest number
+
+static HEAP_FUNS: [FunShape; 4] = [
+    SEM_MAKE,
+    FunShape {
+        name: b"heap_add",
+        kinds: &[Kind::Desc, Kind::Word],
+        flags: 0,
+        leaves: Leaves::Own,
+        effects: &[(0, Effect::AddArg(0))],
+    },
+    FunShape {
+        name: b"heap_clear",
+        kinds: &[Kind::Desc],
+        flags: 0,
+        leaves: Leaves::Own,
+        effects: &[(0, Effect::Clear)],
+    },
+    SEM_FREE,
+];
+
+static HEAP_MOVES: [(u8, u8); 5] = [(1, 2), (2, 3), (3, 2), (2, 4), (3, 4)];
+
+static HEAP_STEPS: [(u8, u8); 2] = [(1, 2), (2, 3)];
+
+static HEAP_ANSWERS: [AnswerShape; 4] = [DONE, DONE, DONE, DONE];
+
+/// Heaps that are made with a count, and to which another is added when they are rebuilt, too.
+pub fn heap() -> Description
+    ensures { length (described_of result).facts.funs ≤ most_funs }
+{
+    Description {
+        shape: Shape {
+            name: b"heap",
+            funs: &HEAP_FUNS,
+            moves: &HEAP_MOVES,
+            steps: &HEAP_STEPS,
+            ..SINGLE
+        },
+        most: &[65535],
+        answers: &HEAP_ANSWERS,
+    }
+}
+
+static CRATE_FUNS: [FunShape; 3] = [
+    FunShape {
+        name: b"crate_make",
+        kinds: &[],
+        flags: FunShape::CREATION,
+        leaves: Leaves::Own,
+        effects: &[(0, Effect::SetRet)],
+    },
+    FunShape {
+        name: b"crate_empty",
+        kinds: &[Kind::Desc],
+        flags: 0,
+        leaves: Leaves::Own,
+        effects: &[(0, Effect::Clear)],
+    },
+    SEM_FREE,
+];
+
+static CRATE_MOVES: [(u8, u8); 3] = [(1, 2), (1, 3), (2, 3)];
+
+static CRATE_STEPS: [(u8, u8); 1] = [(1, 2)];
+
+static CRATE_RULES: [RuleShape; 1] = [RuleShape {
+    tests: &[],
+    verdict: Verdict::Give(Term::Only(Operand::Number(70000))),
+}];
+
+static CRATE_ANSWERS: [AnswerShape; 3] = [
+    AnswerShape {
+        rules: &CRATE_RULES,
+    },
+    DONE,
+    DONE,
+];
+
+/// Crates that are made with more than they may hold, and emptied when they are rebuilt.
+pub fn crate_overfull() -> Description
+    ensures { length (described_of result).facts.funs ≤ most_funs }
+{
+    Description {
+        shape: Shape {
+            name: b"crate",
+            funs: &CRATE_FUNS,
+            moves: &CRATE_MOVES,
+            steps: &CRATE_STEPS,
+            ..SINGLE
+        },
+        most: &[65535],
+        answers: &CRATE_ANSWERS,
+    }
+}
+
+// ---- words that count
+
+static TALLY_FUNS: [FunShape; 3] = [
+    SEM_MAKE,
+    FunShape {
+        name: b"tally_tick",
+        kinds: &[Kind::Desc],
+        flags: 0,
+        leaves: Leaves::Same,
+        effects: &[(0, Effect::AddRet)],
+    },
+    SEM_FREE,
+];
+
+static TALLY_MOVES: [(u8, u8); 2] = [(1, 2), (1, 3)];
+
+static TICK_RULES: [RuleShape; 1] = [RuleShape {
+    tests: &[],
+    verdict: Verdict::Give(Term::Only(Operand::Number(1))),
+}];
+
+static TALLY_ANSWERS: [AnswerShape; 3] = [DONE, AnswerShape { rules: &TICK_RULES }, DONE];
+
+/// Tallies that may count to the end of their words.
+pub fn tally() -> Description
+    ensures { length (described_of result).facts.funs ≤ most_funs }
+{
+    Description {
+        shape: Shape {
+            name: b"tally",
+            funs: &TALLY_FUNS,
+            moves: &TALLY_MOVES,
+            ..SINGLE
+        },
+        most: &[18446744073709551615],
+        answers: &TALLY_ANSWERS,
+    }
+}
+
+static COUNTER_FUNS: [FunShape; 4] = [
+    LOCK_ALLOC,
+    SEM_UP,
+    FunShape {
+        name: b"counter_tick",
+        kinds: &[Kind::Desc],
+        flags: 0,
+        leaves: Leaves::Same,
+        effects: &[(0, Effect::AddRet)],
+    },
+    SEM_FREE,
+];
+
+static COUNTER_MOVES: [(u8, u8); 3] = [(1, 2), (1, 3), (1, 4)];
+
+static COUNTER_STEPS: [(u8, u8); 1] = [(1, 2)];
+
+static COUNTER_ANSWERS: [AnswerShape; 4] = [DONE, DONE, AnswerShape { rules: &TICK_RULES }, DONE];
+
+/// Counters that are rebuilt by an addition.
+pub fn counter() -> Description
+    ensures { length (described_of result).facts.funs ≤ most_funs }
+{
+    Description {
+        shape: Shape {
+            name: b"counter",
+            funs: &COUNTER_FUNS,
+            moves: &COUNTER_MOVES,
+            steps: &COUNTER_STEPS,
+            ..SINGLE
+        },
+        most: &[65535],
+        answers: &COUNTER_ANSWERS,
+    }
+}

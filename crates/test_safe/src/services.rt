@@ -1,0 +1,261 @@
+// Services that can be recovered.
+ghost use Rattle.std.specs.Prelude.{◌≤◌, length};
+ghost use Rattle.sg_facts.specs.Limits.{most_funs};
+ghost use Rattle.sg_described.specs.Described.{described_of};
+
+use crate::parts::{CALLER, DONE, FIELD, SINGLE, WAIT_AT_ZERO, ZERO};
+use sg_described::{AnswerShape, Description, Operand, Relation, RuleShape, Term, Test, Verdict};
+use sg_facts::{Code, Effect, FieldShape, FunShape, Kind, Leaves, Shape};
+
+// ---- locks
+
+static OWNER: [FieldShape; 1] = [FieldShape {
+    name: b"owner",
+    text: false,
+}];
+
+pub(crate) const LOCK_ALLOC: FunShape = FunShape {
+    name: b"lock_alloc",
+    kinds: &[],
+    flags: FunShape::CREATION,
+    leaves: Leaves::Own,
+    effects: &[],
+};
+
+pub(crate) const LOCK_TAKE: FunShape = FunShape {
+    name: b"lock_take",
+    kinds: &[Kind::Desc],
+    flags: FunShape::BLOCK,
+    leaves: Leaves::Own,
+    effects: &[(0, Effect::SetCaller)],
+};
+
+pub(crate) const LOCK_RELEASE: FunShape = FunShape {
+    name: b"lock_release",
+    kinds: &[Kind::Desc],
+    flags: FunShape::WAKEUP,
+    leaves: Leaves::Of(1),
+    effects: &[(0, Effect::Clear)],
+};
+
+pub(crate) const LOCK_FREE: FunShape = FunShape {
+    name: b"lock_free",
+    kinds: &[Kind::Desc],
+    flags: FunShape::TERMINAL,
+    leaves: Leaves::Own,
+    effects: &[],
+};
+
+static LOCK_FUNS: [FunShape; 4] = [LOCK_ALLOC, LOCK_TAKE, LOCK_RELEASE, LOCK_FREE];
+
+static LOCK_MOVES: [(u8, u8); 5] = [(1, 2), (1, 4), (2, 2), (2, 3), (2, 4)];
+
+static LOCK_STEPS: [(u8, u8); 1] = [(1, 2)];
+
+/// The facts of locks.
+pub(crate) const LOCK_SHAPE: Shape = Shape {
+    name: b"lock",
+    block: true,
+    fields: &OWNER,
+    funs: &LOCK_FUNS,
+    moves: &LOCK_MOVES,
+    steps: &LOCK_STEPS,
+    ..SINGLE
+};
+
+static TAKE_RULES: [RuleShape; 2] = [
+    RuleShape {
+        tests: &[Test {
+            left: FIELD,
+            relation: Relation::Is,
+            right: CALLER,
+        }],
+        verdict: Verdict::Refuse(Code::Held),
+    },
+    RuleShape {
+        tests: &[Test {
+            left: FIELD,
+            relation: Relation::Above,
+            right: ZERO,
+        }],
+        verdict: Verdict::Wait,
+    },
+];
+
+static RELEASE_RULES: [RuleShape; 1] = [RuleShape {
+    tests: &[Test {
+        left: FIELD,
+        relation: Relation::IsNot,
+        right: CALLER,
+    }],
+    verdict: Verdict::Refuse(Code::NotOwner),
+}];
+
+static FREE_RULES: [RuleShape; 1] = [RuleShape {
+    tests: &[Test {
+        left: FIELD,
+        relation: Relation::Above,
+        right: ZERO,
+    }],
+    verdict: Verdict::Refuse(Code::Held),
+}];
+
+pub(crate) static LOCK_ANSWERS: [AnswerShape; 4] = [
+    DONE,
+    AnswerShape { rules: &TAKE_RULES },
+    AnswerShape {
+        rules: &RELEASE_RULES,
+    },
+    AnswerShape { rules: &FREE_RULES },
+];
+
+/// Locks.
+pub fn lock() -> Description
+    ensures { length (described_of result).facts.funs ≤ most_funs }
+{
+    Description {
+        shape: LOCK_SHAPE,
+        most: &[4294967295],
+        answers: &LOCK_ANSWERS,
+    }
+}
+
+// ---- events
+
+pub(crate) static EVENT_FUNS: [FunShape; 5] = [
+    FunShape {
+        name: b"evt_split",
+        kinds: &[],
+        flags: FunShape::CREATION,
+        leaves: Leaves::Own,
+        effects: &[],
+    },
+    FunShape {
+        name: b"evt_wait",
+        kinds: &[Kind::Desc],
+        flags: FunShape::BLOCK,
+        leaves: Leaves::Same,
+        effects: &[(0, Effect::SubOne)],
+    },
+    FunShape {
+        name: b"evt_trigger",
+        kinds: &[Kind::Desc, Kind::Word],
+        flags: FunShape::WAKEUP,
+        leaves: Leaves::Same,
+        effects: &[(0, Effect::AddArg(0))],
+    },
+    FunShape {
+        name: b"evt_free",
+        kinds: &[Kind::Desc],
+        flags: FunShape::TERMINAL,
+        leaves: Leaves::Own,
+        effects: &[],
+    },
+    FunShape {
+        name: b"evt_take",
+        kinds: &[Kind::Desc, Kind::Word],
+        flags: 0,
+        leaves: Leaves::Same,
+        effects: &[(0, Effect::SubRet)],
+    },
+];
+
+static EVENT_MOVES: [(u8, u8); 4] = [(1, 2), (1, 3), (1, 4), (1, 5)];
+
+static EVENT_STEPS: [(u8, u8); 1] = [(1, 3)];
+
+/// The facts of events.
+pub(crate) const EVENT_SHAPE: Shape = Shape {
+    name: b"event",
+    block: true,
+    funs: &EVENT_FUNS,
+    moves: &EVENT_MOVES,
+    steps: &EVENT_STEPS,
+    ..SINGLE
+};
+
+static WAIT_RULES: [RuleShape; 1] = [WAIT_AT_ZERO];
+
+/// Waits while nothing was triggered.
+pub(crate) const WAITS: AnswerShape = AnswerShape { rules: &WAIT_RULES };
+
+static GIVE_RULES: [RuleShape; 1] = [RuleShape {
+    tests: &[],
+    verdict: Verdict::Give(Term::Least(Operand::Argument(0), Operand::Own(0))),
+}];
+
+/// Gives what there is, up to the argument.
+pub(crate) const GIVES: AnswerShape = AnswerShape { rules: &GIVE_RULES };
+
+static EVENT_ANSWERS: [AnswerShape; 5] = [DONE, WAITS, DONE, DONE, GIVES];
+
+/// Events.
+pub fn event() -> Description
+    ensures { length (described_of result).facts.funs ≤ most_funs }
+{
+    Description {
+        shape: EVENT_SHAPE,
+        most: &[65535],
+        answers: &EVENT_ANSWERS,
+    }
+}
+
+// ---- semaphores
+
+pub(crate) const SEM_MAKE: FunShape = FunShape {
+    name: b"sem_make",
+    kinds: &[Kind::Word],
+    flags: FunShape::CREATION,
+    leaves: Leaves::Own,
+    effects: &[(0, Effect::SetArg(0))],
+};
+
+pub(crate) const SEM_DOWN: FunShape = FunShape {
+    name: b"sem_down",
+    kinds: &[Kind::Desc],
+    flags: FunShape::BLOCK,
+    leaves: Leaves::Same,
+    effects: &[(0, Effect::SubOne)],
+};
+
+pub(crate) const SEM_UP: FunShape = FunShape {
+    name: b"sem_up",
+    kinds: &[Kind::Desc, Kind::Word],
+    flags: FunShape::WAKEUP,
+    leaves: Leaves::Same,
+    effects: &[(0, Effect::AddArg(0))],
+};
+
+pub(crate) const SEM_FREE: FunShape = FunShape {
+    name: b"sem_free",
+    kinds: &[Kind::Desc],
+    flags: FunShape::TERMINAL,
+    leaves: Leaves::Own,
+    effects: &[],
+};
+
+static SEM_FUNS: [FunShape; 4] = [SEM_MAKE, SEM_DOWN, SEM_UP, SEM_FREE];
+
+static SEM_MOVES: [(u8, u8); 3] = [(1, 2), (1, 3), (1, 4)];
+
+/// The facts of semaphores.
+pub(crate) const SEM_SHAPE: Shape = Shape {
+    name: b"semaphore",
+    block: true,
+    funs: &SEM_FUNS,
+    moves: &SEM_MOVES,
+    ..SINGLE
+};
+
+pub(crate) static SEM_ANSWERS: [AnswerShape; 4] = [DONE, WAITS, DONE, DONE];
+
+/// Semaphores.
+pub fn semaphore() -> Description
+    ensures { length (described_of result).facts.funs ≤ most_funs }
+{
+    Description {
+        shape: SEM_SHAPE,
+        most: &[65535],
+        answers: &SEM_ANSWERS,
+    }
+}
