@@ -4,7 +4,7 @@ ghost use Rattle.std.specs.List.{flat_map};
 ghost use Rattle.sg_facts.specs.Facts.{facts_of};
 ghost use Rattle.sg_own.specs.sg_check_statements.Shapes.{are_shapes};
 ghost use Rattle.sg_own.specs.Faults.{IsOwnAccepted};
-ghost use Rattle.sg_own.specs.Inside.Answers.{IsToldFault};
+ghost use Rattle.sg_own.specs.OwnErrors.{IsToldFault};
 ghost use Rattle.sg_judge.specs.Said.{IsOwnText};
 ghost use Rattle.sg_explain.specs.sg_input.sg_print.sg_parse.declared.tree.Tree.{Tree as Sentence};
 ghost use Rattle.sg_judge.specs.OwnExplained.{ExplainsOwn, ExplainsOwnFault, IsExplainedAny, IsOwnExplained, IsOwnInput};

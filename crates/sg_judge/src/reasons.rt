@@ -3,7 +3,7 @@ ghost use Rattle.std.specs.Prelude.{◌≡◌, ◌++◌, OnOk, IfOk, IfErr};
 ghost use Rattle.std.specs.List.{flat_map};
 ghost use Rattle.sg_facts.specs.Facts.{Facts, facts_of};
 ghost use Rattle.sg_own.specs.Faults.{IsDescription};
-ghost use Rattle.sg_own.specs.Inside.Answers.{IsToldFault};
+ghost use Rattle.sg_own.specs.OwnErrors.{IsToldFault};
 ghost use Rattle.sg_own.specs.sg_shape.Faults.{HasNoShapeFlaw};
 ghost use Rattle.sg_own.specs.sg_shape.ShapeOfText.{shape_of_text};
 ghost use Rattle.sg_own.specs.sg_check_statements.Shapes.{is_shape};

@@ -1,5 +1,5 @@
 pub mod Faults
-pub mod Inside
+pub mod OwnErrors
 pub mod SafePlaces
 pub use Rattle.sg_describe.specs as sg_describe
 pub use Rattle.sg_describe.specs.sg_described as sg_described

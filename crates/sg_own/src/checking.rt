@@ -12,7 +12,7 @@ ghost use Rattle.sg_describe.specs.DescribedText.{described_of_text};
 ghost use Rattle.sg_own.specs.declared.fault.OwnError.TheVariants.{Fault};
 ghost use Rattle.sg_safe.specs.Reasons.{IsReason, unsafe_in};
 ghost use Rattle.sg_own.specs.Faults.{IsDescription, IsOwnAccepted, external_in, external_place, itself};
-ghost use Rattle.sg_own.specs.Inside.Answers.{IsOwnError};
+ghost use Rattle.sg_own.specs.OwnErrors.{IsOwnError};
 
 use crate::fault::{OwnError, OwnFault, OwnKind};
 use crate::places::{kind_of, reason_place};

@@ -1,4 +1,4 @@
--- What is answered of a text.
+-- What an error tells of a text that describes a service of its own.
 use Rattle.std.specs.Prelude.{ℕ, ◌≡◌, Some}
 use Rattle.sg_check.specs.sg_check_statements.sg_parse.declared.tree.Tree.{Tree}
 use Rattle.sg_describe.specs.DescribedText.{described_of_text}
