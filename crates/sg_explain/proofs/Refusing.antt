@@ -1,13 +1,13 @@
 -- Why a text is refused, by the fault that it has.
-use Rattle.std.proofs.Common.{◌≡◌, ℕ, List, [], ◌++◌, Ok, Err, refl, sym, ◌∙◌, ap, subst, append-nil, append_assoc}
-use Rattle.std.specs.Prelude.{codes, IfOk, OnOk}
+use Rattle.std.proofs.Common.{◌≡◌, ℕ, Bool, true, false, List, [], ◌++◌, None, Some, Ok, Err, refl, sym, ◌∙◌, ap, subst, append-nil, append_assoc}
+use Rattle.std.specs.Prelude.{codes, if◌then◌else◌, IfOk, OnOk}
 use Rattle.std.specs.declared.result.Result.{Result}
 use Rattle.sg_facts.specs.Facts.{Facts}
 use Rattle.sg_input.specs.sg_check_statements.Faults.{IsFault}
 use Rattle.sg_input.specs.sg_check_statements.declared.fault.CheckKind.{CheckKind}
 use Rattle.sg_input.specs.sg_check_statements.declared.fault.CheckKind.TheVariants.{UnknownService, DuplicateName, UnknownFunction, BadParams, WrongFact, WrongFlag, WrongEffect, ForeignTransition, ForeignRecover, NoCreation, Unreached, NoWalk}
 use Rattle.sg_input.specs.Lines.{refused_line}
-use Rattle.sg_input.specs.Verdicts.{IsRefused, refusal_name}
+use Rattle.sg_input.specs.Verdicts.{IsRefused, is_own, refusal_name, services_for}
 use Rattle.sg_input.specs.declared.refusal.RefusalKind.{RefusalKind}
 use Rattle.sg_input.specs.declared.refusal.RefusalKind.TheVariants.{Check}
 use Rattle.sg_input.specs.sg_parse.Grammar.Parses.{Parses}
@@ -49,11 +49,19 @@ module _ (services : List Facts) (text : List ℕ) where
 
   -- a state without a walk, of which a line is told besides
   pub tells_stuck : {X E : Type 0} (r : Result X E) (tree : Tree) (kind : CheckKind) (at : ℕ) (words : Sentences) (old middle new : List ℕ) → kind ≡ NoWalk → words ≡ refusal_words (Check kind)
-      → Parses text (Ok tree) → IsFault services tree kind at → middle ≡ old ++ why_at text at words
+      → Parses text (Ok tree) → IsFault (services_for services tree) tree kind at → middle ≡ old ++ why_at text at words
       → OnOk r ((line : List ℕ) × IsStuckLine services tree at line × (new ≡ middle ++ line)) → OnOk r (TellsReason services text old new)
   tells_stuck (Ok x) tree kind at words old middle new is same parses fault said (line, stuck, add) =
       tells (Check kind) at words old middle new line same (tree, parses, fault) (subst (λ k. IsMore services text (Check k) at line) (sym is) (tree, parses, stuck)) said add
   tells_stuck (Err e) tree kind at words old middle new is same parses fault said add = tt
+
+-- a state without a walk is one of a service that there is
+pub of_service : (services : List Facts) (tree : Tree) (at : ℕ) → IsFault (services_for services tree) tree NoWalk at → IsFault services tree NoWalk at
+of_service services tree at fault = by (is_own tree) fault
+  where
+    by : (own : Bool) → IsFault (if own then [] else services) tree NoWalk at → IsFault services tree NoWalk at
+    by true none = let wrong : None ≡ Some none.here.0 = none.here.1 in absurd (cc wrong)
+    by false found = found
 
 -- the line of a kind and a place, with the sentences of that kind
 pub tells_at : {E : Type 0} (text : List ℕ) (r : Result (List ℕ) E) (kind : RefusalKind) (at : ℕ) → ((services : List Facts) → IsRefused services text kind at)

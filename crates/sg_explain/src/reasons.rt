@@ -4,7 +4,7 @@ ghost use Rattle.sg_facts.specs.Facts.{Facts, facts_of};
 ghost use Rattle.sg_input.specs.sg_check.Shapes.{are_shapes};
 ghost use Rattle.sg_input.specs.sg_check_statements.Faults.{IsFault};
 ghost use Rattle.sg_input.specs.Lines.{refused_line};
-ghost use Rattle.sg_input.specs.Verdicts.{refusal_name};
+ghost use Rattle.sg_input.specs.Verdicts.{refusal_name, services_for};
 ghost use Rattle.sg_input.specs.sg_parse.Grammar.Parses.{Parses};
 ghost use Rattle.sg_explain.specs.Explained.{why_at};
 ghost use Rattle.sg_explain.specs.Words.{refusal_words};
@@ -92,7 +92,7 @@ fn told_unaccepted(
 ) -> Result<Bytes, NoMemory>
     requires shapes { are_shapes (map facts_of shapes.now) ≡ true }
     requires sentence { Parses text.now (Ok tree.now) }
-    requires fault { IsFault (map facts_of shapes.now) tree.now fault.kind fault.at }
+    requires fault { IsFault (services_for (map facts_of shapes.now) tree.now) tree.now fault.kind fault.at }
     ensures { IfOk result (TellsRefusal (map facts_of shapes.now) text.now) }
 {
     let mut told = refusal_line(alloc, text, RefusalKind::Check(fault.kind), fault.at)?;
@@ -111,7 +111,7 @@ fn put_fault(
 ) -> Result<(), NoMemory>
     requires shapes { are_shapes (map facts_of shapes.now) ≡ true }
     requires sentence { Parses text.now (Ok tree.now) }
-    requires fault { IsFault (map facts_of shapes.now) tree.now fault.kind fault.at }
+    requires fault { IsFault (services_for (map facts_of shapes.now) tree.now) tree.now fault.kind fault.at }
     ensures { OnOk result (TellsReason (map facts_of shapes.now) text.now out.old out.new) }
 {
     put_why(

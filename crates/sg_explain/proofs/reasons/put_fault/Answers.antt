@@ -3,11 +3,15 @@ use Rattle.std.proofs.Common.{map, subst}
 use Rattle.sg_input.specs.sg_check_statements.Faults.{IsFault}
 use Rattle.sg_facts.specs.Facts.{facts_of}
 use Rattle.sg_input.specs.declared.refusal.RefusalKind.TheVariants.{Check}
-use Rattle.sg_explain.proofs.Refusing.{nothing_more, tells_alone, tells_stuck}
+use Rattle.sg_input.specs.Verdicts.{services_for}
+use Rattle.sg_explain.proofs.Refusing.{nothing_more, of_service, tells_alone, tells_stuck}
 use Rattle.sg_explain.proofs.reasons.put_fault.Goals as goal
 
 pub put_stuck-requires-clause-fault : goal.put_stuck-requires-clause-fault
-put_stuck-requires-clause-fault c = subst (λ k. IsFault (map facts_of c.args.shapes.now) c.args.tree.now k c.args.fault.at) c.in-NoWalk.is c.requires.fault
+put_stuck-requires-clause-fault c =
+    let services = map facts_of c.args.shapes.now in
+    of_service services c.args.tree.now c.args.fault.at
+    (subst (λ k. IsFault (services_for services c.args.tree.now) c.args.tree.now k c.args.fault.at) c.in-NoWalk.is c.requires.fault)
 
 pub returns-in-NoWalk : goal.returns-in-NoWalk
 returns-in-NoWalk c =
