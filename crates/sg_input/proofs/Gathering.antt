@@ -13,6 +13,7 @@ use Rattle.sg_input.specs.MultiInputs.{AreMembers, IsNoMember, has_service, memb
 use Rattle.sg_input.specs.Verdicts.{refusal_name}
 use Rattle.sg_input.specs.Inside.Members.{AreFitMembers, IsFitMember}
 use Rattle.sg_input.proofs.Apart.{Differ, apart_more, apart_there, few_apart, found_any, found_name}
+use Rattle.sg_input.proofs.Among.{among}
 use Rattle.sg_input.proofs.OneInput.{not_refused, one_interface, one_tree}
 use Rattle.sg_input.proofs.OneVerdict.{one_refusal}
 
@@ -49,8 +50,9 @@ members_more services texts k members new i within are one none is =
 its_service : (services : List Facts) (text : List ℕ) (i : Declared) → IsInterface services text i → list_any (λ s. bytes_eq s.name i.facts.name) services ≡ true
 its_service services text i (tree, parses, is) =
     let own : i.facts ≡ is.facts = ap (λ (j : Declared). j.facts) is.declared in
-    let name : i.facts.name ≡ tree.facts.service.bytes = ap (λ (f : Facts). f.name) own ∙ found_name services tree.facts.service.bytes is.facts is.service in
-    ap (λ n. list_any (λ s. bytes_eq s.name n) services) name ∙ found_any services tree.facts.service.bytes is.facts is.service
+    let found = among services tree tree.facts.service.bytes is.facts is.service in
+    let name : i.facts.name ≡ tree.facts.service.bytes = ap (λ (f : Facts). f.name) own ∙ found_name services tree.facts.service.bytes is.facts found in
+    ap (λ n. list_any (λ s. bytes_eq s.name n) services) name ∙ found_any services tree.facts.service.bytes is.facts found
 
 service_at : (services : List Facts) (texts : List (List ℕ)) (members : List Declared) → AllZip (IsInterface services) texts members → (k : ℕ) (d : Declared) → k < length members
     → list_any (λ s. bytes_eq s.name (slice_index_or members k d).facts.name) services ≡ true

@@ -1,3 +1,4 @@
+pub mod Among
 pub mod Apart
 pub mod Cuts
 pub mod Dividers

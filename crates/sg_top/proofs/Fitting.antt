@@ -8,6 +8,7 @@ use Rattle.sg_facts.specs.Facts.{Facts}
 use Rattle.sg_facts.specs.Interface.{Declared}
 use Rattle.sg_input.specs.declared.read.Read.{Read}
 use Rattle.sg_input.specs.declared.read.Read.TheVariants.{Ready}
+use Rattle.sg_input.proofs.Among.{among}
 use Rattle.sg_input.specs.Inputs.{IsInputOf, IsInterface, IsReady}
 use Rattle.sg_load.specs.sg_plain.Playing.Playable.{IsPlayable}
 use Rattle.sg_input.specs.sg_script.declared.script.Script.{Script}
@@ -38,7 +39,7 @@ ready_for bytes facts made i j script known is same all =
 
 pub interface_service : (text : List ℕ) (i : Declared) → IsInterface services text i → IsPlayed i.facts
 interface_service text i (tree, parses, accepted) =
-    subst IsPlayed (sym (ap (λ v. v.facts) accepted.declared)) (found tree.facts.service.bytes accepted.facts services accepted.service)
+    subst IsPlayed (sym (ap (λ v. v.facts) accepted.declared)) (found tree.facts.service.bytes accepted.facts services (among services tree tree.facts.service.bytes accepted.facts accepted.service))
 
 pub ready_service : (bytes : List ℕ) (i : Declared) (script : Script) → IsReady services bytes i script → IsPlayed i.facts
 ready_service bytes i script ready = interface_service ready.interface i ready.accepted
