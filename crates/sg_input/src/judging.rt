@@ -123,11 +123,18 @@ fn upgrade_tree(
     }
 }
 
-// The same tree of version 2.
+// The version whose texts are upgraded, and the next.
+const FIRST: u8 = 1;
+
+const SECOND: u8 = 2;
+
+// A tree of version 1 as one of version 2, and any other as it is.
 fn upgraded_tree(mut tree: Tree<'_>) -> Tree<'_>
     ensures { result ≡ upgraded tree.entry }
 {
-    tree.facts.version = 2;
+    if tree.facts.version == FIRST {
+        tree.facts.version = SECOND;
+    }
     tree
 }
 
