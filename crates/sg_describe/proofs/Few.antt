@@ -1,8 +1,9 @@
 -- The shape of a text with which nothing is wrong by itself has few functions, fields and parameters.
-use Rattle.std.proofs.Common.{◌≡◌, ℕ, zero, suc, ◌+◌, ◌-◌, ◌<◌, ◌≤◌, List, [], ◌∷◌, map, drop, length, Some, refl, sym, ◌∙◌, ap, subst, arith}
-use Rattle.std.specs.Prelude.{All, slice_get}
-use Rattle.std.proofs.lemmas.List.{length-map, length-drop}
-use Rattle.sg_facts.specs.Facts.{Facts}
+use Rattle.std.proofs.Common.{◌≡◌, ◌≤◌, List, [], ◌∷◌, map, drop, length, get_or, refl, sym, ◌∙◌, ap, subst, arith}
+use Rattle.std.specs.Prelude.{All}
+use Rattle.std.proofs.lemmas.List.{length-map}
+use Rattle.std.proofs.lemmas.Option.{slice_get-get_or}
+use Rattle.sg_facts.specs.Facts.{Facts, Fun}
 use Rattle.sg_facts.specs.Limits.{most_fields, most_funs}
 use Rattle.sg_check_statements.specs.sg_parse.declared.tree.Param.{Param}
 use Rattle.sg_check_statements.specs.sg_parse.declared.tree.Statement.{Statement}
@@ -14,6 +15,7 @@ use Rattle.sg_shape.specs.Prototypes.{Prototype, protos_of}
 use Rattle.sg_shape.specs.ShapeOfText.{function_of, kind_of, shape_of_text}
 use Rattle.sg_shape.proofs.Flawless.{few_fields, few_params, few_protos, own_funs}
 use Rattle.sg_describe.specs.Inside.Parts.{HasFewNames, HasFewParams}
+use Rattle.sg_describe.proofs.Finding.{mapped_at}
 
 own_fields : (tree : Tree) → (shape_of_text tree).fields ≡ map field_at (first_uses (uses_of tree.statements))
 unfolding shape_of_text
@@ -27,16 +29,17 @@ few_names tree facts is sound =
     let fields : length (shape_of_text tree).fields ≡ length us = ap length (own_fields tree) ∙ length-map us field_at in
     subst HasFewNames (sym is) (record { funs = omega (arith, funs, few_protos tree (sound Limit)); fields = omega (arith, fields, few_fields tree (sound Limit)) })
 
-all_few : (statements : List Statement) (protos : List Prototype) → ((k : ℕ) (p : Prototype) → slice_get protos k ≡ Some p → length p.params ≤ 256) → All HasFewParams (map (function_of statements) protos)
-all_few statements [] each = tt
-all_few statements (p ∷ protos) each =
-    (few_kinds p.params (each 0 p refl), all_few statements protos (λ k q at. each (suc k) q at))
-  where
-    few_kinds : (params : List Param) → length params ≤ 256 → length (map kind_of (drop 1 params)) ≤ 255
-    few_kinds [] few = omega arith
-    few_kinds (p ∷ params) few = let same = length-map params kind_of in omega (arith, same, few)
+few_of : (params : List Param) → length params ≤ 256 → length (map kind_of (drop 1 params)) ≤ 255
+few_of [] few = omega arith
+few_of (p ∷ params) few = let same = length-map params kind_of in omega (arith, same, few)
 
 pub few_kinds : (tree : Tree) (facts : Facts) → facts ≡ shape_of_text tree → HasNoShapeFlaw tree → All HasFewParams facts.funs
-few_kinds tree facts is sound =
-    subst (All HasFewParams) (sym (ap (λ f. f.funs) is ∙ own_funs tree sound))
-    (all_few tree.statements (protos_of tree.statements) (few_params tree (sound Limit)))
+few_kinds tree facts is sound = subst (All HasFewParams) (sym (ap (λ (f : Facts). f.funs) is ∙ own_funs tree sound)) each
+  where
+    abbrev funs : List Fun
+    funs = map (function_of tree.statements) (protos_of tree.statements)
+
+    each : All HasFewParams funs
+    each = λ k d within.
+        let p = mapped_at (function_of tree.statements) (protos_of tree.statements) k (get_or funs k d) (slice_get-get_or funs k d within) in
+        subst HasFewParams p.2 (few_of p.0.params (few_params tree (sound Limit) k p.0 p.1))

@@ -1,5 +1,5 @@
 -- What it means that nothing is found in a list.
-use Rattle.std.proofs.Common.{◌≡◌, ℕ, zero, suc, ◌+◌, ◌<◌, ◌≤◌, Bool, true, false, cond, ◌&&◌, ◌||◌, not, List, [], ◌∷◌, ◌++◌, map, length, get_or, take, drop, None, Some, refl, sym, ◌∙◌, ap, subst, arith}
+use Rattle.std.proofs.Common.{◌≡◌, ℕ, zero, suc, ◌+◌, ◌<◌, ◌≤◌, Bool, true, false, cond, ◌&&◌, ◌||◌, not, List, [], ◌∷◌, ◌++◌, map, length, None, Some, refl, sym, ◌∙◌, ap, subst, arith}
 use Rattle.std.specs.Prelude.{if◌then◌else◌, slice_get}
 use Rattle.std.specs.Bool.{then_some}
 use Rattle.std.specs.declared.option.Option.{Option}
@@ -54,6 +54,8 @@ all_from_each p n (x ∷ xs) each =
     and_from (p n x) (all_from p (suc n) xs) (ap (λ m. p m x) (sym first) ∙ each 0 x refl)
     (all_from_each p (suc n) xs (λ k y at. let next : suc n + k ≡ n + suc k = omega arith in ap (λ m. p m y) next ∙ each (suc k) y at))
 
--- nothing is found after one element more in which nothing is
-pub nothing_more : {A B : Type 0} (h : A → Option B) (xs : List A) (x : A) (xs' : List A) → xs' ≡ x ∷ xs → h x ≡ None → first_in h xs ≡ None → first_in h xs' ≡ None
-nothing_more h xs x xs' is none rest = ap (first_in h) is ∙ ap (λ o. slice_get (cons_option o (filter_map h xs)) 0) none ∙ rest
+-- what a mapped list has at a place is of what the list has there
+pub mapped_at : {A B : Type 0} (f : A → B) (xs : List A) (k : ℕ) (y : B) → slice_get (map f xs) k ≡ Some y → (x : A) × (slice_get xs k ≡ Some x) × (f x ≡ y)
+mapped_at f [] k y at = absurd (cc at)
+mapped_at f (x ∷ xs) zero y at = let same : f x ≡ y = cc at in (x, refl, same)
+mapped_at f (x ∷ xs) (suc k) y at = mapped_at f xs k y at

@@ -4,7 +4,7 @@ use Rattle.std.specs.Prelude.{if◌then◌else◌, nat_le, nat_lt, slice_get, un
 use Rattle.std.specs.Bool.{then_some}
 use Rattle.std.specs.declared.option.Option.{Option}
 use Rattle.std.specs.List.{cons_option, filter_map, list_all, list_any}
-use Rattle.std.specs.Option.{option_and_then, option_map_or, option_or}
+use Rattle.std.specs.Option.{option_and_then, option_map, option_map_or, option_or}
 use Rattle.std.specs.Str.{bytes_eq}
 use Rattle.std.proofs.lemmas.Bool.{and_from, and_parts, eq-eqb, le-leb, leb-true, or_parts}
 use Rattle.std.proofs.lemmas.List.{length-map}
@@ -39,7 +39,7 @@ use Rattle.sg_describe.specs.AnswerFaults.{HasNoAnswerFlaw, flaw_of}
 use Rattle.sg_describe.specs.AnswerFlaws.{fun_flaw, funs_flaw, gives_always, head_flaw, is_flawed, is_later_word, lacks_word, not_yet_in, repeat_place, replays_text, rule_flaw, statement_flaw, text_param}
 use Rattle.sg_describe.specs.DescribedText.{answer_of, described_of_text, described_with, most_of, most_unsaid, rule_of}
 use Rattle.sg_describe.specs.Said.{first_in, most_said, proto_in, proto_place, rules_said}
-use Rattle.sg_describe.proofs.Finding.{all_from_each, neither, no_it, none_in, not_held, not_it, not_told}
+use Rattle.sg_describe.proofs.Finding.{all_from_each, mapped_at, neither, no_it, none_in, not_held, not_it, not_told}
 use Rattle.sg_describe.proofs.PlainFields.{fields_plain, numbered_within}
 use Rattle.sg_describe.proofs.PlainRules.{rules_give, rules_plain}
 
@@ -140,13 +140,8 @@ module _ (tree : Tree) (sound : HasNoShapeFlaw tree) (none : HasNoAnswerFlaw tre
   fun_parts kind k f at = neither (proto_flaw kind (1 + k) f) (first_in (rule_flaw kind facts f) (rules_said f.name ss)) (fun_none kind 1 facts.funs (parts kind).2 k f at)
 
   -- the prototype of a function
-  proto_at : (protos : List Prototype) (k : ℕ) (f : Fun) → slice_get (map (function_of ss) protos) k ≡ Some f → (p : Prototype) × (slice_get protos k ≡ Some p) × (function_of ss p ≡ f)
-  proto_at [] k f at = absurd (cc at)
-  proto_at (p ∷ protos) zero f at = let same : function_of ss p ≡ f = cc at in (p, refl, same)
-  proto_at (p ∷ protos) (suc k) f at = proto_at protos k f at
-
   of_proto : (k : ℕ) (f : Fun) → slice_get facts.funs k ≡ Some f → (p : Prototype) × (slice_get (protos_of ss) k ≡ Some p) × (function_of ss p ≡ f)
-  of_proto k f at = proto_at (protos_of ss) k f (ap (λ funs. slice_get funs k) (sym (own_funs tree sound)) ∙ at)
+  of_proto k f at = mapped_at (function_of ss) (protos_of ss) k f (ap (λ funs. slice_get funs k) (sym (own_funs tree sound)) ∙ at)
 
   placed : (k : ℕ) (f : Fun) → slice_get facts.funs k ≡ Some f → proto_place f.name ss ≡ None → ⊥
   placed k f at absent =
@@ -190,7 +185,7 @@ module _ (tree : Tree) (sound : HasNoShapeFlaw tree) (none : HasNoAnswerFlaw tre
   -- ---- so are its rules
 
   own_rules : (k : ℕ) (f : Fun) → slice_get facts.funs k ≡ Some f → rules_at d (1 + k) ≡ answer_of facts ss f
-  own_rules k f at = ap (λ o. unwrap_or o []) (slice_get-map (answer_of facts ss) facts.funs k f at)
+  own_rules k f at = ap (λ o. unwrap_or o []) (slice_get-map (answer_of facts ss) facts.funs k ∙ ap (option_map (answer_of facts ss)) at)
 
   has_word : (wants gives answers : Bool) → (gives ≡ true → answers ≡ true) → (wants && not gives) ≡ false → implies wants answers ≡ true
   has_word true gives answers more is = more (no_it gives is)
