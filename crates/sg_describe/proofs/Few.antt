@@ -36,7 +36,7 @@ few_of (p ∷ params) few = let same = length-map params kind_of in omega (arith
 pub few_kinds : (tree : Tree) (facts : Facts) → facts ≡ shape_of_text tree → HasNoShapeFlaw tree → All HasFewParams facts.funs
 few_kinds tree facts is sound = subst (All HasFewParams) (sym (ap (λ (f : Facts). f.funs) is ∙ own_funs tree sound)) each
   where
-    abbrev funs : List Fun
+    funs : List Fun
     funs = map (function_of tree.statements) (protos_of tree.statements)
 
     each : All HasFewParams funs
