@@ -18,9 +18,10 @@ mod types;
 mod words;
 
 pub use laws::{places_are_not_printed, prints_parse_back, upgrades_parse_back};
+pub use rules::{put_rule, put_term, put_tests};
 pub use sg_parse::{
-    Facts, LexFault, Lexer, ParseError, Ret, Rule, Statement, Token, TokenKind, Tree, first_token,
-    parse,
+    Facts, LexFault, Lexer, ParseError, Ret, Rule, Statement, Tests, Token, TokenKind, Tree,
+    first_token, parse,
 };
 pub use statements::print;
 pub use tables::print_tables;

@@ -19,8 +19,8 @@ pub fn put_rules(out: &mut Bytes, rules: &[Rule<'_>]) -> Result<(), NoMemory>
     Ok(())
 }
 
-// Adds a rule.
-fn put_rule(out: &mut Bytes, rule: &Rule<'_>) -> Result<(), NoMemory>
+/// Adds a rule.
+pub fn put_rule(out: &mut Bytes, rule: &Rule<'_>) -> Result<(), NoMemory>
     ensures { OnOk result (out.new ≡ out.old ++ rule_text rule.now) }
 {
     match rule {
@@ -67,8 +67,8 @@ fn put_if(out: &mut Bytes, when: &Tests<'_>) -> Result<(), NoMemory>
     put_tests(out, when)
 }
 
-// Adds tests, and what is asked of the rows.
-fn put_tests(out: &mut Bytes, when: &Tests<'_>) -> Result<(), NoMemory>
+/// Adds tests, and what is asked of the rows.
+pub fn put_tests(out: &mut Bytes, when: &Tests<'_>) -> Result<(), NoMemory>
     ensures { OnOk result (out.new ≡ out.old ++ tests_text when.now) }
 {
     match &when.rows {
@@ -190,8 +190,8 @@ fn put_terms(out: &mut Bytes, terms: &[Term<'_>]) -> Result<(), NoMemory>
     Ok(())
 }
 
-// Adds a number.
-fn put_term(out: &mut Bytes, term: &Term<'_>) -> Result<(), NoMemory>
+/// Adds a number.
+pub fn put_term(out: &mut Bytes, term: &Term<'_>) -> Result<(), NoMemory>
     ensures { OnOk result (out.new ≡ out.old ++ term_text term.now) }
 {
     put_operand(out, &term.first)?;
