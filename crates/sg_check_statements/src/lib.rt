@@ -43,6 +43,9 @@ pub use pairs::has_pair;
 pub use params::{has_word, is_caller};
 pub use protos::{Protos, duplicate_in};
 pub use said::{says, says_of};
-pub use sg_parse::{Facts, Param, Ret, Rule, Spelled, Statement, Tree, TypeName, parse};
+pub use sg_parse::{
+    Facts, Operand, Operator, Param, Relation, Ret, RowTest, Rule, Spelled, Statement, Term, Test,
+    Tree, TypeName, parse,
+};
 pub use stages::{fit_one_by_one, unless};
 pub use unknown::{bare, bare_second};

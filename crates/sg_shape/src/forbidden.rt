@@ -152,8 +152,8 @@ fn carries_arg(effect: Effect, number: usize) -> bool
     }
 }
 
-// The number of parameters that are neither descriptor nor parent.
-fn count_args(kinds: &[Kind]) -> usize
+/// The number of parameters that are neither descriptor nor parent.
+pub fn count_args(kinds: &[Kind]) -> usize
     ensures count { result ≡ count_args kinds.now }
     ensures bound { result ≤ length kinds.now }
 {

@@ -29,6 +29,8 @@ mod shaping;
 mod uses;
 
 pub use fault::{ShapeError, ShapeFault, ShapeFaultKind};
+pub use forbidden::count_args;
+pub use keeping::kept;
 pub use laws::{flawless_shapes, one_verdict, own_texts_fit};
 pub use limits::{MOST_PARAMS, MOST_RULES};
 pub use rules::rule_at;
