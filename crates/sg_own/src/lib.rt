@@ -14,5 +14,6 @@ mod places;
 pub use checking::check_own;
 pub use fault::{OwnError, OwnFault, OwnKind, SafetyKind};
 pub use laws::{accepted_services_keep_laws, one_own_verdict, own_kinds};
-pub use sg_describe::{AnswerFaultKind, ShapeFaultKind};
+pub use sg_check::{CheckError, CheckKind, check};
+pub use sg_describe::{AnswerFaultKind, Bounds, ShapeError, ShapeFaultKind, shape_of};
 pub use sg_safe::{FailingCall, KnownField, Obstacle, Unsafe};
