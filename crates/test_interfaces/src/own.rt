@@ -43,7 +43,7 @@ pub static RWLOCK: &[u8] = b"service_global_info = {\n\
 \x20   resc_has_data = false,\n\
 \x20   desc_recover = demand\n\
 };\n\
-// Many may read at once, or one writes. `rw_owner` is called in replays alone: no transition leads to it.\n\
+// Many may read at once, or one writes. `rw_readers` and `rw_owner` are called in replays alone: no transition leads to them.\n\
 sm_creation(rw_make);\n\
 sm_terminal(rw_free);\n\
 sm_block(rw_read);\n\
@@ -52,6 +52,7 @@ sm_wakeup(rw_unread);\n\
 sm_wakeup(rw_unwrite);\n\
 sm_keep(rw_read);\n\
 sm_keep(rw_unread);\n\
+sm_keep(rw_readers);\n\
 sm_state(rw_unwrite, rw_make);\n\
 sm_state(rw_owner, rw_write);\n\
 sm_transition(rw_make, rw_read);\n\
@@ -61,7 +62,7 @@ sm_transition(rw_make, rw_free);\n\
 sm_transition(rw_write, rw_read);\n\
 sm_transition(rw_write, rw_write);\n\
 sm_transition(rw_write, rw_unwrite);\n\
-sm_recover(rw_make, rw_read);\n\
+sm_recover(rw_make, rw_readers);\n\
 sm_recover(rw_make, rw_owner);\n\
 unsigned long rw_make(spdid_t spdid);\n\
 int rw_read(spdid_t spdid, unsigned long desc(id), unsigned long desc_data_add(readers));\n\
@@ -70,6 +71,7 @@ int rw_unread(spdid_t spdid, unsigned long desc(id));\n\
 desc_data_sub(rw_unread, readers);\n\
 int rw_unwrite(spdid_t spdid, unsigned long desc(id));\n\
 desc_data_clear(rw_unwrite, writer);\n\
+int rw_readers(spdid_t spdid, unsigned long desc(id), unsigned long desc_data(readers));\n\
 int rw_owner(spdid_t desc_data(writer), unsigned long desc(id));\n\
 int rw_free(spdid_t spdid, unsigned long desc(id));\n\
 desc_data_most(readers, 64);\n\
@@ -127,9 +129,6 @@ int ch_fill(spdid_t spdid, unsigned long desc(id), unsigned long desc_data(items
 int ch_close(spdid_t spdid, unsigned long desc(id));\n\
 desc_data_most(room, 1024);\n\
 desc_data_most(items, 1024);\n\
-sm_answer(ch_make) {\n\
-\x20   refuse TooBig if $1 is 0;\n\
-}\n\
 sm_answer(ch_send) {\n\
 \x20   refuse TooBig if $2 is not 1;\n\
 \x20   wait if room is items;\n\
