@@ -58,7 +58,7 @@ pub use run_input::read_run;
 pub use sg_check_statements::{CheckFault, Protos, Statement, Tree, fun_number, says_of};
 pub use sg_entries::History;
 pub use sg_print::{
-    ParseError, Rule, Tests, parse, print, print_tables, put_rule, put_term, put_tests,
+    Lexer, ParseError, Rule, Tests, parse, print_tables, put_rule, put_term, put_tests,
 };
 pub use sg_script::{MultiScript, Script};
 pub use sg_stub::{

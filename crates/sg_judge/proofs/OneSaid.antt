@@ -4,7 +4,6 @@ use Rattle.std.specs.Prelude.{Ok, codes}
 use Rattle.sg_facts.specs.Facts.{Facts}
 use Rattle.sg_facts.specs.Interface.{Declared}
 use Rattle.sg_facts.specs.Tables.{AreTables}
-use Rattle.sg_explain.specs.sg_input.sg_print.Printed.{printed}
 use Rattle.sg_explain.specs.sg_input.sg_print.TablesText.{tables_text}
 use Rattle.sg_explain.specs.sg_input.sg_print.sg_parse.declared.tree.Tree.{Tree}
 use Rattle.sg_explain.proofs.sg_input.OneInput.{one_tree}
@@ -17,7 +16,7 @@ use Rattle.sg_explain.specs.sg_input.declared.read.Read.TheVariants.{Ready, Refu
 use Rattle.sg_own.specs.Faults.{IsOwnAccepted}
 use Rattle.sg_own.proofs.One.{not_both, one_fault, one_interface}
 use Rattle.sg_judge.specs.Names.{own_name}
-use Rattle.sg_judge.specs.Said.{IsChecked, IsOfServices, IsOwnRefusal, IsOwnSaid, IsOwnText, IsRenewed, IsSaid, IsTabled, OwnAccepted, OwnPrinted, OwnTables}
+use Rattle.sg_judge.specs.Said.{IsChecked, IsOfServices, IsOwnRefusal, IsOwnSaid, IsOwnText, IsRenewed, IsSaid, IsTabled, OwnAccepted, OwnTables}
 
 -- what is said where a text is accepted implies that it is, and is one thing
 record IsOneOutput (Accepts : List ℕ → Tree → List ℕ → Type 0) : Type 0 where
@@ -76,12 +75,6 @@ by_tables = record {
       ∙ ap (λ w. tables_text (record { iface = tables'.iface; walks = w })) walks ∙ sym told';
 }
 
-by_print : IsOneOutput OwnPrinted
-by_print = record {
-  accepted = λ text tree output (is, told). is;
-  one = λ text tree one other (is, told) (is', told'). told ∙ sym told';
-}
-
 pub one_checked : (services : List Facts) (text : List ℕ) (one other : Read (List ℕ)) → IsChecked services text one → IsChecked services text other → one ≡ other
 one_checked services text = one_said OwnAccepted by_line _ services text (one_verdict services text)
 
@@ -89,4 +82,7 @@ pub one_tabled : (services : List Facts) (text : List ℕ) (one other : Read (Li
 one_tabled services text = one_said OwnTables by_tables _ services text (one_compiled services text)
 
 pub one_renewed : (services : List Facts) (text : List ℕ) (one other : Read (List ℕ)) → IsRenewed services text one → IsRenewed services text other → one ≡ other
-one_renewed services text = one_said OwnPrinted by_print _ services text (one_upgraded services text)
+one_renewed services text one other (inl a) (inl b) = a.1 ∙ sym b.1
+one_renewed services text one other (inl ((tree, own), is)) (inr (none, other_is)) = absurd (none tree own)
+one_renewed services text one other (inr (none, is)) (inl ((tree, own), other_is)) = absurd (none tree own)
+one_renewed services text one other (inr a) (inr b) = one_upgraded services text one other a.1 b.1

@@ -1,15 +1,16 @@
 -- What is said of the text of an interface, whatever its version.
-use Rattle.std.specs.Prelude.{ℕ, ◌≡◌, ◌⊎◌, true, List, ◌++◌, Ok, codes}
+use Rattle.std.specs.Prelude.{ℕ, ◌≡◌, ◌⊎◌, true, List, ◌++◌, None, Some, Ok, Err, codes, slice_get}
 use Rattle.sg_facts.specs.Facts.{Facts}
 use Rattle.sg_facts.specs.Interface.{Declared}
 use Rattle.sg_facts.specs.Tables.{AreTables, Compiled}
 use Rattle.sg_facts.specs.Words.{line_end}
-use Rattle.sg_explain.specs.sg_input.sg_print.Printed.{printed}
 use Rattle.sg_explain.specs.sg_input.sg_print.TablesText.{tables_text}
 use Rattle.sg_explain.specs.sg_input.sg_print.sg_parse.declared.tree.Tree.{Tree}
 use Rattle.sg_explain.specs.sg_input.sg_print.sg_parse.Grammar.Parses.{Parses}
 use Rattle.sg_explain.specs.sg_input.Lines.{refused_line}
-use Rattle.sg_explain.specs.sg_input.Verdicts.{IsCompiled, IsUpgraded, IsVerdict, is_own}
+use Rattle.sg_explain.specs.sg_input.sg_lex.Tokens.{answers_of}
+use Rattle.sg_explain.specs.sg_input.Verdicts.{IsCompiled, IsUpgraded, IsVerdict, is_own, refusal_name}
+use Rattle.sg_explain.specs.sg_input.declared.refusal.RefusalKind.TheVariants.{Syntax}
 use Rattle.sg_explain.specs.sg_input.declared.read.Read.{Read}
 use Rattle.sg_explain.specs.sg_input.declared.read.Read.TheVariants.{Ready, Refused}
 use Rattle.sg_own.specs.Faults.{IsOwnAccepted, IsOwnFault}
@@ -47,16 +48,19 @@ OwnAccepted text tree line = (i : Declared) × IsOwnAccepted tree i × (line ≡
 abbrev pub OwnTables : List ℕ → Tree → List ℕ → Type 0
 OwnTables text tree output = (tables : Compiled) × IsOwnAccepted tree tables.iface × AreTables tables.iface tables.walks × (output ≡ tables_text tables)
 
--- its canonical text
-abbrev pub OwnPrinted : List ℕ → Tree → List ℕ → Type 0
-OwnPrinted text tree output = ((i : Declared) × IsOwnAccepted tree i) × (output ≡ printed tree)
+-- the place of the number of a text's version: of its sixth token
+abbrev pub version_place : List ℕ → ℕ
+version_place text = elim (slice_get (answers_of text) 5) [ None ↦ 0 | Some answer ↦ elim answer [ Ok token ↦ token.at | Err fault ↦ 0 ] ]
 
--- what `check`, `compile` and `upgrade` say of a text
+-- what `check` and `compile` say of a text
 abbrev pub IsChecked : List Facts → List ℕ → Read (List ℕ) → Type 0
 IsChecked = IsSaid IsVerdict OwnAccepted
 
 abbrev pub IsTabled : List Facts → List ℕ → Read (List ℕ) → Type 0
 IsTabled = IsSaid IsCompiled OwnTables
 
+-- what `upgrade` says of a text: it knows versions 1 and 2, and no text goes on to one of these with the number of another
 abbrev pub IsRenewed : List Facts → List ℕ → Read (List ℕ) → Type 0
-IsRenewed = IsSaid IsUpgraded OwnPrinted
+IsRenewed services text answer =
+    (((tree : Tree) × IsOwnText text tree) × (answer ≡ Refused (refused_line (codes "interface refused at ") text (version_place text) (refusal_name Syntax))))
+    ⊎ (IsOfServices text × IsUpgraded services text answer)

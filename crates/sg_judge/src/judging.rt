@@ -1,12 +1,15 @@
 // What is said of the text of an interface, whatever its version.
-ghost use Rattle.std.specs.Prelude.{◌≡◌, ℕ, Ok, List, MatchOption, map, true, IfOk};
+ghost use Rattle.std.specs.Prelude.{◌≡◌, ℕ, Ok, List, MatchOption, codes, map, true, IfOk};
 ghost use Rattle.std.specs.Result.{MatchResult};
 ghost use Rattle.sg_facts.specs.Facts.{facts_of};
 ghost use Rattle.sg_explain.specs.sg_input.sg_check.Shapes.{are_shapes};
 ghost use Rattle.sg_explain.specs.sg_input.declared.read.Read.{Read as AnyRead};
 ghost use Rattle.sg_own.specs.Faults.{IsOwnAccepted};
 ghost use Rattle.sg_judge.specs.Said.{IsChecked, IsOfServices, IsOwnText, IsRenewed, IsTabled};
-ghost use Rattle.sg_judge.specs.Said.{IsOwnSaid, OwnAccepted, OwnPrinted, OwnTables};
+ghost use Rattle.sg_judge.specs.Said.{IsOwnSaid, OwnAccepted, OwnTables, version_place};
+ghost use Rattle.sg_explain.specs.sg_input.Lines.{refused_line};
+ghost use Rattle.sg_explain.specs.sg_input.Verdicts.{refusal_name};
+ghost use Rattle.sg_explain.specs.sg_input.declared.refusal.RefusalKind.TheVariants.{Syntax};
 ghost use Rattle.sg_judge.specs.Inside.Examined.{IsOwnExamined};
 
 use crate::lines::own_line;
@@ -16,6 +19,9 @@ use sg_explain::{
 use sg_facts::{Bytes, NoMemory, Shape};
 use sg_own::{OwnError, check_own};
 use std::alloc::Global;
+
+// The tokens before the number of a version: `service_global_info = { version =`.
+const BEFORE_VERSION: usize = 5;
 
 /// What `check` says of an interface text. One of version 3 describes a service of its own and is judged by itself; one of version 1 or 2 may be
 /// of one of these shapes. The line `accepted SERVICE` where the text is accepted, and else the line `interface refused at L:C: KIND` with the
@@ -41,8 +47,8 @@ pub fn compiled(alloc: Global, text: &[u8], shapes: &[Shape]) -> Result<Read<Byt
     judge_tables(alloc, text, shapes)
 }
 
-/// What `upgrade` says of an interface text that is accepted: its canonical text, as one of version 2 where it is of version 1; and else the line
-/// that `verdict` refuses it with. The shapes are as for `verdict`. The only error is want of memory.
+/// What `upgrade` says of an interface text: its canonical text as one of version 2, where it is accepted, and else the line that `verdict` refuses
+/// it with. A text of version 3 is none of the languages that it knows: the line has `Syntax` at the number. The shapes are as for `verdict`. The only error is want of memory.
 pub fn upgraded(alloc: Global, text: &[u8], shapes: &[Shape]) -> Result<Read<Bytes>, NoMemory>
     requires { are_shapes (map facts_of shapes.now) ≡ true }
     ensures verdict { IfOk result (IsRenewed (map facts_of shapes.now) text.now) }
@@ -74,13 +80,13 @@ fn judge_tables(alloc: Global, text: &[u8], shapes: &[Shape]) -> Result<Read<Byt
     }
 }
 
-// The canonical text of a text, or the line that refuses the text, for `upgraded`.
+// The text of version 2, or the line that refuses the text, for `upgraded`.
 fn judge_upgrade(alloc: Global, text: &[u8], shapes: &[Shape]) -> Result<Read<Bytes>, NoMemory>
     requires { are_shapes (map facts_of shapes.now) ≡ true }
     ensures { IfOk result (IsRenewed (map facts_of shapes.now) text.now) }
 {
     match own_tree(alloc, text)? {
-        Some(tree) => own_text(alloc, text, &tree),
+        Some(_) => Ok(Read::Refused(unknown_version(alloc, text)?)),
         None => sg_explain::upgraded(alloc, text, shapes),
     }
 }
@@ -124,14 +130,20 @@ fn own_tables(alloc: Global, text: &[u8], tree: &Tree) -> Result<Read<Bytes>, No
     }
 }
 
-// What is said of such a text by its canonical text.
-fn own_text(alloc: Global, text: &[u8], tree: &Tree) -> Result<Read<Bytes>, NoMemory>
-    requires { IsOwnText text.now tree.now }
-    ensures { IfOk result (IsOwnSaid OwnPrinted text.now) }
+// The line that refuses such a text where it is to be upgraded, since it isn't of version 1 or 2.
+fn unknown_version(alloc: Global, text: &[u8]) -> Result<Bytes, NoMemory>
+    ensures { IfOk result (λ line. line ≡ refused_line (codes "interface refused at ") text.now (version_place text.now) (refusal_name Syntax)) }
 {
-    match examined(alloc, text, tree)? {
-        Read::Ready(_) => Ok(Read::Ready(print(alloc, tree)?)),
-        Read::Refused(line) => Ok(Read::Refused(line)),
+    refusal_line(alloc, text, RefusalKind::Syntax, version_place(text))
+}
+
+// The place of the number of a text's version.
+fn version_place(text: &[u8]) -> usize
+    ensures { result ≡ version_place text.now }
+{
+    match Lexer::new(text).nth(BEFORE_VERSION) {
+        Some(Ok(token)) => token.at,
+        _ => 0,
     }
 }
 

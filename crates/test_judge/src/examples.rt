@@ -1,4 +1,4 @@
-// The examples are accepted, and their canonical texts stay as they are.
+// The examples are accepted, and not upgraded.
 use crate::cases::said;
 use sg_judge::{Read, upgraded};
 use std::alloc::Global;
@@ -15,22 +15,20 @@ static EXAMPLES: [(&[u8], &str); 6] = [
     (SOCKETS, "accepted sockets\n"),
 ];
 
-// The canonical text of a text that is accepted.
-fn canonical(alloc: Global, text: &[u8]) -> Result<Vec<u8>, Fail> {
-    match upgraded(alloc, text, &[])? {
-        Read::Ready(printed) => Ok(Vec::from_slice(alloc, printed.as_slice())?),
-        Read::Refused(_) => Err(Fail::new("refused")),
-    }
-}
-
-// A text is accepted with this line, and its canonical text is its own.
+// A text is accepted with this line, and not upgraded.
 fn accepted(rt: &impl Abort, alloc: Global, text: &[u8], line: &str) -> Result<(), Fail> {
     let own = said(alloc, text)?;
     assert_eq!(rt; own.as_str(), line);
-    let printed = canonical(alloc, text)?;
-    let again = canonical(alloc, printed.as_slice())?;
-    assert_eq!(rt; printed, again);
-    Ok(())
+    match upgraded(alloc, text, &[])? {
+        Read::Ready(_) => Err(Fail::new("upgraded")),
+        Read::Refused(refused) => {
+            assert_eq!(rt;
+                refused.as_slice(),
+                b"interface refused at 2:15: Syntax\n".as_slice()
+            );
+            Ok(())
+        }
+    }
 }
 
 #[test]
