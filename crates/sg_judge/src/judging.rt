@@ -14,7 +14,8 @@ ghost use Rattle.sg_judge.specs.Inside.Examined.{IsOwnExamined};
 
 use crate::lines::own_line;
 use sg_explain::{
-    Accepted, ParseError, Read, Tree, accepted_line, compile, is_own, parse, print, print_tables,
+    Accepted, Lexer, ParseError, Read, RefusalKind, Tree, accepted_line, compile, is_own, parse,
+    print_tables, refusal_line,
 };
 use sg_facts::{Bytes, NoMemory, Shape};
 use sg_own::{OwnError, check_own};
