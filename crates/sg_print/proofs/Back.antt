@@ -638,21 +638,25 @@ record PastEnd (version : Version) (eager : Bool) (tokens : List Lexeme) (more :
   left : AreLike behind more
   back : (ps : List Piece) → ArePieces IsPiece behind ps → ArePieces IsPiece tokens (end_by version eager ps)
 
-end_back : (version : Version) (eager : Bool) (more : List Piece) (tokens : List Lexeme) → AreLike tokens (end_by version eager more) → PastEnd version eager tokens more
-end_back v1 eager more tokens l =
+last_back : (more : List Piece) (tokens : List Lexeme) → AreLike tokens (last_pieces more) → Past (close_brace ∷ semicolon ∷ []) tokens more
+last_back more tokens l =
     let b = mark_back 0x7D (semicolon ∷ more) tokens l in
     let e = mark_back 0x3B more b.behind b.left in
     record { behind = e.behind; left = e.left; back = λ ps h. b.back (semicolon ∷ ps) (e.back ps h) }
-end_back v2 eager more tokens l =
+
+recovery_back : (eager : Bool) (more : List Piece) (tokens : List Lexeme) → AreLike tokens (recovery_pieces eager more) → PastEnd v2 eager tokens more
+recovery_back eager more tokens l =
     let c = mark_back 0x2C (word (codes "desc_recover") ∷ equals ∷ word (recovery_word eager) ∷ last_pieces more) tokens l in
     let w = word_back (codes "desc_recover") (equals ∷ word (recovery_word eager) ∷ last_pieces more) c.behind c.left in
     let q = mark_back 0x3D (word (recovery_word eager) ∷ last_pieces more) w.behind w.left in
     let v = word_back (recovery_word eager) (last_pieces more) q.behind q.left in
-    let e = end_back v1 eager more v.behind v.left in
+    let e = last_back more v.behind v.left in
     record { behind = e.behind; left = e.left; back = λ ps h. c.back _ (w.back _ (q.back _ (v.back _ (e.back ps h)))) }
-end_back v3 eager more tokens l =
-    let e = end_back v2 eager more tokens l in
-    record { behind = e.behind; left = e.left; back = e.back }
+
+end_back : (version : Version) (eager : Bool) (more : List Piece) (tokens : List Lexeme) → AreLike tokens (end_by version eager more) → PastEnd version eager tokens more
+end_back v1 eager more tokens l = let e = last_back more tokens l in record { behind = e.behind; left = e.left; back = e.back }
+end_back v2 eager more tokens l = recovery_back eager more tokens l
+end_back v3 eager more tokens l = let e = recovery_back eager more tokens l in record { behind = e.behind; left = e.left; back = e.back }
 
 -- ---- trees
 

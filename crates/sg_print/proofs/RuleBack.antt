@@ -87,7 +87,7 @@ number_back n more (t ∷ ts) l = record {
 then_back : {X Y : Type 0} {p : X → List RulePiece} {q : Y → List RulePiece} {f : X → X} {g : Y → Y} {Good : X → Type 0} {Fine : Y → Type 0} (x : X) (y : Y)
     → Reads p f Good x → Reads q g Fine y
     → Reads (λ (both : X × Y). p both.0 ++ q both.1) (λ both. (f both.0, g both.1)) (λ both. Good both.0 × Fine both.1) (x, y)
-then_back {p = p} {q = q} {f = f} {g = g} x y first second more tokens l =
+then_back {X = X} {Y = Y} {p = p} {q = q} {f = f} {g = g} x y first second more tokens l =
     let r = first (q y ++ more) tokens (subst (AreRuleLike tokens) (append_assoc (p x) (q y) more) l) in
     let s = second more r.behind r.left in
     record {

@@ -332,18 +332,18 @@ as_version tree n = record { facts = record tree.facts { version = n }; statemen
 pub printed_leads : (tree : Tree) → IsWellFormed tree → AreProper v1 (tree_pieces tree) → Leads v1 (printed tree) (tree_pieces tree)
 printed_leads tree ok h = by ok.0
   where
-    lead : (version : Version) → AreProper v1 (after_brace version tree.facts (flat_map statement_pieces tree.statements))
-        → Leads v1 (head_text version tree.facts (flat_map statement_text tree.statements))
-        (word (codes "service_global_info") ∷ equals ∷ open_brace ∷ after_brace version tree.facts (flat_map statement_pieces tree.statements))
-    lead version proper = head_lead version tree.facts (flat_map statement_text tree.statements) (flat_map statement_pieces tree.statements) proper (λ are. statements_lead tree.statements ok.1 are)
+    lead : (version : Version) (f : Facts) → AreProper v1 (after_brace version f (flat_map statement_pieces tree.statements))
+        → Leads v1 (head_text version f (flat_map statement_text tree.statements))
+        (word (codes "service_global_info") ∷ equals ∷ open_brace ∷ after_brace version f (flat_map statement_pieces tree.statements))
+    lead version f proper = head_lead version f (flat_map statement_text tree.statements) (flat_map statement_pieces tree.statements) proper (λ are. statements_lead tree.statements ok.1 are)
 
     by : IsHead tree.facts → Leads v1 (printed tree) (tree_pieces tree)
     by (inl first) =
         subst (λ n. AreProper v1 (tree_pieces (as_version tree n)) → Leads v1 (printed (as_version tree n)) (tree_pieces (as_version tree n))) (sym first.0)
-        (λ proper. simp append_assoc (lead v1 proper.1.1.1)) h
+        (λ proper. simp append_assoc (lead v1 (as_version tree 1).facts proper.1.1.1)) h
     by (inr (inl second)) =
         subst (λ n. AreProper v1 (tree_pieces (as_version tree n)) → Leads v1 (printed (as_version tree n)) (tree_pieces (as_version tree n))) (sym second)
-        (λ proper. simp append_assoc (lead v2 proper.1.1.1)) h
+        (λ proper. simp append_assoc (lead v2 (as_version tree 2).facts proper.1.1.1)) h
     by (inr (inr third)) =
         subst (λ n. AreProper v1 (tree_pieces (as_version tree n)) → Leads v1 (printed (as_version tree n)) (tree_pieces (as_version tree n))) (sym third)
-        (λ proper. simp append_assoc (lead v3 proper.1.1.1)) h
+        (λ proper. simp append_assoc (lead v3 (as_version tree 3).facts proper.1.1.1)) h

@@ -222,18 +222,20 @@ word-fits_kept bytes token h = ap (λ k. same_kind k Mark && pointwise nat_eq to
 pub kept-fits_kept : (bytes other : List ℕ) (token : Lexeme) → IsPiece token (kept bytes) → pointwise nat_eq bytes other ≡ false → fits (kept other) token ≡ false
 kept-fits_kept bytes other token h g = mark-fits_mark bytes other token h g
 
+-- digits that are 3 aren't 2
+apart_digits : (digits : List ℕ) → are_digit 0x33 digits ≡ true → are_digit 0x32 digits ≡ false
+apart_digits [] h = absurd (let e : false ≡ true = h in cc)
+apart_digits (d ∷ []) h = ap (λ v. v == 0x32) (eqb-true d 0x33 h)
+apart_digits (d ∷ next ∷ digits) h = by (apart_digits (next ∷ digits)) (d == 0x30) h
+  where
+    by : (are_digit 0x33 (next ∷ digits) ≡ true → are_digit 0x32 (next ∷ digits) ≡ false) → (b : Bool)
+        → (if b then are_digit 0x33 (next ∷ digits) else false) ≡ true → (if b then are_digit 0x32 (next ∷ digits) else false) ≡ false
+    by deeper true h = deeper h
+    by deeper false h = refl
+
 -- the number of another version
 pub third-fits_second : (token : Lexeme) → IsPiece token (version_number Third) → fits (version_number Second) token ≡ false
 third-fits_second token h = ap (λ k. same_kind k Number && are_of Second token.bytes) h.0 ∙ apart_digits token.bytes h.1
-  where
-    apart_digits : (digits : List ℕ) → are_digit 0x33 digits ≡ true → are_digit 0x32 digits ≡ false
-    apart_digits [] h = absurd (let e : false ≡ true = h in cc)
-    apart_digits (d ∷ []) h = ap (λ v. v == 0x32) (eqb-true d 0x33 h)
-    apart_digits (d ∷ next ∷ digits) h = by (d == 0x30) h
-      where
-        by : (b : Bool) → (if b then are_digit 0x33 (next ∷ digits) else false) ≡ true → (if b then are_digit 0x32 (next ∷ digits) else false) ≡ false
-        by true h = apart_digits (next ∷ digits) h
-        by false h = refl
 
 -- tokens that are one piece are of one kind, and have the same bytes or are numbers
 record IsAlike (one other : Lexeme) : Type 0 where
@@ -256,9 +258,9 @@ alike (newer version p) one other h g =
             ∙ kind_back version other.bytes other.kind;
         bytes = inl same;
       }
-      | inr number ↦
-          let its = number_back other number in
-          record { kind = number_back one (s.kind ∙ number) ∙ sym its; bytes = inr its }
+      | inr digits ↦
+          let its = number_back other digits in
+          record { kind = number_back one (s.kind ∙ digits) ∙ sym its; bytes = inr its }
     ]
   where
     still : (b : Bool) → (if b then turned Number else Number) ≡ Number
@@ -275,7 +277,7 @@ tests_alike p test none one other h g e =
     let s = alike p one other h g in
     elim s.bytes [
       | inl same ↦ ap (λ k. test k other.bytes) (sym s.kind) ∙ ap (test one.kind) (sym same) ∙ e
-      | inr number ↦ ap (λ k. test k other.bytes) number ∙ none other.bytes
+      | inr digits ↦ ap (λ k. test k other.bytes) digits ∙ none other.bytes
     ]
 
 pub alike-has_sort : (sort : Sort) (p : Piece) (one other : Lexeme) → IsPiece one p → IsPiece other p → has_sort sort one ≡ false → has_sort sort other ≡ false

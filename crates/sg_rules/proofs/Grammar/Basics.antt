@@ -3,11 +3,10 @@ use Rattle.std.proofs.Common.{◌≡◌, ℕ, ◌&&◌, Bool, true, false, not, 
 use Rattle.std.specs.Prelude.{None, Some}
 use Rattle.std.specs.declared.option.Option.{Option}
 use Rattle.std.specs.Cmp.Lexicographic.{pointwise, bytes_decides}
-use Rattle.sg_lex.specs.declared.token.TokenKind.{TokenKind}
 use Rattle.sg_lex.specs.declared.token.TokenKind.TheVariants.{Word, Number as number_kind, Mark}
 use Rattle.sg_lex.specs.Lexeme.{Lexeme, Spelling}
 use Rattle.sg_lex.specs.Inside.Marks.{comma_byte, semicolon_byte, dollar_byte, close_brace_byte}
-use Rattle.sg_lex.specs.Inside.Tests.{same_kind, has_kind, is_this_mark, is_fixed}
+use Rattle.sg_lex.specs.Inside.Tests.{same_kind, has_kind, is_this_mark}
 use Rattle.sg_lex.proofs.SameKinds.{kind_is}
 use Rattle.sg_rules.specs.declared.words.Keyword.{Keyword}
 use Rattle.sg_rules.specs.declared.words.Keyword.TheVariants.{Refuse}

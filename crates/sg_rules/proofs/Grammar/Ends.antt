@@ -1,8 +1,8 @@
 -- Each state that has been read can be completed.
-use Rattle.std.proofs.Common.{◌≡◌, ◌≢◌, true, false, if◌then◌else◌, List, [], ◌∷◌, ◌++◌, refl, sym, ap, subst, ◌∙◌, append-nil}
-use Rattle.std.specs.Prelude.{None, Some, codes, not, Bool}
+use Rattle.std.proofs.Common.{◌≡◌, ◌≢◌, true, false, List, [], ◌∷◌, ◌++◌, refl, subst, ◌∙◌, append-nil}
+use Rattle.std.specs.Prelude.{None, Some, codes}
 use Rattle.sg_lex.specs.declared.token.TokenKind.TheVariants.{Word, Number as number_kind}
-use Rattle.sg_lex.specs.Lexeme.{Lexeme, Spelling}
+use Rattle.sg_lex.specs.Lexeme.{Lexeme}
 use Rattle.sg_lex.proofs.Automata.{Runs}
 use Rattle.sg_rules.specs.declared.words.Keyword.TheVariants.{Give as give_word}
 use Rattle.sg_rules.specs.declared.words.Fixed.TheVariants.{Key, Comma, Semicolon}

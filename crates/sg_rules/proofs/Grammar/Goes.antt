@@ -1,15 +1,15 @@
 -- The pieces of rules lead from the state before them to the state after them.
-use Rattle.std.proofs.Common.{◌≡◌, ◌≢◌, ℕ, inl, inr, true, if◌then◌else◌, List, [], ◌∷◌, ◌++◌, refl, sym, ap, subst, append_assoc, append-nil}
+use Rattle.std.proofs.Common.{◌≡◌, ◌≢◌, ℕ, inl, inr, true, if◌then◌else◌, List, [], ◌∷◌, ◌++◌, refl, sym, subst, append_assoc, append-nil}
 use Rattle.std.specs.Prelude.{None, Some, All, Bool, false}
 use Rattle.std.specs.declared.option.Option.{Option}
 use Rattle.std.proofs.lemmas.List.Elements.{All-head, All-tail}
 use Rattle.sg_lex.specs.Lexeme.{Spelling}
 use Rattle.sg_rules.specs.declared.words.Keyword.{Keyword}
-use Rattle.sg_rules.specs.declared.words.Keyword.TheVariants.{If, Is as is_word, Not, Plus as plus_word, Minus as minus_word, Least as least_word, Greatest as greatest_word, Caller as caller_word, State as state_word, Row, Where, Else, First, SomeRow, NoRow}
+use Rattle.sg_rules.specs.declared.words.Keyword.TheVariants.{Not, Plus as plus_word, Minus as minus_word, Least as least_word, Greatest as greatest_word, Caller as caller_word, State as state_word, Row, Where, Else, First, SomeRow, NoRow}
 use Rattle.sg_rules.specs.declared.words.Fixed.{Fixed}
-use Rattle.sg_rules.specs.declared.words.Fixed.TheVariants.{Key, Comma, Semicolon, Dollar}
+use Rattle.sg_rules.specs.declared.words.Fixed.TheVariants.{Key, Comma, Semicolon}
 use Rattle.sg_rules.specs.declared.words.Wanted.{Wanted}
-use Rattle.sg_rules.specs.declared.words.Wanted.TheVariants.{Name as a_name, Number as a_number, Key as a_word}
+use Rattle.sg_rules.specs.declared.words.Wanted.TheVariants.{Key as a_word}
 use Rattle.sg_rules.specs.declared.tree.Operand.{Operand}
 use Rattle.sg_rules.specs.declared.tree.Operand.TheVariants.{Number, Caller, State, Argument, GreatestOf, Named}
 use Rattle.sg_rules.specs.declared.tree.Operator.{Operator}
@@ -27,10 +27,10 @@ use Rattle.sg_rules.specs.declared.tree.Rule.{Rule}
 use Rattle.sg_rules.specs.declared.tree.Rule.TheVariants.{Refuse, Wait, Give, GiveRow, GiveFirst}
 use Rattle.sg_rules.specs.Grammar.Words.{word_of}
 use Rattle.sg_rules.specs.Grammar.Pieces.{RulePiece, fixed, word, word_at, name}
-use Rattle.sg_rules.specs.Grammar.Sentence.{operand_pieces, operator_word, relation_pieces, what_pieces, HasTests, IsRule}
-use Rattle.sg_rules.specs.Grammar.Inside.States.{RuleState, fork, take, termed, picked, tested, ruled, operand, after_first, term, relation, test, what, pick, picks, rows_rest, rows_or, tests_from, tests, if_rest, else_rest, refuse_rest, wait_rest, no_tests, given, row_rest, terms, least_of, first_rest, give_rest, due, want, with_rule}
+use Rattle.sg_rules.specs.Grammar.Sentence.{operand_pieces, relation_pieces, what_pieces, HasTests, IsRule}
+use Rattle.sg_rules.specs.Grammar.Inside.States.{RuleState, fork, take, termed, picked, tested, ruled, operand, after_first, term, relation, test, pick, picks, rows_rest, rows_or, tests_from, tests, if_rest, else_rest, refuse_rest, wait_rest, given, row_rest, terms, least_of, first_rest, give_rest, due, with_rule}
 use Rattle.sg_rules.proofs.Grammar.Basics.{apart, misses, spelt, IsOwn}
-use Rattle.sg_rules.proofs.Grammar.Steps.{Goes, GoesOn, there, onward}
+use Rattle.sg_rules.proofs.Grammar.Steps.{GoesOn, there, onward}
 use Rattle.sg_rules.proofs.Grammar.Thens.{each, each_more, more_then, term_then, test_then, pick_then, rows_then, tests_of, tests_then, if_of, where_then, rule_then, rules_then}
 
 -- the first of these pieces isn't this word or mark

@@ -1,11 +1,11 @@
 -- What has been read by a state: each piece that leads on adds to it.
-use Rattle.std.proofs.Common.{◌≡◌, ◌≢◌, ℕ, inl, inr, Bool, true, false, List, [], ◌∷◌, ◌++◌, refl, sym, ap, subst, ◌∙◌, append_assoc, append-nil}
+use Rattle.std.proofs.Common.{◌≡◌, ◌≢◌, ℕ, inl, inr, Bool, true, false, List, [], ◌∷◌, ◌++◌, refl, sym, subst, ◌∙◌, append_assoc, append-nil}
 use Rattle.std.specs.Prelude.{None, Some, All}
 use Rattle.std.specs.declared.option.Option.{Option}
 use Rattle.std.proofs.lemmas.List.Elements.{All-push}
 use Rattle.sg_lex.specs.Lexeme.{Spelling}
-use Rattle.sg_rules.specs.declared.words.Keyword.TheVariants.{Refuse as refuse_word, Wait as wait_word, Give as give_word, If, Is as is_word, Not, Row, Where, Else, First, SomeRow, NoRow}
-use Rattle.sg_rules.specs.declared.words.Fixed.TheVariants.{Key, Comma, Semicolon, Dollar}
+use Rattle.sg_rules.specs.declared.words.Keyword.TheVariants.{Refuse as refuse_word, Wait as wait_word, Give as give_word, If, Is as is_word, Row, Where, Else, First, SomeRow, NoRow}
+use Rattle.sg_rules.specs.declared.words.Fixed.TheVariants.{Comma, Semicolon}
 use Rattle.sg_rules.specs.declared.tree.Operand.{Operand}
 use Rattle.sg_rules.specs.declared.tree.Operand.TheVariants.{Number, Caller, State, Argument, GreatestOf, Named}
 use Rattle.sg_rules.specs.declared.tree.Operator.{Operator}
@@ -21,9 +21,9 @@ use Rattle.sg_rules.specs.declared.tree.What.{What}
 use Rattle.sg_rules.specs.declared.tree.What.TheVariants.{State as row_state, Field}
 use Rattle.sg_rules.specs.declared.tree.Rule.{Rule}
 use Rattle.sg_rules.specs.declared.tree.Rule.TheVariants.{Refuse, Wait, Give, GiveRow, GiveFirst}
-use Rattle.sg_rules.specs.Grammar.Pieces.{RulePiece, fixed, word, word_at, name, number}
+use Rattle.sg_rules.specs.Grammar.Pieces.{RulePiece, fixed, word, word_at, name}
 use Rattle.sg_rules.specs.Grammar.Sentence.{operand_pieces, operator_word, relation_pieces, what_pieces, HasTests, IsRule}
-use Rattle.sg_rules.specs.Grammar.Inside.States.{RuleState, ended, fork, take, termed, picked, tested, ruled, operand, named_operand, operator_or, after_first, term, relation, test, what, pick, picks, rows_rest, rows_or, tests_from, tests, if_rest, else_rest, refuse_rest, wait_rest, no_tests, given, row_rest, terms, least_of, first_rest, give_rest, due, want, with_rule}
+use Rattle.sg_rules.specs.Grammar.Inside.States.{RuleState, ended, fork, take, termed, picked, tested, ruled, operand, after_first, term, relation, test, pick, picks, rows_rest, rows_or, tests_from, tests, if_rest, else_rest, refuse_rest, wait_rest, no_tests, given, row_rest, terms, least_of, first_rest, give_rest, due, with_rule}
 use Rattle.sg_rules.proofs.Grammar.Basics.{apart, spelt}
 use Rattle.sg_rules.proofs.Grammar.Steps.{Goes, Begins}
 use Rattle.sg_rules.proofs.Grammar.Thens.{each, each_more, term_then, test_then, pick_then, rows_then, tests_of, tests_then, rule_then, rules_then, rules_snoc}

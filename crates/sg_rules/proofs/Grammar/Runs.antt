@@ -13,7 +13,7 @@ use Rattle.sg_rules.specs.Grammar.Pieces.{RulePiece, IsRulePiece}
 use Rattle.sg_rules.specs.Grammar.Sentence.{rule_pieces, IsRule, AreRules}
 use Rattle.sg_rules.specs.Grammar.Inside.States.{RuleState, ended, fork, take, termed, picked, tested, ruled, any_rules, rules_at, rule_reader}
 use Rattle.sg_rules.proofs.Grammar.Basics.{some_is, none_some}
-use Rattle.sg_rules.proofs.Grammar.Steps.{GoesOn, there, onward, Spelt, spelt_from, runs_along}
+use Rattle.sg_rules.proofs.Grammar.Steps.{GoesOn, there, onward, spelt_from, runs_along}
 use Rattle.sg_rules.proofs.Grammar.Thens.{rules_then, rules_are}
 use Rattle.sg_rules.proofs.Grammar.Grown.{HasRead, grown}
 use Rattle.sg_rules.proofs.Grammar.Ends.{CanEnd, can_end}

@@ -1,11 +1,11 @@
 -- One piece, and then others: by what pieces a state goes on, and that tokens lead on as the pieces that they are.
-use Rattle.std.proofs.Common.{◌≡◌, ℕ, ◌⊎◌, inl, inr, true, if◌then◌else◌, List, [], ◌∷◌, ◌++◌, refl, sym, ap, subst, ◌∙◌}
+use Rattle.std.proofs.Common.{◌≡◌, ℕ, ◌⊎◌, inl, inr, true, List, [], ◌∷◌, ◌++◌, refl, sym, ap, subst, ◌∙◌}
 use Rattle.std.specs.Prelude.{None, Some}
 use Rattle.sg_lex.specs.Lexeme.{Lexeme, Spelling}
 use Rattle.sg_lex.specs.Sentences.{ArePieces}
 use Rattle.sg_lex.proofs.Automata.{Runs}
 use Rattle.sg_rules.specs.declared.words.Keyword.TheVariants.{Refuse as refuse_word, Wait as wait_word, Give as give_word}
-use Rattle.sg_rules.specs.declared.words.Fixed.TheVariants.{Key, Comma}
+use Rattle.sg_rules.specs.declared.words.Fixed.TheVariants.{Comma}
 use Rattle.sg_rules.specs.declared.words.Wanted.TheVariants.{Key as a_word}
 use Rattle.sg_rules.specs.declared.tree.Rule.{Rule}
 use Rattle.sg_rules.specs.Grammar.Words.{word_of}

@@ -1,5 +1,5 @@
 -- What each token of a rule has to be.
-use Rattle.std.specs.Prelude.{◌≡◌, ℕ, true, List, codes}
+use Rattle.std.specs.Prelude.{◌≡◌, ℕ, true, codes}
 use Rattle.sg_lex.specs.declared.token.TokenKind.TheVariants.{Word, Number, Mark}
 use Rattle.sg_lex.specs.Lexeme.{Lexeme, Spelling}
 use Rattle.sg_rules.specs.declared.words.Keyword.{Keyword}

@@ -19,8 +19,8 @@ pub returns-in-Third : goal.returns-in-Third
 returns-in-Third c = λ two three.
     let old = c.args.reader.now in
     let mid = c.go_on_as.new.self in
-    let new = c.go_on_as-2.new.self in
+    let new = c.go_on_as-in-Third.new.self in
     ap (λ v. read trees (version_of (in_newer Second two) (in_newer Second (in_newer Third three)) v) old) c.in-Third.is
     ∙ turned_read Second (in_newer Third three) old mid c.go_on_as.ensures.rest c.go_on_as.ensures.end
-    ∙ turned_read Third three mid new c.go_on_as-2.ensures.rest c.go_on_as-2.ensures.end
+    ∙ turned_read Third three mid new c.go_on_as-in-Third.ensures.rest c.go_on_as-in-Third.ensures.end
     ∙ ap (λ v. read trees (version_of two three v) new) (sym c.in-Third.is)

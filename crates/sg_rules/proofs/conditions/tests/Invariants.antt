@@ -1,5 +1,5 @@
 -- The tests so far were read.
-use Rattle.std.proofs.Common.{◌≡◌, ◌≤◌, List, length}
+use Rattle.std.proofs.Common.{◌≡◌, ◌≤◌, length}
 use Rattle.sg_rules.specs.declared.tree.Tests.{Tests}
 use Rattle.sg_rules.specs.Grammar.Inside.States.{RuleState, tests, tests_from, rule_reader}
 use Rattle.sg_rules.specs.Inside.Parts.{part}

@@ -1,8 +1,7 @@
 -- How far rules have been read: an automaton over tokens, whose states carry the rules so far. Nothing public rests on the automaton, which
 -- is proved to read exactly the rules, and says in what steps the parser goes.
-use Rattle.std.specs.Prelude.{ℕ, ◌&&◌, Bool, true, false, if◌then◌else◌, List, [], ◌∷◌, ◌++◌, None, Some, nat_eq}
+use Rattle.std.specs.Prelude.{ℕ, ◌&&◌, Bool, true, false, if◌then◌else◌, List, [], ◌∷◌, ◌++◌, None, Some}
 use Rattle.std.specs.declared.option.Option.{Option}
-use Rattle.std.specs.Cmp.Lexicographic.{pointwise}
 use Rattle.sg_lex.specs.declared.token.TokenKind.TheVariants.{Word, Number as number_kind}
 use Rattle.sg_lex.specs.Lexeme.{Lexeme, Spelling}
 use Rattle.sg_lex.specs.Inside.Automata.{Automaton}
