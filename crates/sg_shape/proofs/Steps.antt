@@ -124,19 +124,19 @@ range_more a (suc n) =
 module _ (named : List (ℕ × ℕ)) where
   -- the pairs with one second number more
   pub row_more : (first second : ℕ) → 1 ≤ second
-      → filter (λ p. has_pair named p.0 p.1) (map (λ b. (first, b)) (range_with_len 1 (second + 1 - 1)))
-      ≡ filter (λ p. has_pair named p.0 p.1) (map (λ b. (first, b)) (range_with_len 1 (second - 1))) ++ cond (has_pair named first second) ((first, second) ∷ []) []
+      → filter (λ (p : ℕ × ℕ). has_pair named p.0 p.1) (map (λ b. (first, b)) (range_with_len 1 (second + 1 - 1)))
+      ≡ filter (λ (p : ℕ × ℕ). has_pair named p.0 p.1) (map (λ b. (first, b)) (range_with_len 1 (second - 1))) ++ cond (has_pair named first second) ((first, second) ∷ []) []
   row_more first second low =
       let up : second + 1 - 1 ≡ second - 1 + 1 = omega (arith, low) in
       let last : 1 + (second - 1) ≡ second = omega (arith, low) in
-      ap (λ n. filter (λ p. has_pair named p.0 p.1) (map (λ b. (first, b)) (range_with_len 1 n))) up
+      ap (λ n. filter (λ (p : ℕ × ℕ). has_pair named p.0 p.1) (map (λ b. (first, b)) (range_with_len 1 n))) up
       ∙ filter_of_map_range_with_len_more (λ (p : ℕ × ℕ). has_pair named p.0 p.1) (λ b. (first, b)) 1 (second - 1) second last
 
   -- and with one first number more
   pub rows_more : (count first : ℕ) → 1 ≤ first
-      → filter (λ p. has_pair named p.0 p.1) (flat_map (λ a. map (λ b. (a, b)) (range_with_len 1 count)) (range_with_len 1 (first + 1 - 1)))
-      ≡ filter (λ p. has_pair named p.0 p.1) (flat_map (λ a. map (λ b. (a, b)) (range_with_len 1 count)) (range_with_len 1 (first - 1)))
-      ++ filter (λ p. has_pair named p.0 p.1) (map (λ b. (first, b)) (range_with_len 1 count))
+      → filter (λ (p : ℕ × ℕ). has_pair named p.0 p.1) (flat_map (λ a. map (λ b. (a, b)) (range_with_len 1 count)) (range_with_len 1 (first + 1 - 1)))
+      ≡ filter (λ (p : ℕ × ℕ). has_pair named p.0 p.1) (flat_map (λ a. map (λ b. (a, b)) (range_with_len 1 count)) (range_with_len 1 (first - 1)))
+      ++ filter (λ (p : ℕ × ℕ). has_pair named p.0 p.1) (map (λ b. (first, b)) (range_with_len 1 count))
   rows_more count zero low = absurd (omega (arith, low))
   rows_more count (suc k) low =
       let test : ℕ × ℕ → Bool = λ p. has_pair named p.0 p.1 in

@@ -1,5 +1,5 @@
 // The pairs of functions that a text names.
-ghost use Rattle.std.specs.Prelude.{◌≡◌, ◌≤◌, ◌++◌, List, filter, length, map, IfOk, OnOk};
+ghost use Rattle.std.specs.Prelude.{◌≡◌, ◌≤◌, ◌++◌, [], ◌∷◌, if◌then◌else◌, List, filter, length, map, IfOk, OnOk};
 ghost use Rattle.std.specs.List.{filter_map, range_with_len};
 ghost use Rattle.sg_facts.specs.Interface.{has_pair};
 ghost use Rattle.sg_facts.specs.Limits.{most_funs};
@@ -96,9 +96,22 @@ fn add_pairs(
         ++ filter (λ p. has_pair named.now p.0 p.1) (map (λ b. (first, b)) (range_with_len 1 count))) }
 {
     'seconds: for second in 1..=count {
-        if has_pair(named, usize::from(first), usize::from(second)) {
-            pairs.push((first, second))?;
-        }
+        add_pair(pairs, named, first, second)?;
+    }
+    Ok(())
+}
+
+// Adds a pair that is among these.
+fn add_pair(
+    pairs: &mut Vec<(u8, u8)>,
+    named: &[(u8, u8)],
+    first: u8,
+    second: u8,
+) -> Result<(), NoMemory>
+    ensures { OnOk result (pairs.new.items ≡ pairs.old.items ++ (if has_pair named.now first second then (first, second) ∷ [] else [])) }
+{
+    if has_pair(named, usize::from(first), usize::from(second)) {
+        pairs.push((first, second))?;
     }
     Ok(())
 }
