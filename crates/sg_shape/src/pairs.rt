@@ -78,8 +78,8 @@ fn in_order(alloc: Global, named: &[(u8, u8)], count: u8) -> Result<&'static [(u
     ensures { IfOk result (λ pairs. pairs.now ≡ in_order named.now count) }
 {
     let mut pairs = Vec::new(alloc);
-    'firsts: for first in 1..=count {
-        add_pairs(&mut pairs, named, first, count)?;
+    'firsts: for before in 0..count {
+        add_pairs(&mut pairs, named, before + 1, count)?;
     }
     Ok(kept(pairs))
 }
@@ -95,8 +95,8 @@ fn add_pairs(
     ensures { OnOk result (pairs.new.items ≡ pairs.old.items
         ++ filter (λ p. has_pair named.now p.0 p.1) (map (λ b. (first, b)) (range_with_len 1 count))) }
 {
-    'seconds: for second in 1..=count {
-        add_pair(pairs, named, first, second)?;
+    'seconds: for before in 0..count {
+        add_pair(pairs, named, first, before + 1)?;
     }
     Ok(())
 }

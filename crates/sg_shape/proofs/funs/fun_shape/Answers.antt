@@ -17,9 +17,9 @@ returns c =
       leaves = c.leaves_of.result;
       effects = c.in_ok-numbered.field-0;
     }
-    (c.in_ok-kept_name.ensures ∙ c.name.ensures)
+    (c.in_ok-kept_name.ensures ∙ c.name-name.ensures)
     (c.in_ok-kinds_of.ensures ∙ ap (map kind_of) (c.later.ensures ∙ ap (drop 1) c.params.ensures))
-    (c.flags_of.ensures ∙ ap (λ n. number_of (flags_said c.args.statements.now n)) c.name.ensures)
-    (c.leaves_of.ensures ∙ ap (leaves_of c.args.statements.now) c.name.ensures)
+    (c.flags_of.ensures ∙ ap (λ n. number_of (flags_said c.args.statements.now n)) c.name-name.ensures)
+    (c.leaves_of.ensures ∙ ap (leaves_of c.args.statements.now) c.name-name.ensures)
     (c.in_ok-numbered.ensures ∙ ap (λ l. numbered 0 l c.as_slice.result.now) c.requires.fields
     ∙ ap (numbered 0 (fields_of_text c.args.statements.now)) (c.as_slice.ensures ∙ c.in_ok-effects.ensures))
