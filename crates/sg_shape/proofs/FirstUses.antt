@@ -110,3 +110,9 @@ module _ (uses : List Use) (i : ℕ) (u : Use) (within : i < length uses) (is : 
   next_one most none many =
       ap (λ n. slice_get (first_uses uses) n) (sym many) ∙ ap (λ l. slice_get l (length (first_uses (take i uses)))) (going_on none)
       ∙ at_split (first_uses (take i uses)) u (filter (is_new (first_uses (take i uses))) (filter (is_of_another u) (first_uses (drop (i + 1) uses))))
+
+-- what a look-up among the first uses tells
+pub had_use : (uses first lent : List Use) (i : ℕ) (u : Use) (name : List ℕ) (b r : Bool) → first ≡ first_uses (take i uses) → lent ≡ first → name ≡ u.name.bytes → r ≡ has_use lent name → r ≡ b
+    → has_use (first_uses (take i uses)) u.name.bytes ≡ b
+had_use uses first lent i u name b r own same named told is =
+    ap (λ l. has_use l u.name.bytes) (sym (same ∙ own)) ∙ ap (has_use lent) (sym named) ∙ sym told ∙ is

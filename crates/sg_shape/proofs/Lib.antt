@@ -12,6 +12,6 @@ pub mod Allowed
 pub mod Declared
 pub mod Goods
 pub mod Fitting
-pub mod Kinds
+pub mod Alike
 pub mod Loops
 pub mod Steps

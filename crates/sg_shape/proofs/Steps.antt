@@ -123,30 +123,23 @@ range_more a (suc n) =
 
 module _ (named : List (ℕ × ℕ)) where
   -- the pairs with one second number more
-  pub row_more : (first second : ℕ) → 1 ≤ second
-      → filter (λ p. has_pair named p.0 p.1) (map (λ b. (first, b)) (range_with_len 1 (second + 1 - 1)))
-      ≡ filter (λ p. has_pair named p.0 p.1) (map (λ b. (first, b)) (range_with_len 1 (second - 1))) ++ cond (has_pair named first second) ((first, second) ∷ []) []
-  row_more first second low =
-      let up : second + 1 - 1 ≡ second - 1 + 1 = omega (arith, low) in
-      let last : 1 + (second - 1) ≡ second = omega (arith, low) in
-      ap (λ n. filter (λ p. has_pair named p.0 p.1) (map (λ b. (first, b)) (range_with_len 1 n))) up
-      ∙ filter_of_map_range_with_len_more (λ (p : ℕ × ℕ). has_pair named p.0 p.1) (λ b. (first, b)) 1 (second - 1) second last
+  pub row_more : (first k : ℕ)
+      → filter (λ (p : ℕ × ℕ). has_pair named p.0 p.1) (map (λ b. (first, b)) (range_with_len 1 (k + 1)))
+      ≡ filter (λ (p : ℕ × ℕ). has_pair named p.0 p.1) (map (λ b. (first, b)) (range_with_len 1 k)) ++ cond (has_pair named first (k + 1)) ((first, k + 1) ∷ []) []
+  row_more first k = filter_of_map_range_with_len_more (λ (p : ℕ × ℕ). has_pair named p.0 p.1) (λ b. (first, b)) 1 k (k + 1) (omega arith)
 
   -- and with one first number more
-  pub rows_more : (count first : ℕ) → 1 ≤ first
-      → filter (λ p. has_pair named p.0 p.1) (flat_map (λ a. map (λ b. (a, b)) (range_with_len 1 count)) (range_with_len 1 (first + 1 - 1)))
-      ≡ filter (λ p. has_pair named p.0 p.1) (flat_map (λ a. map (λ b. (a, b)) (range_with_len 1 count)) (range_with_len 1 (first - 1)))
-      ++ filter (λ p. has_pair named p.0 p.1) (map (λ b. (first, b)) (range_with_len 1 count))
-  rows_more count zero low = absurd (omega (arith, low))
-  rows_more count (suc k) low =
+  pub rows_more : (count k : ℕ)
+      → filter (λ (p : ℕ × ℕ). has_pair named p.0 p.1) (flat_map (λ a. map (λ b. (a, b)) (range_with_len 1 count)) (range_with_len 1 (k + 1)))
+      ≡ filter (λ (p : ℕ × ℕ). has_pair named p.0 p.1) (flat_map (λ a. map (λ b. (a, b)) (range_with_len 1 count)) (range_with_len 1 k))
+      ++ filter (λ (p : ℕ × ℕ). has_pair named p.0 p.1) (map (λ b. (k + 1, b)) (range_with_len 1 count))
+  rows_more count k =
       let test : ℕ × ℕ → Bool = λ p. has_pair named p.0 p.1 in
       let row : ℕ → List (ℕ × ℕ) = λ a. map (λ b. (a, b)) (range_with_len 1 count) in
-      let up : suc k + 1 - 1 ≡ suc k = omega arith in
-      let down : suc k - 1 ≡ k = omega arith in
-      let last : 1 + k ≡ suc k = omega arith in
+      let up : k + 1 ≡ suc k = omega arith in
+      let last : 1 + k ≡ k + 1 = omega arith in
       ap (λ n. filter test (flat_map row (range_with_len 1 n))) up
       ∙ ap (λ l. filter test (flat_map row l)) (range_more 1 k ∙ ap (λ n. range_with_len 1 k ++ n ∷ []) last)
-      ∙ ap (filter test) (flat_map-append row (range_with_len 1 k) (suc k ∷ []))
-      ∙ filter-append test (flat_map row (range_with_len 1 k)) (flat_map row (suc k ∷ []))
-      ∙ ap (λ l. filter test (flat_map row (range_with_len 1 k)) ++ filter test l) (append-nil (row (suc k)))
-      ∙ ap (λ n. filter test (flat_map row (range_with_len 1 n)) ++ filter test (row (suc k))) (sym down)
+      ∙ ap (filter test) (flat_map-append row (range_with_len 1 k) ((k + 1) ∷ []))
+      ∙ filter-append test (flat_map row (range_with_len 1 k)) (flat_map row ((k + 1) ∷ []))
+      ∙ ap (λ l. filter test (flat_map row (range_with_len 1 k)) ++ filter test l) (append-nil (row (k + 1)))

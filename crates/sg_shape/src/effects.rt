@@ -39,6 +39,8 @@ impl<'a> Model for NamedEffect<'a> {
 }
 
 impl<'a> NamedEffect<'a> {
+    ghost use Rattle.std.specs.Str.{bytes_eq};
+
     // What is done to the field of a name.
     fn new(field: &Spelled<'a>, effect: Effect) -> NamedEffect<'a>
         ensures { result ≡ (field.now.bytes, effect) }
@@ -54,6 +56,13 @@ impl<'a> NamedEffect<'a> {
         ensures { result.now ≡ self.now.0 }
     {
         self.field
+    }
+
+    // Whether it is the field of a name.
+    fn is_on(&self, name: &[u8]) -> bool
+        ensures { result ≡ bytes_eq self.now.0 name.now }
+    {
+        self.field == name
     }
 
     // What is done to it.
@@ -221,7 +230,7 @@ fn effect_on(effects: &[NamedEffect], name: &[u8]) -> Option<Effect>
     ensures { result ≡ effect_on_name effects.now name.now }
 {
     'effects: for one in effects {
-        if one.field() == name {
+        if one.is_on(name) {
             return Some(one.effect());
         }
     }

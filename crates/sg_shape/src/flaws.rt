@@ -185,7 +185,8 @@ fn flawed_place(
     ensures { IfOk result (λ place. place ≡ option_map (λ p. p.name.at) (find (is_flawed kind (facts_of shape.now) statements.now) protos.now)) }
 {
     'protos: for proto in protos {
-        if is_flawed(kind, alloc, shape, statements, proto)? {
+        let flawed = is_flawed(kind, alloc, shape, statements, proto)?;
+        if flawed {
             return Ok(Some(proto.at()));
         }
     }

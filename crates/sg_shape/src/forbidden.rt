@@ -1,8 +1,8 @@
 // What no shape may have.
-ghost use Rattle.std.specs.Prelude.{◌≡◌, ◌≤◌, ◌==◌, length, not, count_by};
+ghost use Rattle.std.specs.Prelude.{◌≡◌, ◌≤◌, ◌==◌, length, map, not, count_by};
 ghost use Rattle.std.specs.List.{list_all, list_any};
 ghost use Rattle.sg_facts.specs.Allowed.{count_args, each_arg, has_no_parents, is_never, is_text_field, leaves_known, leaves_own};
-ghost use Rattle.sg_facts.specs.Facts.{facts_of, fun_of_shape};
+ghost use Rattle.sg_facts.specs.Facts.{facts_of, fun_of_shape, takes_parent};
 ghost use Rattle.sg_facts.specs.Inside.Rows.{writes};
 ghost use Rattle.sg_facts.specs.Inside.Walking.{carries_arg};
 ghost use Rattle.sg_shape.specs.Flaws.{is_forbidden, replays};
@@ -168,14 +168,31 @@ pub fn count_args(kinds: &[Kind]) -> usize
 fn has_no_parents(shape: &Shape) -> bool
     ensures { result ≡ has_no_parents (facts_of shape.now) }
 {
-    shape.funs.iter().all(|fun| !fun.takes_parent())
+    take_no_parents(shape.funs)
+}
+
+// Whether none of these functions takes a parent.
+fn take_no_parents(funs: &[FunShape]) -> bool
+    ensures { result ≡ list_all (λ f. not (takes_parent f)) (map fun_of_shape funs.now) }
+{
+    match funs {
+        [] => true,
+        [fun, rest @ ..] => !fun.takes_parent() && take_no_parents(rest),
+    }
 }
 
 // Whether a function leaves a field that the row doesn't tell.
 fn leaves_unknown(fun: &FunShape) -> bool
     ensures { result ≡ not (list_all (λ e. leaves_known e.1) (fun_of_shape fun.now).effects) }
 {
-    !effects(fun).iter().all(|effect| leaves_known(effect.1))
+    !are_known(effects(fun))
+}
+
+// Whether each of these effects leaves what the row tells, or nothing.
+fn are_known(effects: &[(u8, Effect)]) -> bool
+    ensures { result ≡ list_all (λ e. leaves_known e.1) effects.now }
+{
+    effects.iter().all(|effect| leaves_known(effect.1))
 }
 
 // Whether an effect leaves what the row tells, or nothing.

@@ -1,5 +1,5 @@
 // The pairs of functions that a text names.
-ghost use Rattle.std.specs.Prelude.{◌≡◌, ◌≤◌, ◌++◌, List, filter, length, map, IfOk, OnOk};
+ghost use Rattle.std.specs.Prelude.{◌≡◌, ◌≤◌, ◌++◌, [], ◌∷◌, if◌then◌else◌, List, filter, length, map, IfOk, OnOk};
 ghost use Rattle.std.specs.List.{filter_map, range_with_len};
 ghost use Rattle.sg_facts.specs.Interface.{has_pair};
 ghost use Rattle.sg_facts.specs.Limits.{most_funs};
@@ -78,8 +78,8 @@ fn in_order(alloc: Global, named: &[(u8, u8)], count: u8) -> Result<&'static [(u
     ensures { IfOk result (λ pairs. pairs.now ≡ in_order named.now count) }
 {
     let mut pairs = Vec::new(alloc);
-    'firsts: for first in 1..=count {
-        add_pairs(&mut pairs, named, first, count)?;
+    'firsts: for before in 0..count {
+        add_pairs(&mut pairs, named, before + 1, count)?;
     }
     Ok(kept(pairs))
 }
@@ -95,10 +95,23 @@ fn add_pairs(
     ensures { OnOk result (pairs.new.items ≡ pairs.old.items
         ++ filter (λ p. has_pair named.now p.0 p.1) (map (λ b. (first, b)) (range_with_len 1 count))) }
 {
-    'seconds: for second in 1..=count {
-        if has_pair(named, usize::from(first), usize::from(second)) {
-            pairs.push((first, second))?;
-        }
+    'seconds: for before in 0..count {
+        add_pair(pairs, named, first, before + 1)?;
+    }
+    Ok(())
+}
+
+// Adds a pair that is among these.
+fn add_pair(
+    pairs: &mut Vec<(u8, u8)>,
+    named: &[(u8, u8)],
+    first: u8,
+    second: u8,
+) -> Result<(), NoMemory>
+    ensures { OnOk result (pairs.new.items ≡ pairs.old.items ++ (if has_pair named.now first second then (first, second) ∷ [] else [])) }
+{
+    if has_pair(named, usize::from(first), usize::from(second)) {
+        pairs.push((first, second))?;
     }
     Ok(())
 }

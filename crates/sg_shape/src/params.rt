@@ -1,5 +1,6 @@
 // Parameters of prototypes.
-ghost use Rattle.std.specs.Prelude.{◌≡◌, ◌||◌, drop, map, codes, IfOk};
+ghost use Rattle.std.specs.Prelude.{◌≡◌, ◌||◌, count_by, drop, map, codes, IfOk};
+ghost use Rattle.std.specs.List.{list_all};
 ghost use Rattle.sg_check_statements.specs.Params.{has_word};
 ghost use Rattle.sg_shape.specs.Flaws.{are_params, has_its_type, is_id_param};
 ghost use Rattle.sg_shape.specs.ShapeOfText.{kind_of};
@@ -52,11 +53,23 @@ pub fn are_params(params: &[Param]) -> bool
     match params {
         [] => false,
         [caller, later @ ..] => {
-            is_caller(caller)
-                && later.iter().all(has_its_type)
-                && later.iter().filter(|param| is_id_param(param)).count() <= 1
+            is_caller(caller) && have_their_types(later) && count_ids(later) <= 1
         }
     }
+}
+
+// Whether each parameter is no text where it is a descriptor, a parent or an addend.
+fn have_their_types(params: &[Param]) -> bool
+    ensures { result ≡ list_all has_its_type params.now }
+{
+    params.iter().all(|param| has_its_type(param))
+}
+
+// The number of parameters that are a descriptor or a parent.
+fn count_ids(params: &[Param]) -> usize
+    ensures { result ≡ count_by is_id_param params.now }
+{
+    params.iter().filter(|param| is_id_param(param)).count()
 }
 
 // Whether a parameter is no text where it is a descriptor, a parent or an addend.

@@ -126,11 +126,18 @@ fn first_long(protos: &[Proto]) -> Option<usize>
     ensures { result ≡ option_map (λ p. p.name.at) (find (λ p. nat_lt most_params (length p.params)) protos.now) }
 {
     'protos: for proto in protos {
-        if proto.params().len() > MOST_PARAMS {
+        if is_long(proto) {
             return Some(proto.at());
         }
     }
     None
+}
+
+// Whether a prototype has more than the greatest number of parameters.
+fn is_long(proto: &Proto) -> bool
+    ensures { result ≡ nat_lt most_params (length proto.now.params) }
+{
+    proto.params().len() > MOST_PARAMS
 }
 
 // Nothing of the other kinds is wrong with a text within the limits: one of this shape, with these prototypes and uses of fields.
