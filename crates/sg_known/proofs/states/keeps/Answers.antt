@@ -1,5 +1,5 @@
 -- All of the three tests, or the first that fails.
-use Rattle.std.proofs.Common.{◌≡◌, Bool, true, false, refl, sym, ◌∙◌, ap}
+use Rattle.std.proofs.Common.{◌≡◌, Bool, true, false, sym, ◌∙◌, ap}
 use Rattle.std.specs.Prelude.{◌&&◌}
 use Rattle.sg_known.proofs.states.keeps.Goals as goal
 use Rattle.sg_known.proofs.states.keeps.Goals.{then-all_make, else-all_make}
