@@ -1,7 +1,7 @@
 -- States from which some go, until none goes any more.
-use Rattle.std.proofs.Common.{◌≡◌, ℕ, zero, suc, ◌<◌, ◌≤◌, List, length, filter, refl, sym, ◌∙◌, ap, arith}
-use Rattle.sg_facts.specs.Facts.{Facts}
-use Rattle.sg_described.specs.NeverZero.{keeps_some, states_left}
+use Rattle.std.proofs.Common.{◌≡◌, ℕ, zero, suc, ◌<◌, ◌≤◌, List, [], ◌∷◌, length, filter, refl, sym, ◌∙◌, ap, arith}
+use Rattle.sg_facts.specs.Facts.{Facts, Fun}
+use Rattle.sg_described.specs.NeverZero.{keeps_some, states_from, states_left}
 use Rattle.sg_described.proofs.Keeping.NeverZeros.{drops, none_goes, still}
 
 module _ (facts : Facts) (x : ℕ) where
@@ -20,3 +20,8 @@ module _ (facts : Facts) (x : ℕ) where
       → ((m : ℕ) → length left ≤ m → all ≡ states_left facts x m left) → all ≡ states_left facts x n states
   some_gone states left all zero is fewer few rest = absurd (omega (arith, fewer, few))
   some_gone states left all (suc m) is fewer few rest = rest m (omega (arith, fewer, few)) ∙ ap (states_left facts x m) is
+
+-- there are as many states as functions
+pub length_states : (n : ℕ) (funs : List Fun) → length (states_from n funs) ≡ length funs
+length_states n [] = refl
+length_states n (f ∷ funs) = ap suc (length_states (suc n) funs)

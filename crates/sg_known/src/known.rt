@@ -257,8 +257,8 @@ pub fn waits(verdict: Verdict) -> bool
     matches!(&verdict, Verdict::Wait)
 }
 
-/// Whether a verdict gives a word.
-pub(crate) fn gives(verdict: Verdict) -> bool
+// Whether a verdict gives a word.
+fn gives(verdict: Verdict) -> bool
     ensures { result ≡ is_give verdict }
 {
     matches!(&verdict, Verdict::Give(_))

@@ -116,11 +116,18 @@ pub fn all_last(effects: &[(u8, Effect)], tests: &[Test]) -> bool
     tests.iter().all(|test| lasts(effects, test))
 }
 
+// Whether effects leave tests as they are.
+fn leave_tests(effects: &[(u8, Effect)], tests: &[Test]) -> bool
+    ensures { result ≡ list_all (test_is_left (pairs_of effects.now)) tests.now }
+{
+    tests.iter().all(|test| leave_test(effects, test))
+}
+
 // Whether a rule doesn't come in between.
 fn keeps_out(effects: &[(u8, Effect)], rule: &RuleShape) -> bool
     ensures { result ≡ stays_out (pairs_of effects.now) (rule_of rule.now) }
 {
-    waits(rule.verdict) || rule.tests.iter().all(|test| leave_test(effects, test))
+    waits(rule.verdict) || leave_tests(effects, rule.tests)
 }
 
 /// Whether no rule comes in between.

@@ -1,27 +1,22 @@
-//! What is known of a described service before it runs: whether it is a description at all, and what its numbers can be.
+//! What is known of the numbers of a described service before it runs.
 //!
-//! - `plain`: whether a description keeps to what it has to by itself (`is_plain`); `allowed`: whether a shape does (`is_allowed`)
 //! - `known`: what is known of a call and its row (`Seen`, `ArgsKnown`), and what follows of terms, tests and rules
 //! - `told`: what tests that hold tell; `lasting`: what goes on to hold through effects
 //! - `states`: in which states a field is never 0
 //! - `survey`: what is found of a description before it is checked (`Survey`)
 #![tactic(auto)]
 
-mod allowed;
 mod known;
 mod lasting;
-mod plain;
 mod states;
 mod survey;
 mod told;
 
-pub use allowed::{is_allowed, is_replayed};
 pub use known::{
     ANY, ArgsKnown, Seen, ZERO, applies_surely, bounds_after, bounds_up_to, field_bounds,
     greatest_word, stop_surely, stops, waits,
 };
 pub use lasting::{all_keep_out, all_last};
-pub use plain::is_plain;
 pub use states::{StateList, has_state, never_zero_states, state_left};
 pub use survey::{Survey, is_some_in, surveyed};
 pub use told::narrow_all;

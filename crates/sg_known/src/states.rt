@@ -81,15 +81,21 @@ fn all_move(shape: &Shape, field: u8, states: &[u8], state: u8, pairs: &[(u8, u8
     }
 }
 
+// Whether a recover step, if it is from this state, leads to a listed one; of whichever field.
+fn stays(shape: &Shape, states: &[u8], state: u8, pair: (u8, u8)) -> bool
+    ensures { result ≡ stays_listed (facts_of shape.now) 0 states.now state (pair.0, pair.1) }
+{
+    pair.0 != state || has_state(states, state_left(shape, pair.1, pair.0))
+}
+
 // Whether all recover steps from this state lead to listed ones.
 fn all_stay(shape: &Shape, states: &[u8], state: u8, pairs: &[(u8, u8)]) -> bool
-    ensures { (field : ℕ) → result ≡ list_all (stays_listed (facts_of shape.now) field states.now state) (map (λ p. (p.0, p.1)) pairs.now) }
+    ensures { result ≡ list_all (stays_listed (facts_of shape.now) 0 states.now state) (map (λ p. (p.0, p.1)) pairs.now) }
 {
     match pairs {
         [] => true,
         [first, rest @ ..] => {
-            (first.0 != state || has_state(states, state_left(shape, first.1, first.0)))
-                && all_stay(shape, states, state, rest)
+            stays(shape, states, state, *first) && all_stay(shape, states, state, rest)
         }
     }
 }
@@ -150,7 +156,7 @@ fn settled(
     if left.len() == states.len() {
         return Ok(left);
     }
-    settled(alloc, shape, field, left)
+    Ok(settled(alloc, shape, field, left)?)
 }
 
 // The states that there are, numbered from one on.
@@ -174,5 +180,5 @@ pub fn never_zero_states(alloc: Global, shape: &Shape, field: u8) -> Result<Stat
 {
     let mut states = StateList::new(alloc);
     add_states(&mut states, 1, shape.funs)?;
-    settled(alloc, shape, field, states)
+    Ok(settled(alloc, shape, field, states)?)
 }

@@ -2,6 +2,7 @@
 ghost use Rattle.std.specs.Prelude.{◌≡◌, ◌+◌, ◌<◌, ◌^◌, ◌==◌, ◌&&◌, length, map};
 ghost use Rattle.std.specs.Bool.{then_some};
 ghost use Rattle.std.specs.List.{list_any};
+ghost use Rattle.sg_facts.specs.Allowed.{is_replayed};
 ghost use Rattle.sg_facts.specs.Counted.{is_counted, raises_by_word};
 ghost use Rattle.sg_facts.specs.Facts.{facts_of, fun_of_shape};
 ghost use Rattle.sg_described.specs.Described.{described_of};
@@ -12,7 +13,6 @@ ghost use Rattle.sg_safe.specs.Reasons.{counts_far, first_from, first_in, recoun
 use crate::reason::Unsafe;
 use sg_described::Description;
 use sg_facts::{Effect, FunShape, Shape};
-use sg_known::is_replayed;
 
 // A number that no word of a service comes near of.
 const SLOW: u64 = 1 << 34;
@@ -91,6 +91,23 @@ fn first_added(shape: &Shape, fun: u8, effects: &[(u8, Effect)]) -> Option<Unsaf
             }
         }
     }
+}
+
+// Whether a function is a recover step.
+fn steps_to(steps: &[(u8, u8)], fun: u8) -> bool
+    ensures { result ≡ list_any (λ s. s.1 == fun) (map (λ p. (p.0, p.1)) steps.now) }
+{
+    match steps {
+        [] => false,
+        [first, rest @ ..] => first.1 == fun || steps_to(rest, fun),
+    }
+}
+
+// Whether a function is replayed.
+fn is_replayed(shape: &Shape, fun: u8) -> bool
+    ensures { result ≡ is_replayed (facts_of shape.now) fun }
+{
+    shape.fun(fun).is_creation() || steps_to(shape.steps, fun)
 }
 
 // The first field that counts and that a function adds to, if it is replayed.

@@ -1,6 +1,6 @@
 //! Whether a described service can be recovered, and if not, why.
 //!
-//! - `check`: whether it can, or the first reason why it can't (`safe`); whether it is a description at all tells `is_plain`
+//! - `check`: whether it can, or the first reason why it can't (`safe`)
 //! - `reason`: a reason (`Unsafe`, `SafeError`), a replayed call that may fail (`FailingCall`, `Obstacle`), and what is known where
 //!   a walk has come to before it (`KnownSpot`, `KnownField`)
 //! - `counting`: fields that count
@@ -17,4 +17,3 @@ mod waiting;
 
 pub use check::safe;
 pub use reason::{FailingCall, KnownField, KnownSpot, Obstacle, SafeError, Unsafe};
-pub use sg_known::is_plain;

@@ -1,6 +1,5 @@
 -- Each call has fewer left.
 use Rattle.std.proofs.Common.{length}
-use Rattle.sg_described.specs.Walking.{carrier}
 use Rattle.sg_known.proofs.known.+carrier.Given as goal
 
 abbrev pub decreases-carrier : goal.decreases-carrier
