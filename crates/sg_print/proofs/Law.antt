@@ -1,5 +1,5 @@
 -- A printed tree reads back.
-use Rattle.std.proofs.Common.{ℕ, suc, ◌≡◌, Bool, true, false, if◌then◌else◌, List, [], ◌∷◌, Ok, length, map, refl, sym, ap, ◌∙◌, subst, arith, inl, inr}
+use Rattle.std.proofs.Common.{ℕ, suc, ◌≡◌, true, false, if◌then◌else◌, List, [], ◌∷◌, Ok, length, map, refl, sym, ap, ◌∙◌, subst, arith, inl, inr}
 use Rattle.std.specs.List.{flat_map}
 use Rattle.std.specs.Prelude.{◌==◌}
 use Rattle.sg_parse.specs.sg_lex.declared.token.TokenKind.{TokenKind}

@@ -1,8 +1,7 @@
 -- The versions of a text, and its tokens as a text of its version has them.
-use Rattle.std.proofs.Common.{ℕ, suc, ◌≡◌, ◌⊎◌, inl, inr, ◌==◌, ◌&&◌, Bool, true, false, not, if◌then◌else◌, List, [], ◌∷◌, ◌++◌, length, get_or, codes, refl, sym, ap, subst, ◌∙◌, nat_eq}
+use Rattle.std.proofs.Common.{ℕ, ◌≡◌, ◌⊎◌, inl, inr, ◌==◌, ◌&&◌, Bool, true, false, not, if◌then◌else◌, List, [], ◌∷◌, length, get_or, refl, ap, ◌∙◌}
 use Rattle.std.specs.Char.{is_ascii_digit}
 use Rattle.std.specs.List.{list_all}
-use Rattle.std.proofs.lemmas.Bool.{eq-eqb}
 use Rattle.sg_parse.specs.sg_lex.declared.token.TokenKind.{TokenKind}
 use Rattle.sg_parse.specs.sg_lex.declared.token.TokenKind.TheVariants.{Word, Number, Text, Mark}
 use Rattle.sg_parse.specs.sg_lex.Lexeme.{Lexeme}

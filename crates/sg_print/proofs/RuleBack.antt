@@ -3,7 +3,7 @@ use Rattle.std.proofs.Common.{ℕ, ◌≡◌, ◌≢◌, List, [], ◌∷◌, �
 use Rattle.std.specs.Prelude.{All, if◌then◌else◌}
 use Rattle.std.specs.List.{flat_map}
 use Rattle.std.specs.Option.{option_map}
-use Rattle.std.proofs.lemmas.List.Elements.{All-head, All-tail, All-cons, All-nil}
+use Rattle.std.proofs.lemmas.List.Elements.{All-head, All-tail, All-cons}
 use Rattle.sg_parse.specs.sg_lex.Lexeme.{Lexeme, Spelling}
 use Rattle.sg_parse.specs.sg_lex.Sentences.{ArePieces, separated}
 use Rattle.sg_parse.specs.sg_rules.declared.words.Keyword.{Keyword}
@@ -25,7 +25,7 @@ use Rattle.sg_parse.specs.sg_rules.declared.tree.What.TheVariants.{State as row_
 use Rattle.sg_parse.specs.sg_rules.declared.tree.Rule.{Rule}
 use Rattle.sg_parse.specs.sg_rules.declared.tree.Rule.TheVariants.{Refuse, Wait, Give, GiveRow, GiveFirst}
 use Rattle.sg_parse.specs.sg_rules.Grammar.Pieces.{RulePiece, fixed, word, word_at, name, number, IsRulePiece}
-use Rattle.sg_parse.specs.sg_rules.Grammar.Sentence.{operand_pieces, operator_word, term_pieces, relation_pieces, test_pieces, what_pieces, pick_pieces, picks_pieces, row_test_pieces, tests_pieces, if_pieces, where_pieces, rule_pieces, HasTests, IsRule}
+use Rattle.sg_parse.specs.sg_rules.Grammar.Sentence.{operand_pieces, operator_word, term_pieces, relation_pieces, test_pieces, what_pieces, pick_pieces, row_test_pieces, tests_pieces, if_pieces, where_pieces, rule_pieces, HasTests, IsRule}
 use Rattle.sg_parse.specs.sg_rules.Grammar.Plain.{plain_name, plain_operand, plain_term, plain_test, plain_what, plain_pick, plain_rows, plain_tests, plain_rule}
 use Rattle.sg_print.proofs.Leads.{IsRuleLike}
 

@@ -3,7 +3,7 @@ use Rattle.std.proofs.Common.{ℕ, ◌≡◌, Bool, true, false, if◌then◌els
 use Rattle.std.specs.List.{concat, flat_map, join_by}
 use Rattle.sg_facts.specs.Words.{line_end as line_feed}
 use Rattle.sg_parse.specs.sg_rules.declared.words.Keyword.TheVariants.{Refuse as refuse_word, Wait as wait_word, Give as give_word, If, Is as is_word, Not, Below as below_word, Above as above_word, Greatest as greatest_word, Caller as caller_word, State as state_word, Row, Where, Else, First, SomeRow, NoRow}
-use Rattle.sg_parse.specs.sg_rules.declared.words.Fixed.TheVariants.{Key, Comma, Semicolon, Dollar}
+use Rattle.sg_parse.specs.sg_rules.declared.words.Fixed.TheVariants.{Comma, Semicolon, Dollar}
 use Rattle.sg_parse.specs.sg_rules.declared.tree.Operand.{Operand}
 use Rattle.sg_parse.specs.sg_rules.declared.tree.Operand.TheVariants.{Number, Caller, State, Argument, GreatestOf, Named}
 use Rattle.sg_parse.specs.sg_rules.declared.tree.Operator.{Operator}
@@ -11,7 +11,6 @@ use Rattle.sg_parse.specs.sg_rules.declared.tree.Relation.{Relation}
 use Rattle.sg_parse.specs.sg_rules.declared.tree.Relation.TheVariants.{Is, IsNot, Below, Above}
 use Rattle.sg_parse.specs.sg_rules.declared.tree.Term.{Term}
 use Rattle.sg_parse.specs.sg_rules.declared.tree.Test.{Test}
-use Rattle.sg_parse.specs.sg_rules.declared.tree.Tests.{Tests}
 use Rattle.sg_parse.specs.sg_rules.declared.tree.RowTest.{RowTest}
 use Rattle.sg_parse.specs.sg_rules.declared.tree.Pick.{Pick}
 use Rattle.sg_parse.specs.sg_rules.declared.tree.What.{What}

@@ -16,14 +16,14 @@ use Rattle.sg_parse.specs.declared.words.Sort.TheVariants.{Name, One as one_word
 use Rattle.sg_parse.specs.sg_lex.Lexeme.{Spelling as Named}
 use Rattle.sg_parse.specs.sg_rules.Grammar.Sentence.{rule_pieces}
 use Rattle.sg_parse.specs.sg_rules.declared.version.Newer.TheVariants.{Second, Third}
-use Rattle.sg_parse.specs.Grammar.Pieces.{Piece, word, mark, name, number, version_number, kept, newer, rule}
+use Rattle.sg_parse.specs.Grammar.Pieces.{Piece, word, mark, name, version_number, kept, newer, rule}
 use Rattle.sg_parse.specs.Grammar.Sentence.{type_pieces, param_pieces, ret_pieces, statement_pieces, recovery_word, tree_pieces, IsStatement}
 use Rattle.sg_parse.specs.Grammar.Inside.Forms.{open_brace, close_brace, equals, open_bracket, close_bracket, comma, semicolon, star, form_pieces, more_fields, more_params, params_pieces, returned_pieces, last_pieces, IsType, IsRet, IsHead, IsWellFormed}
 use Rattle.sg_print.specs.Printed.{type_text, ret_text, statement_text, shared_text, printed, param_text, returned_text}
 use Rattle.sg_print.specs.Inside.Pieces.{names_text, stars_text, type_before_comma, params_text, form_text}
 use Rattle.sg_facts.specs.Words.{line_end as line_feed}
 use Rattle.sg_print.specs.RulesText.{rule_line}
-use Rattle.sg_print.proofs.Heads.{shared_pieces, recovery_pieces, end_by, after_brace}
+use Rattle.sg_print.proofs.Heads.{shared_pieces, recovery_pieces, after_brace}
 use Rattle.sg_print.proofs.Levels.{Version, v1, v2, v3}
 use Rattle.sg_print.proofs.Leads.{Leads, Stops, IsFixed, end_leads, blank_leads, mark_leads, fixed_leads, name_leads, number_leads, kept_leads, version_leads, second_leads, third_leads, AreProper, proper_left, proper_right, proper_second, proper_third}
 use Rattle.sg_print.proofs.RuleTexts.{rules_lead}

@@ -11,7 +11,6 @@ use Rattle.sg_lex.proofs.Answers.{Reached, ReadsJust}
 use Rattle.sg_rules.specs.declared.error.ParseError.{ParseError}
 use Rattle.sg_rules.specs.declared.version.Newer.{Newer}
 use Rattle.sg_rules.specs.declared.version.Newer.TheVariants.{Second, Third}
-use Rattle.sg_rules.specs.Grammar.Pieces.{RulePiece}
 use Rattle.sg_parse.specs.declared.tree.Facts.{Facts}
 use Rattle.sg_parse.specs.declared.tree.Statement.{Statement}
 use Rattle.sg_parse.specs.declared.tree.Tree.{Tree}
@@ -19,8 +18,8 @@ use Rattle.sg_parse.specs.declared.words.Sort.{Sort}
 use Rattle.sg_parse.specs.declared.words.Sort.TheVariants.{Name, Form, Parents, Closing, Flag}
 use Rattle.sg_parse.specs.Grammar.Pieces.{Piece, word, mark, name, number, version_number, newer, rule, IsPiece}
 use Rattle.sg_parse.specs.Grammar.Sentence.{recovery_word, facts_pieces, tree_pieces, statement_pieces, ret_pieces, IsStatement, IsSentence}
-use Rattle.sg_parse.specs.Grammar.Inside.Forms.{star, comma, close_brace, close_bracket, open_brace, equals, semicolon, more_fields, more_params, fact_pieces, head_pieces, last_pieces, end_pieces, of_version, IsHead, IsWellFormed}
-use Rattle.sg_parse.specs.Grammar.Inside.States.{State, dead, due, fork, want, want_number, versioned, names, stars, either, listed, fielded, answering, statements, in_newer, fact, head_end, first_end, newer_end, second_rest, third_rest, newer_rest, head0, head1, head2, head3, head4, head5, head6, start, tree_at, trees}
+use Rattle.sg_parse.specs.Grammar.Inside.Forms.{star, comma, close_brace, close_bracket, open_brace, equals, semicolon, more_fields, more_params, fact_pieces, head_pieces, last_pieces, of_version, IsHead, IsWellFormed}
+use Rattle.sg_parse.specs.Grammar.Inside.States.{State, dead, due, fork, want, want_number, versioned, names, stars, either, listed, fielded, answering, statements, in_newer, fact, head_end, first_end, newer_end, newer_rest, head0, head1, head2, head3, head4, head5, head6, start, tree_at, trees}
 use Rattle.sg_parse.proofs.Grammar.Basics.{word-fits_word}
 use Rattle.sg_parse.proofs.Grammar.Rests.{Rest, front_of, last_of}
 use Rattle.sg_parse.proofs.Grammar.Steps.{back, forth}

@@ -13,14 +13,13 @@ use Rattle.sg_parse.specs.declared.tree.Tree.{Tree}
 use Rattle.sg_parse.specs.declared.words.Sort.TheVariants.{Name, Form}
 use Rattle.sg_lex.specs.declared.token.TokenKind.TheVariants.{Number}
 use Rattle.sg_lex.specs.Inside.Tests.{has_kind}
-use Rattle.sg_rules.specs.declared.version.Newer.{Newer}
 use Rattle.sg_rules.specs.declared.version.Newer.TheVariants.{Second, Third}
 use Rattle.sg_rules.specs.declared.tree.Rule.{Rule}
 use Rattle.sg_rules.specs.Versions.{seen}
 use Rattle.sg_rules.specs.Grammar.Pieces.{RulePiece}
 use Rattle.sg_rules.specs.Grammar.Inside.States.{RuleState, step as rule_step, rules_at}
 use Rattle.sg_rules.proofs.Grammar.Basics.{no_brace}
-use Rattle.sg_rules.proofs.Grammar.Steps.{Goes, GoesOn, there, onward, back as rule_back, forth as rule_forth}
+use Rattle.sg_rules.proofs.Grammar.Steps.{GoesOn, there, onward, back as rule_back, forth as rule_forth}
 use Rattle.sg_parse.specs.Grammar.Pieces.{Piece, word, mark, name, number, version_number, newer, rule, IsPiece}
 use Rattle.sg_parse.specs.Grammar.Sentence.{param_pieces, statement_pieces, IsStatement}
 use Rattle.sg_parse.specs.Grammar.Inside.Forms.{star, comma, close_brace, close_bracket, more_fields, more_params, IsType}
