@@ -206,8 +206,8 @@ some_where P true x r is here = let same : x ≡ r = cc is in subst P same here
 some_where P false x r is here = absurd (cc is)
 
 each_in : {A B : Type 0} (P : B → Type 0) (p : A → Option B) → ((x : A) (r : B) → p x ≡ Some r → P r) → (xs : List A) (r : B) → first_in p xs ≡ Some r → P r
-each_in P p each [] r is = absurd (cc is)
-each_in P p each (x ∷ xs) r is = at (p x) refl is (each_in P p each xs r)
+each_in {A = A} {B = B} P p each [] r is = absurd (cc is)
+each_in {A = A} {B = B} P p each (x ∷ xs) r is = at (p x) refl is (each_in P p each xs r)
   where
     at : (o : Option B) → p x ≡ o → option_or o (first_in p xs) ≡ Some r → (first_in p xs ≡ Some r → P r) → P r
     at None here is rest = rest is
@@ -215,8 +215,8 @@ each_in P p each (x ∷ xs) r is = at (p x) refl is (each_in P p each xs r)
 
 each_from : {A B : Type 0} (P : B → Type 0) (p : ℕ → A → Option B) → ((n : ℕ) (x : A) (r : B) → p n x ≡ Some r → P r) → (n : ℕ) (xs : List A) (r : B)
     → first_from p n xs ≡ Some r → P r
-each_from P p each n [] r is = absurd (cc is)
-each_from P p each n (x ∷ xs) r is = at (p n x) refl is (each_from P p each (suc n) xs r)
+each_from {A = A} {B = B} P p each n [] r is = absurd (cc is)
+each_from {A = A} {B = B} P p each n (x ∷ xs) r is = at (p n x) refl is (each_from P p each (suc n) xs r)
   where
     at : (o : Option B) → p n x ≡ o → option_or o (first_from p (suc n) xs) ≡ Some r → (first_from p (suc n) xs ≡ Some r → P r) → P r
     at None here is rest = rest is
