@@ -226,7 +226,7 @@ fn leaves(
     if !keeps(description, wait.waiter, number, seen.state, moves) {
         return Ok(false);
     }
-    goes_on(alloc, survey, wait, seen, number)
+    Ok(goes_on(alloc, survey, wait, seen, number)?)
 }
 
 // The first function that may let pass who waits by a rule, numbered from one on.
@@ -308,7 +308,7 @@ fn overtaken_at_rules(
             };
             match overtaken_by_rule(alloc, survey, wait)? {
                 Some(found) => Ok(Some(found)),
-                None => overtaken_at_rules(alloc, survey, waiter, rules, at + 1),
+                None => Ok(overtaken_at_rules(alloc, survey, waiter, rules, at + 1)?),
             }
         }
     }
