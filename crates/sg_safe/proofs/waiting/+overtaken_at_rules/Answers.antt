@@ -18,8 +18,8 @@ returns-in-Some-2 t c =
     rule_first (overtaken_at (subject_of c.args.survey.now) c.args.waiter) c.args.rules.now c.args.at c.in-Some.rule.now c.in_ok-found-in-Some.field-0 c.in-Some-2.found h.3.0 h.1
     c.in_ok-found-in-Some.ensures c.in-Some-2.is
 
-pub returns-in-None-2 : goal.returns-in-None-2
-returns-in-None-2 t c =
+pub returns-in_ok-overtaken_at_rules-in-None-2 : goal.returns-in_ok-overtaken_at_rules-in-None-2
+returns-in_ok-overtaken_at_rules-in-None-2 t c =
     let h = c.in-Some.ensures.lookup in
     rule_later (overtaken_at (subject_of c.args.survey.now) c.args.waiter) c.args.rules.now c.args.at c.in-Some.rule.now c.in_ok-found-in-Some.field-0 _ h.3.0 h.1
     c.in_ok-found-in-Some.ensures c.in-None-2.is c.in_ok-overtaken_at_rules-in-None-2.ensures
