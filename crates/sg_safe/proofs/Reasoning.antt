@@ -1,11 +1,10 @@
 -- Where there is no reason, and what a reason refutes.
-use Rattle.std.proofs.Common.{◌≡◌, ℕ, zero, suc, Bool, true, false, cond, not, List, [], ◌∷◌, None, Some, refl, sym, ◌∙◌, ap, subst}
+use Rattle.std.proofs.Common.{◌≡◌, ℕ, suc, Bool, true, false, cond, not, List, [], ◌∷◌, None, Some, refl, sym, ◌∙◌, ap, subst}
 use Rattle.std.specs.Prelude.{◌&&◌, ◌||◌, ◌-◌, take}
 use Rattle.std.specs.Bool.{then_some}
 use Rattle.std.specs.List.{list_all}
 use Rattle.std.specs.Option.{is_some, option_map, option_or}
 use Rattle.std.specs.declared.option.Option.{Option}
-use Rattle.sg_facts.specs.declared.shape.Effect.{Effect}
 use Rattle.sg_facts.specs.Allowed.{implies, is_replayed}
 use Rattle.sg_facts.specs.Counted.{is_counted}
 use Rattle.sg_facts.specs.Facts.{Fun, fun_at}
@@ -18,7 +17,6 @@ use Rattle.sg_described.specs.Safe.{IsPlain, IsSafe, adds, counts_slowly, replay
 use Rattle.sg_described.specs.Waiting.{leaves_waiting, rule_waits, waits_well}
 use Rattle.sg_described.specs.Walking.{begins_well, blank, caller_fits, effect_fits, is_lost, is_step, known_at, replays_well, spots_of, steps_well, walks_well}
 use Rattle.sg_safe.specs.declared.reason.FailingCall.{FailingCall}
-use Rattle.sg_safe.specs.declared.reason.Obstacle.{Obstacle}
 use Rattle.sg_safe.specs.declared.reason.Obstacle.TheVariants.{ByRule, NoClient, PastMost}
 use Rattle.sg_safe.specs.declared.reason.Unsafe.{Unsafe}
 use Rattle.sg_safe.specs.declared.reason.Unsafe.TheVariants.{CountsFar, Recounts, Overtaken, Fails}

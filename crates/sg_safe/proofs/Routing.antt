@@ -2,7 +2,6 @@
 use Rattle.std.proofs.Common.{◌≡◌, ℕ, zero, suc, ◌+◌, ◌-◌, ◌<◌, ◌≤◌, Bool, true, false, cond, not, List, [], ◌∷◌, ◌++◌, length, drop, take, get_or, map, filter, None, Some, refl, sym, ◌∙◌, ap, subst, arith, length-append}
 use Rattle.std.specs.Prelude.{◌==◌, ◌&&◌, ◌||◌, All, slice_get, unwrap_or}
 use Rattle.std.specs.List.{flat_map, list_all}
-use Rattle.std.specs.declared.option.Option.{Option}
 use Rattle.std.proofs.lemmas.List.{take_all}
 use Rattle.std.proofs.lemmas.List.Elements.{All-drop, All-push, All-weaker}
 use Rattle.sg_facts.specs.Facts.{Fun, fun_at, fun_of_shape, no_fun}

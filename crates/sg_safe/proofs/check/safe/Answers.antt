@@ -1,5 +1,5 @@
 -- A description without a reason is safe.
-use Rattle.std.proofs.Common.{◌≡◌, None, ap, subst}
+use Rattle.std.proofs.Common.{subst}
 use Rattle.sg_described.specs.Described.{described_of}
 use Rattle.sg_described.proofs.Keeping.SafeLaw.{plain_tells}
 use Rattle.sg_safe.specs.Inside.Stages.{IsFound}

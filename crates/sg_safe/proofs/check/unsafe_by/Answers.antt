@@ -1,6 +1,5 @@
 -- A client that waits may be let pass.
 use Rattle.std.proofs.Common.{◌≡◌, length, sym, ◌∙◌, ap, rules, arith, vec_len}
-use Rattle.sg_described.specs.Described.{Described}
 use Rattle.sg_known.specs.Surveys.{subject_of}
 use Rattle.sg_safe.specs.Reasons.{fails_in, waits_in}
 use Rattle.sg_safe.proofs.Plainly.{few_greatest}

@@ -1,6 +1,5 @@
 -- What is known of each field.
 use Rattle.std.proofs.Common.{◌∙◌, ◌++◌, ap}
-use Rattle.sg_described.specs.Known.{greatest}
 use Rattle.sg_known.specs.Surveys.{subject_of}
 use Rattle.sg_safe.specs.declared.reason.KnownSpot.{KnownSpot}
 use Rattle.sg_safe.specs.Inside.Replays.{spots_from}

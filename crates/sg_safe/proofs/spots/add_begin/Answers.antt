@@ -1,5 +1,5 @@
 -- The function makes a descriptor.
-use Rattle.std.proofs.Common.{◌≡◌, true, ◌∙◌, sym, ap}
+use Rattle.std.proofs.Common.{◌∙◌, sym, ap}
 use Rattle.sg_described.specs.Described.{described_of}
 use Rattle.sg_safe.proofs.Routing.{reached_begun}
 use Rattle.sg_safe.proofs.spots.add_begin.Goals as goal

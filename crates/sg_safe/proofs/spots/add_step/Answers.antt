@@ -1,5 +1,5 @@
 -- Whether the pair is a step from there.
-use Rattle.std.proofs.Common.{◌≡◌, true, false, ◌+◌, length, map, sym, ◌∙◌}
+use Rattle.std.proofs.Common.{◌≡◌, true, ◌+◌, length, map, sym, ◌∙◌}
 use Rattle.sg_described.specs.Described.{described_of}
 use Rattle.sg_described.specs.Walking.{is_step}
 use Rattle.sg_safe.specs.Inside.Routes.{place_in}

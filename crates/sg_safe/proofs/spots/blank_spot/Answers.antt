@@ -1,5 +1,5 @@
 -- No field is set.
-use Rattle.std.proofs.Common.{◌≡◌, ap}
+use Rattle.std.proofs.Common.{ap}
 use Rattle.sg_facts.specs.Walks.{Spot}
 use Rattle.sg_walk.proofs.Marks.{all_unset}
 use Rattle.sg_described.specs.Described.{described_of}

@@ -1,5 +1,5 @@
 -- None of the tests before holds.
-use Rattle.std.proofs.Common.{◌≡◌, false, map, sym, ◌∙◌, ap}
+use Rattle.std.proofs.Common.{map, sym, ◌∙◌, ap}
 use Rattle.std.specs.Prelude.{◌&&◌}
 use Rattle.sg_described.specs.Described.{rule_of, rules_at}
 use Rattle.sg_described.specs.Known.{Known, surely_stops}

@@ -1,5 +1,5 @@
 -- Each field is up to its greatest number, and then the tests tell more.
-use Rattle.std.proofs.Common.{◌≡◌, length, map, sym, ◌∙◌, ap, rules, vec_len}
+use Rattle.std.proofs.Common.{◌≡◌, length, sym, ◌∙◌, ap, rules, vec_len}
 use Rattle.std.proofs.lemmas.List.{length-map}
 use Rattle.sg_facts.specs.Facts.{fun_of_shape}
 use Rattle.sg_described.specs.Known.{Known, after_tests, between}
