@@ -2,3 +2,4 @@ pub mod Plainly
 pub mod Reasoning
 pub mod Routing
 pub mod Seeing
+pub mod Waits

@@ -1,11 +1,10 @@
 -- Where there is no reason, and what a reason refutes.
-use Rattle.std.proofs.Common.{◌≡◌, ℕ, zero, suc, Bool, true, false, cond, not, List, [], ◌∷◌, None, Some, refl, sym, ◌∙◌, ap, subst}
+use Rattle.std.proofs.Common.{◌≡◌, ℕ, suc, Bool, true, false, cond, not, List, [], ◌∷◌, None, Some, refl, sym, ◌∙◌, ap, subst}
 use Rattle.std.specs.Prelude.{◌&&◌, ◌||◌, ◌-◌, take}
 use Rattle.std.specs.Bool.{then_some}
 use Rattle.std.specs.List.{list_all}
 use Rattle.std.specs.Option.{is_some, option_map, option_or}
 use Rattle.std.specs.declared.option.Option.{Option}
-use Rattle.sg_facts.specs.declared.shape.Effect.{Effect}
 use Rattle.sg_facts.specs.Allowed.{implies, is_replayed}
 use Rattle.sg_facts.specs.Counted.{is_counted}
 use Rattle.sg_facts.specs.Facts.{Fun, fun_at}
@@ -18,7 +17,6 @@ use Rattle.sg_described.specs.Safe.{IsPlain, IsSafe, adds, counts_slowly, replay
 use Rattle.sg_described.specs.Waiting.{leaves_waiting, rule_waits, waits_well}
 use Rattle.sg_described.specs.Walking.{begins_well, blank, caller_fits, effect_fits, is_lost, is_step, known_at, replays_well, spots_of, steps_well, walks_well}
 use Rattle.sg_safe.specs.declared.reason.FailingCall.{FailingCall}
-use Rattle.sg_safe.specs.declared.reason.Obstacle.{Obstacle}
 use Rattle.sg_safe.specs.declared.reason.Obstacle.TheVariants.{ByRule, NoClient, PastMost}
 use Rattle.sg_safe.specs.declared.reason.Unsafe.{Unsafe}
 use Rattle.sg_safe.specs.declared.reason.Unsafe.TheVariants.{CountsFar, Recounts, Overtaken, Fails}
@@ -206,8 +204,8 @@ some_where P true x r is here = let same : x ≡ r = cc is in subst P same here
 some_where P false x r is here = absurd (cc is)
 
 each_in : {A B : Type 0} (P : B → Type 0) (p : A → Option B) → ((x : A) (r : B) → p x ≡ Some r → P r) → (xs : List A) (r : B) → first_in p xs ≡ Some r → P r
-each_in P p each [] r is = absurd (cc is)
-each_in P p each (x ∷ xs) r is = at (p x) refl is (each_in P p each xs r)
+each_in {A = A} {B = B} P p each [] r is = absurd (cc is)
+each_in {A = A} {B = B} P p each (x ∷ xs) r is = at (p x) refl is (each_in P p each xs r)
   where
     at : (o : Option B) → p x ≡ o → option_or o (first_in p xs) ≡ Some r → (first_in p xs ≡ Some r → P r) → P r
     at None here is rest = rest is
@@ -215,8 +213,8 @@ each_in P p each (x ∷ xs) r is = at (p x) refl is (each_in P p each xs r)
 
 each_from : {A B : Type 0} (P : B → Type 0) (p : ℕ → A → Option B) → ((n : ℕ) (x : A) (r : B) → p n x ≡ Some r → P r) → (n : ℕ) (xs : List A) (r : B)
     → first_from p n xs ≡ Some r → P r
-each_from P p each n [] r is = absurd (cc is)
-each_from P p each n (x ∷ xs) r is = at (p n x) refl is (each_from P p each (suc n) xs r)
+each_from {A = A} {B = B} P p each n [] r is = absurd (cc is)
+each_from {A = A} {B = B} P p each n (x ∷ xs) r is = at (p n x) refl is (each_from P p each (suc n) xs r)
   where
     at : (o : Option B) → p n x ≡ o → option_or o (first_from p (suc n) xs) ≡ Some r → (first_from p (suc n) xs ≡ Some r → P r) → P r
     at None here is rest = rest is

@@ -1,10 +1,11 @@
 -- Where walks come to is found, each with a walk that leads there.
-use Rattle.std.proofs.Common.{◌≡◌, ℕ, zero, suc, ◌+◌, ◌-◌, ◌<◌, ◌≤◌, Bool, true, false, cond, not, List, [], ◌∷◌, ◌++◌, length, drop, map, filter, None, Some, refl, sym, ◌∙◌, ap, subst, arith, length-append}
+use Rattle.std.proofs.Common.{◌≡◌, ℕ, zero, suc, ◌+◌, ◌-◌, ◌<◌, ◌≤◌, Bool, true, false, cond, not, List, [], ◌∷◌, ◌++◌, length, drop, take, get_or, map, filter, None, Some, refl, sym, ◌∙◌, ap, subst, arith, length-append}
 use Rattle.std.specs.Prelude.{◌==◌, ◌&&◌, ◌||◌, All, slice_get, unwrap_or}
 use Rattle.std.specs.List.{flat_map, list_all}
-use Rattle.std.specs.declared.option.Option.{Option}
-use Rattle.std.proofs.lemmas.List.Elements.{All-push, All-weaker}
-use Rattle.sg_facts.specs.Facts.{Fun, fun_at, no_fun}
+use Rattle.std.proofs.lemmas.List.{take_all}
+use Rattle.std.proofs.lemmas.List.Elements.{All-drop, All-push, All-weaker}
+use Rattle.sg_facts.specs.Facts.{Fun, fun_at, fun_of_shape, no_fun}
+use Rattle.sg_facts.specs.declared.shape.FunShape.{FunShape}
 use Rattle.sg_facts.specs.Interface.{has_pair}
 use Rattle.sg_facts.specs.Inside.Walking.{first_spot, next_spot}
 use Rattle.sg_facts.specs.Walks.{Spot}
@@ -105,6 +106,26 @@ funs_rest funs (suc k) f rest low is =
     let next : suc k ≡ suc k + 1 - 1 = omega arith in
     subst (λ m. drop m funs ≡ rest) next (rest_dropped funs k f rest (subst (λ m. drop m funs ≡ f ∷ rest) same is))
 
+split : {A : Type 0} (xs : List A) (d : A) → 1 ≤ length xs → xs ≡ get_or xs 0 d ∷ drop 1 xs
+split [] d low = absurd (omega (arith, low))
+split (x ∷ xs) d low = refl
+
+-- a slice without its first element
+pub rest_of : {A : Type 0} (xs : List A) → take (length xs - 1) (drop 1 xs) ≡ drop 1 xs
+rest_of [] = refl
+rest_of (x ∷ xs) = take_all (length (x ∷ xs) - 1) xs (omega arith)
+
+pub first_there : (funs : List Fun) (xs : List FunShape) (d : FunShape) (n : ℕ) → 1 ≤ n → drop (n - 1) funs ≡ map fun_of_shape xs → 1 ≤ length xs → fun_at funs n ≡ fun_of_shape (get_or xs 0 d)
+first_there funs xs d n low is some = fun_first funs n (fun_of_shape (get_or xs 0 d)) (map fun_of_shape (drop 1 xs)) low (is ∙ ap (map fun_of_shape) (split xs d some))
+
+rest_there_all : (funs : List Fun) (xs : List FunShape) (d : FunShape) (n : ℕ) → 1 ≤ n → drop (n - 1) funs ≡ map fun_of_shape xs → 1 ≤ length xs → drop (n + 1 - 1) funs ≡ map fun_of_shape (drop 1 xs)
+rest_there_all funs xs d n low is some = funs_rest funs n (fun_of_shape (get_or xs 0 d)) (map fun_of_shape (drop 1 xs)) low (is ∙ ap (map fun_of_shape) (split xs d some))
+
+pub rest_there : (funs : List Fun) (xs : List FunShape) (n : ℕ) → 1 ≤ n → drop (n - 1) funs ≡ map fun_of_shape xs → 1 ≤ length xs
+    → drop (n + 1 - 1) funs ≡ map fun_of_shape (take (length xs - 1) (drop 1 xs))
+rest_there funs [] n low is some = absurd (omega (arith, some))
+rest_there funs (x ∷ xs) n low is some = rest_there_all funs (x ∷ xs) x n low is some ∙ ap (map fun_of_shape) (sym (rest_of (x ∷ xs)))
+
 -- ---- spots
 
 begin_at : (d : Described) (n : ℕ) (funs : List Fun) (old : List Spot) (makes : Bool)
@@ -147,6 +168,20 @@ pub nexts_more : (d : Described) (s : Spot) (from old mid new : List Spot) → m
     → new ≡ add_spots old (flat_map (nexts d) (s ∷ from))
 nexts_more d s from old mid new one rest = rest ∙ ap (λ l. add_spots l (flat_map (nexts d) from)) one ∙ sym (add_both old (nexts d s) (flat_map (nexts d) from))
 
+pub nexts_all : (d : Described) (xs : List Reached) (x : Reached) (old mid new : List Spot) → 1 ≤ length xs → x ≡ get_or xs 0 x → mid ≡ add_spots old (nexts d (place_in d x))
+    → new ≡ add_spots mid (flat_map (nexts d) (map (place_in d) (take (length xs - 1) (drop 1 xs)))) → new ≡ add_spots old (flat_map (nexts d) (map (place_in d) xs))
+nexts_all d [] x old mid new some is one rest = absurd (omega (arith, some))
+nexts_all d (y ∷ ys) x old mid new some is one rest =
+    nexts_more d (place_in d y) (map (place_in d) ys) old mid new (one ∙ ap (λ (z : Reached). add_spots old (nexts d (place_in d z))) is)
+    (rest ∙ ap (λ l. add_spots mid (flat_map (nexts d) (map (place_in d) l))) (rest_of (y ∷ ys)))
+
+pub step_no : (d : Described) (old : List Spot) (s : Spot) (p : ℕ × ℕ) (b : Bool) → b ≡ is_step d s p → b ≡ false → old ≡ add_step d old s p
+step_no d old s p b is isn't = ap (λ v. cond v (add_unlost d old (next_spot d.facts p.1 s)) old) (sym isn't ∙ is)
+
+pub step_yes : (d : Described) (old new : List Spot) (s next : Spot) (p : ℕ × ℕ) (b : Bool) → b ≡ is_step d s p → b ≡ true → next ≡ next_spot d.facts p.1 s → new ≡ add_unlost d old next → new ≡ add_step d old s p
+step_yes d old new s next p b is so place one =
+    one ∙ ap (add_unlost d old) place ∙ ap (λ v. cond v (add_unlost d old (next_spot d.facts p.1 s)) old) (sym so ∙ is)
+
 -- after one call more
 pub spots_more : (d : Described) (calls : ℕ) (found all : List Spot) → 1 ≤ calls → found ≡ spots_within d (calls - 1) → all ≡ add_spots found (flat_map (nexts d) found)
     → all ≡ spots_within d (calls + 1 - 1)
@@ -163,3 +198,6 @@ spots_last d calls found last is = is ∙ ap (λ n. spots_within d (n - 1)) last
 
 pub reached_push : (d : Described) (calls : ℕ) (found : List Reached) (r : Reached) → IsReached d calls r → All (IsReached d calls) found → All (IsReached d calls) (found ++ r ∷ [])
 reached_push d calls found r reached all = All-push (IsReached d calls) found r all reached
+
+pub all_rest : (P : Reached → Type 0) (xs : List Reached) → All P xs → All P (take (length xs - 1) (drop 1 xs))
+all_rest P xs all = subst (All P) (sym (rest_of xs)) (All-drop P 1 xs all)

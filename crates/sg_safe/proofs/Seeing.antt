@@ -1,26 +1,29 @@
 -- What the code holds is what is known.
-use Rattle.std.proofs.Common.{◌≡◌, ℕ, zero, suc, ◌+◌, ◌<◌, ◌≤◌, Bool, List, [], ◌∷◌, length, map, None, Some, refl, sym, ◌∙◌, ap, arith}
+use Rattle.std.proofs.Common.{◌≡◌, ℕ, zero, suc, ◌+◌, Bool, false, cond, List, [], ◌∷◌, length, map, None, Some, refl, sym, ◌∙◌, ap, arith}
 use Rattle.std.proofs.Math.Path.{fun_ext}
 use Rattle.sg_facts.specs.declared.shape.Effect.{Effect}
 use Rattle.sg_facts.specs.declared.shape.Effect.TheVariants.{SetCaller, SetArg, AddArg, SetRet, AddRet, Clear, SubOne, SubRet}
+use Rattle.std.specs.Option.{option_or}
 use Rattle.std.specs.declared.option.Option.{Option}
 use Rattle.sg_facts.specs.Facts.{fun_at}
+use Rattle.sg_facts.specs.Inside.Walking.{next_spot}
 use Rattle.sg_facts.specs.Walks.{FieldMark, Spot as Place, effect_on}
 use Rattle.sg_walk.specs.declared.spot.FieldState.{FieldState}
 use Rattle.sg_walk.specs.declared.spot.FieldState.TheVariants.{Unset, Good, Unknown}
 use Rattle.sg_walk.specs.Marks.{known_of}
 use Rattle.sg_described.specs.declared.bounds.Bounds.{Bounds}
-use Rattle.sg_described.specs.Described.{Described}
-use Rattle.sg_described.specs.Known.{Known, between, bounds_after, greatest}
+use Rattle.sg_described.specs.Described.{Described, Rule, rules_at}
+use Rattle.sg_described.specs.Known.{Known, between, bounds_after, greatest, word_most}
 use Rattle.sg_described.specs.Meaning.{last_word, most_at}
 use Rattle.sg_described.specs.NeverZero.{is_never_zero}
 use Rattle.sg_described.specs.Waiting.{known_after, known_of_all}
-use Rattle.sg_described.specs.Walking.{arg_known, bounds_at, carrier, field_known, known_at, mark_at}
+use Rattle.sg_described.specs.Walking.{arg_known, bounds_at, carrier, field_known, is_lost, known_at, mark_at}
 use Rattle.sg_known.specs.Seen.{carried_in, fields_in}
 use Rattle.sg_safe.specs.declared.reason.KnownField.{KnownField}
-use Rattle.sg_safe.specs.Inside.Replays.{fields_from, spots_from}
+use Rattle.sg_safe.specs.declared.reason.Obstacle.{Obstacle}
+use Rattle.sg_safe.specs.Inside.Replays.{clients_at, fields_from, past_at, spots_from, stops_at}
 use Rattle.sg_safe.specs.Inside.Seen.{bounds_left}
-use Rattle.sg_safe.specs.Reasons.{known_fields, shown_mark}
+use Rattle.sg_safe.specs.Reasons.{known_fields, no_client, obstacle_at, past_most, shown_mark, stopping_rule}
 
 -- ---- of any call on any row
 
@@ -92,13 +95,37 @@ marked_at d s x =
     let n : 0 + x ≡ x = omega arith in
     marked_from d s.state 0 s.marks x ∙ ap (λ y. bounds_at (mark_at s.marks x) (is_never_zero d.facts s.state y) (most_at (greatest d) y)) n
 
-pub spot_seen : (d : Described) (fun : ℕ) (s : Place) (effects : List (ℕ × Effect)) (most : List ℕ) (fields : List Bounds)
+spot_seen_there : (d : Described) (fun : ℕ) (s : Place) (effects : List (ℕ × Effect)) (most : List ℕ) (fields : List Bounds)
     → effects ≡ (fun_at d.facts.funs fun).effects → most ≡ greatest d → fields ≡ fields_from d s.state 0 s.marks
     → (let k : Known = record { args = λ a. carried_in most (carrier effects a); state = between s.state s.state; fields = fields_in fields } in k) ≡ known_at d fun s
-spot_seen d fun s effects most fields effects_are most_is fields_are =
+spot_seen_there d fun s effects most fields effects_are most_is fields_are =
     ap (λ es. let k : Known = record { args = λ a. carried_in most (carrier es a); state = between s.state s.state; fields = fields_in fields } in k) effects_are
     ∙ ap (λ ms. let k : Known = record { args = λ a. carried_in ms (carrier (fun_at d.facts.funs fun).effects a); state = between s.state s.state; fields = fields_in fields } in k) most_is
     ∙ ap (λ (f : ℕ → Bounds). let k : Known = record { args = arg_known d fun; state = between s.state s.state; fields = f } in k) (ap fields_in fields_are ∙ fun_ext (marked_at d s))
+
+pub spot_seen : (d : Described) (fun : ℕ) (s : Place) (effects : List (ℕ × Effect)) (most : List ℕ) (fields : List Bounds) (low high : ℕ)
+    → effects ≡ (fun_at d.facts.funs fun).effects → most ≡ greatest d → fields ≡ fields_from d s.state 0 s.marks → low ≡ s.state → high ≡ s.state
+    → (let k : Known = record { args = λ a. carried_in most (carrier effects a); state = between low high; fields = fields_in fields } in k) ≡ known_at d fun s
+spot_seen d fun s effects most fields low high effects_are most_is fields_are low_is high_is =
+    ap (λ n. let k : Known = record { args = λ a. carried_in most (carrier effects a); state = between n high; fields = fields_in fields } in k) low_is
+    ∙ ap (λ n. let k : Known = record { args = λ a. carried_in most (carrier effects a); state = between s.state n; fields = fields_in fields } in k) high_is
+    ∙ spot_seen_there d fun s effects most fields effects_are most_is fields_are
+
+-- what may make a call fail there
+pub obstacle_is : (d : Described) (fun : ℕ) (s : Place) (k : Known) (es : List (ℕ × Effect)) (rules : List Rule) (state word : ℕ) (a b c bc abc : Option Obstacle) (lost : Bool)
+    → lost ≡ is_lost d (next_spot d.facts fun s) → lost ≡ false → k ≡ known_at d fun s → es ≡ (fun_at d.facts.funs fun).effects → rules ≡ rules_at d fun
+    → state ≡ (next_spot d.facts fun s).state → word ≡ word_most k rules → a ≡ clients_at d state es → b ≡ stops_at k 1 rules → c ≡ past_at d k word es
+    → bc ≡ option_or b c → abc ≡ option_or a bc → abc ≡ obstacle_at d fun s
+obstacle_is d fun s k es rules state word a b c bc abc lost lost_is isn't k_is es_is rules_are state_is word_is a_is b_is c_is bc_is abc_is =
+    let one : a ≡ no_client d fun s = a_is ∙ ap (λ n. clients_at d n es) state_is ∙ ap (λ l. clients_at d (next_spot d.facts fun s).state l) es_is in
+    let two : b ≡ stopping_rule d fun s = b_is ∙ ap (λ q. stops_at q 1 rules) k_is ∙ ap (λ l. stops_at (known_at d fun s) 1 l) rules_are in
+    let three : c ≡ past_most d fun s =
+    c_is ∙ ap (λ n. past_at d k n es) word_is ∙ ap (λ q. past_at d q (word_most q rules) es) k_is
+    ∙ ap (λ l. past_at d (known_at d fun s) (word_most (known_at d fun s) l) es) rules_are
+    ∙ ap (λ l. past_at d (known_at d fun s) (word_most (known_at d fun s) (rules_at d fun)) l) es_is in
+    abc_is ∙ ap (λ o. option_or a o) (bc_is ∙ ap (λ o. option_or o c) two ∙ ap (λ o. option_or (stopping_rule d fun s) o) three)
+    ∙ ap (λ o. option_or o (option_or (stopping_rule d fun s) (past_most d fun s))) one
+    ∙ ap (λ l. cond l None (option_or (no_client d fun s) (option_or (stopping_rule d fun s) (past_most d fun s)))) (sym isn't ∙ lost_is)
 
 -- ---- what is told of a spot
 

@@ -1,10 +1,9 @@
 -- Why a described service can't be recovered: the first reason, of those that there are.
-use Rattle.std.specs.Prelude.{ℕ, ◌≡◌, zero, suc, ◌-◌, ◌==◌, ◌&&◌, Bool, true, false, not, if◌then◌else◌, List, [], ◌∷◌, None, Some, take}
+use Rattle.std.specs.Prelude.{ℕ, ◌≡◌, suc, ◌-◌, ◌&&◌, Bool, false, not, if◌then◌else◌, List, [], ◌∷◌, None, Some, take}
 use Rattle.std.specs.Bool.{then_some}
 use Rattle.std.specs.List.{list_all}
 use Rattle.std.specs.Option.{option_map, option_or}
 use Rattle.std.specs.declared.option.Option.{Option}
-use Rattle.sg_facts.specs.declared.shape.Effect.{Effect}
 use Rattle.sg_facts.specs.Allowed.{is_replayed}
 use Rattle.sg_facts.specs.Counted.{is_counted}
 use Rattle.sg_facts.specs.Facts.{Fun, fun_at}

@@ -41,7 +41,7 @@ fn unsafe_at(alloc: Global, description: &Description) -> Result<Option<Unsafe>,
 {
     match miscounted(description) {
         Some(reason) => Ok(Some(reason)),
-        None => unsafe_by(alloc, &surveyed(alloc, description)?),
+        None => Ok(unsafe_by(alloc, &surveyed(alloc, description)?)?),
     }
 }
 
@@ -64,9 +64,10 @@ fn unsafe_by(alloc: Global, survey: &Survey<'_>) -> Result<Option<Unsafe>, NoMem
     requires few { length (subject_of survey.now).facts.funs ≤ most_funs }
     ensures { let d = subject_of survey.now in IfOk result (IsFound d (option_or (waits_in d) (fails_in d))) }
 {
-    match first_overtaken(alloc, survey, 1, survey.description.shape.funs)? {
+    let description = survey.description;
+    match first_overtaken(alloc, survey, 1, description.shape.funs)? {
         Some(reason) => Ok(Some(reason)),
-        None => failing_by(alloc, survey),
+        None => Ok(failing_by(alloc, survey)?),
     }
 }
 
@@ -77,14 +78,15 @@ fn failing_by(alloc: Global, survey: &Survey<'_>) -> Result<Option<Unsafe>, NoMe
     requires few { length (subject_of survey.now).facts.funs ≤ most_funs }
     ensures { let d = subject_of survey.now in IfOk result (IsFound d (fails_in d)) }
 {
-    match first_failure(alloc, survey, 1, survey.description.shape.funs)? {
+    let description = survey.description;
+    match first_failure(alloc, survey, 1, description.shape.funs)? {
         Some(call) => Ok(Some(Unsafe::Fails {
             walk: Walk::new(),
             call,
         })),
         None => {
-            let reached = all_spots(alloc, survey.description)?;
-            next_failure(alloc, survey, reached.as_slice())
+            let reached = all_spots(alloc, description)?;
+            Ok(next_failure(alloc, survey, reached.as_slice())?)
         }
     }
 }

@@ -8,6 +8,7 @@ ghost use Rattle.sg_facts.specs.Facts.{facts_of, fun_of_shape};
 ghost use Rattle.sg_described.specs.Described.{described_of};
 ghost use Rattle.sg_described.specs.Safe.{adds};
 ghost use Rattle.sg_known.specs.Seen.{pairs_of};
+ghost use Rattle.sg_safe.specs.Inside.Seen.{pairs_in};
 ghost use Rattle.sg_safe.specs.Reasons.{counts_far, first_from, first_in, recounts};
 
 use crate::reason::Unsafe;
@@ -95,7 +96,7 @@ fn first_added(shape: &Shape, fun: u8, effects: &[(u8, Effect)]) -> Option<Unsaf
 
 // Whether a function is a recover step.
 fn steps_to(steps: &[(u8, u8)], fun: u8) -> bool
-    ensures { result ≡ list_any (λ s. s.1 == fun) (map (λ p. (p.0, p.1)) steps.now) }
+    ensures { result ≡ list_any (λ s. s.1 == fun) (pairs_in steps.now) }
 {
     match steps {
         [] => false,

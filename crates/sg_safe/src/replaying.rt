@@ -15,7 +15,7 @@ ghost use Rattle.sg_safe.specs.Reasons.{but_walk, failing, fails_at, fails_by, f
 ghost use Rattle.sg_walk.specs.Marks.{known_of};
 
 use crate::reason::{FailingCall, KnownField, KnownSpot, Obstacle, Unsafe};
-use crate::spots::{Reached, blank_spot, loses, spot_after, steps_from};
+use crate::spots::{Reached, blank_spot, loses, marks_of, spot_after, steps_from};
 use sg_described::{Bounds, RuleShape};
 use sg_facts::{Effect, FunShape, LAST_CLIENT, ListOf, NoMemory};
 use sg_known::{
@@ -75,12 +75,13 @@ fn seen_at<'a>(
     requires fields { HasFewFields (subject_of survey.now) }
     ensures { let d = subject_of survey.now in IfOk result (λ seen. known_in seen ≡ known_at d fun (shown d spot)) }
 {
-    let count = survey.description.shape.fields.len();
+    let description = survey.description;
+    let marks = marks_of(description, &spot);
     let mut fields = Vec::new(alloc);
-    add_bounds(&mut fields, survey, spot.state, 0, &spot.marks[..count])?;
+    add_bounds(&mut fields, survey, spot.state, 0, marks)?;
     Ok(Seen {
         args: ArgsKnown::Carried(
-            survey.description.shape.fun(fun).effects,
+            description.shape.fun(fun).effects,
             survey.greatest.as_slice(),
         ),
         state: Bounds {
@@ -127,15 +128,10 @@ fn known_of_spot(
     requires known { fields_in fields.now ≡ field_known (subject_of survey.now) (shown (subject_of survey.now) spot) }
     ensures { let d = subject_of survey.now in IfOk result (λ known. known ≡ known_spot d (shown d spot)) }
 {
-    let count = survey.description.shape.fields.len();
+    let description = survey.description;
+    let marks = marks_of(description, &spot);
     let mut known = ListOf::new(alloc);
-    add_known(
-        &mut known,
-        fields,
-        survey.greatest.as_slice(),
-        0,
-        &spot.marks[..count],
-    )?;
+    add_known(&mut known, fields, survey.greatest.as_slice(), 0, marks)?;
     Ok(KnownSpot {
         state: spot.state,
         fields: known,
@@ -228,7 +224,8 @@ fn first_past(
         [(field, effect), rest @ ..] => {
             let old = field_bounds(seen.fields.as_slice(), *field).most;
             let own = bounds_up_to(survey.greatest.as_slice(), *field).most;
-            let most = bounds_up_to(survey.description.most, *field).most;
+            let description = survey.description;
+            let most = bounds_up_to(description.most, *field).most;
             if fits(*effect, old, own, word, most) {
                 first_past(survey, seen, word, rest)
             } else {
@@ -342,7 +339,7 @@ fn step_failure(
     if !steps_from(survey.description, spot, pair) {
         return Ok(None);
     }
-    failure_at(alloc, survey, pair.1, spot)
+    Ok(failure_at(alloc, survey, pair.1, spot)?)
 }
 
 // The first next call that may fail, of a walk that goes on from a spot by one of some pairs.
@@ -382,8 +379,8 @@ pub(crate) fn next_failure(
     match reached {
         [] => Ok(None),
         [first, rest @ ..] => {
-            let steps = survey.description.shape.steps;
-            match steps_failure(alloc, survey, first.spot, steps)? {
+            let description = survey.description;
+            match steps_failure(alloc, survey, first.spot, description.shape.steps)? {
                 Some(call) => Ok(Some(Unsafe::Fails {
                     walk: first.walk,
                     call,

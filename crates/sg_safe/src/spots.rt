@@ -37,6 +37,15 @@ fn count(description: &Description) -> usize
     description.shape.fields.len()
 }
 
+/// The marks of the fields that there are.
+pub(crate) fn marks_of<'a>(description: &Description, spot: &'a Spot) -> &'a [FieldState]
+    requires { HasFewFields (described_of description.now) }
+    ensures marks { map known_of result.now ≡ (shown (described_of description.now) spot.now).marks }
+    ensures count { length result.now ≤ length (described_of description.now).facts.fields }
+{
+    &spot.marks[..count(description)]
+}
+
 /// Where a walk stands before its first call.
 pub(crate) fn blank_spot(description: &Description, fun: u8) -> Spot
     requires { HasFewFields (described_of description.now) }

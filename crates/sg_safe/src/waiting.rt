@@ -57,11 +57,12 @@ fn seen_where<'a>(
     ensures known { IfOk result (λ seen. known_in seen ≡ known_where (subject_of survey.now) (rule_of rule.now)) }
     ensures count { IfOk result (λ seen. vec_len seen.fields ≡ vec_len survey.now.greatest) }
 {
+    let description = survey.description;
     let mut seen = Seen {
         args: ArgsKnown::Any,
         state: Bounds {
             least: 0,
-            most: survey.description.shape.funs.len() as u64,
+            most: description.shape.funs.len() as u64,
         },
         fields: all_up_to(alloc, survey.greatest.as_slice())?,
     };
@@ -101,10 +102,11 @@ fn seen_after<'a>(
     requires few { vec_len survey.now.greatest < 2 ^ 8 }
     ensures { IfOk result (λ after. known_in after ≡ known_after (subject_of survey.now) fun (known_in seen.now)) }
 {
+    let description = survey.description;
     let mut fields = Vec::new(alloc);
     add_after(
         &mut fields,
-        survey.description.shape.fun(fun).effects,
+        description.shape.fun(fun).effects,
         0,
         seen.fields.as_slice(),
         survey.greatest.as_slice(),
@@ -127,9 +129,10 @@ fn goes_on(
     requires survey { IsSurvey survey.now }
     requires count { vec_len seen.now.fields ≡ vec_len survey.now.greatest }
     requires few { vec_len survey.now.greatest < 2 ^ 8 }
-    ensures { IfOk result (λ b. b ≡ waits_on (subject_of survey.now) fun (map rule_of wait.before.now) (rule_of wait.rule.now) (known_in seen.now)) }
+    ensures { IfOk result (λ b. b ≡ waits_on (subject_of survey.now) fun (map rule_of wait.entry.before.now) (rule_of wait.entry.rule.now) (known_in seen.now)) }
 {
-    let effects = survey.description.shape.fun(fun).effects;
+    let description = survey.description;
+    let effects = description.shape.fun(fun).effects;
     if !all_keep_out(effects, wait.before) {
         return Ok(false);
     }
@@ -208,7 +211,7 @@ fn leaves(
     requires known { known_in seen.now ≡ known_where (subject_of survey.now) (rule_of wait.rule.now) }
     requires count { vec_len seen.now.fields ≡ vec_len survey.now.greatest }
     requires few { vec_len survey.now.greatest < 2 ^ 8 }
-    ensures { IfOk result (λ b. b ≡ leaves_waiting (subject_of survey.now) wait.waiter (map rule_of wait.before.now) (rule_of wait.rule.now) number (fun_of_shape fun.now)) }
+    ensures { IfOk result (λ b. b ≡ leaves_waiting (subject_of survey.now) wait.entry.waiter (map rule_of wait.entry.before.now) (rule_of wait.entry.rule.now) number (fun_of_shape fun.now)) }
 {
     let description = survey.description;
     let moves = description.shape.moves;
@@ -223,7 +226,7 @@ fn leaves(
     if !keeps(description, wait.waiter, number, seen.state, moves) {
         return Ok(false);
     }
-    goes_on(alloc, survey, wait, seen, number)
+    Ok(goes_on(alloc, survey, wait, seen, number)?)
 }
 
 // The first function that may let pass who waits by a rule, numbered from one on.
@@ -241,7 +244,7 @@ fn passed_by(
     requires count { vec_len seen.now.fields ≡ vec_len survey.now.greatest }
     requires few { vec_len survey.now.greatest < 2 ^ 8 }
     requires numbers { number + length funs.now < 2 ^ 8 }
-    ensures { IfOk result (λ found. found ≡ first_from (overtaken_by (subject_of survey.now) wait.waiter wait.number (rule_of wait.rule.now)) number (map fun_of_shape funs.now)) }
+    ensures { IfOk result (λ found. found ≡ first_from (overtaken_by (subject_of survey.now) wait.entry.waiter wait.entry.number (rule_of wait.entry.rule.now)) number (map fun_of_shape funs.now)) }
 {
     match funs {
         [] => Ok(None),
@@ -269,14 +272,14 @@ fn overtaken_by_rule(
     requires before { map rule_of wait.before.now ≡ take (wait.number - 1) (rules_at (subject_of survey.now) wait.waiter) }
     requires few { vec_len survey.now.greatest < 2 ^ 8 }
     requires numbers { length (subject_of survey.now).facts.funs < 2 ^ 7 }
-    ensures { IfOk result (λ found. found ≡ overtaken_at (subject_of survey.now) wait.waiter wait.number (rule_of wait.rule.now)) }
+    ensures { IfOk result (λ found. found ≡ overtaken_at (subject_of survey.now) wait.entry.waiter wait.entry.number (rule_of wait.entry.rule.now)) }
 {
     if !waits(wait.rule.verdict) {
         return Ok(None);
     }
     let seen = seen_where(alloc, survey, wait.rule)?;
-    let funs = survey.description.shape.funs;
-    passed_by(alloc, survey, wait, &seen, 1, funs)
+    let description = survey.description;
+    passed_by(alloc, survey, wait, &seen, 1, description.shape.funs)
 }
 
 // Who may be let pass that waits for a function, by its rules from a place on.
@@ -305,7 +308,7 @@ fn overtaken_at_rules(
             };
             match overtaken_by_rule(alloc, survey, wait)? {
                 Some(found) => Ok(Some(found)),
-                None => overtaken_at_rules(alloc, survey, waiter, rules, at + 1),
+                None => Ok(overtaken_at_rules(alloc, survey, waiter, rules, at + 1)?),
             }
         }
     }
@@ -327,7 +330,8 @@ pub(crate) fn first_overtaken(
     match funs {
         [] => Ok(None),
         [_, rest @ ..] => {
-            let rules = survey.description.rules(number);
+            let description = survey.description;
+            let rules = description.rules(number);
             match overtaken_at_rules(alloc, survey, number, rules, 0)? {
                 Some(found) => Ok(Some(found)),
                 None => first_overtaken(alloc, survey, number + 1, rest),

@@ -1,5 +1,5 @@
 -- What is found of replayed calls.
-use Rattle.std.specs.Prelude.{ℕ, ◌≡◌, suc, Bool, not, nat_le, List, [], ◌∷◌, None, Some}
+use Rattle.std.specs.Prelude.{ℕ, ◌≡◌, suc, not, nat_le, List, [], ◌∷◌, None, Some}
 use Rattle.std.specs.Bool.{then_some}
 use Rattle.std.specs.declared.option.Option.{Option}
 use Rattle.sg_facts.specs.declared.shape.Effect.{Effect}
