@@ -8,6 +8,7 @@ ghost use Rattle.sg_check_statements.specs.Params.{has_word};
 ghost use Rattle.sg_facts.specs.declared.shape.Effect.TheVariants.{SetArg, AddArg};
 
 use crate::change::Change;
+use crate::judge::Statements;
 use crate::params::has_word;
 use sg_parse::{Param, Ret, Statement};
 
@@ -23,11 +24,11 @@ pub trait Test {
 
 /// A prototype, with the statements beside it.
 #[derive(Clone, Copy)]
-pub struct Proto<'a> {
-    pub statements: &'a [Statement<'a>],
-    pub name: &'a [u8],
-    pub ret: &'a Ret<'a>,
-    pub params: &'a [Param<'a>],
+pub struct Proto<'p, 's, 't, 'a> {
+    pub statements: &'p Statements<'s, 't>,
+    pub name: &'p [u8],
+    pub ret: &'p Ret<'a>,
+    pub params: &'p [Param<'a>],
 }
 
 /// Whether some effect that is declared for a function passes.
@@ -46,7 +47,7 @@ fn any_by_parts<T: Test>(test: &T, proto: &Proto) -> bool
 {
     any_by_params(test, proto.params)
         || any_by_ret(test, proto.ret)
-        || any_by_statements(test, proto.name, proto.statements)
+        || any_by_statements(test, proto.name, proto.statements.all())
 }
 
 // Whether some effect that parameters declare passes.

@@ -1,5 +1,7 @@
 // Whether the effects of a function are declared as the service has them.
-ghost use Rattle.std.specs.Prelude.{◌≡◌, ◌&&◌, Some, MatchOption};
+ghost use Rattle.std.specs.Prelude.{◌≡◌, ◌&&◌, not, Some, MatchOption};
+ghost use Rattle.std.specs.Bool.{then_some};
+ghost use Rattle.sg_check_statements.specs.Flaws.{fun_of_name};
 ghost use Rattle.sg_check_statements.specs.Faults.{IsFirstStatement};
 ghost use Rattle.sg_check_statements.specs.Inside.Pieces.{NoStatement, wrong_effect, service_effects};
 ghost use Rattle.std.specs.List.{list_any, list_all};
@@ -12,38 +14,52 @@ ghost use Rattle.sg_check_statements.specs.Effects.{declared_effects, same_effec
 use crate::change::Change;
 use crate::declared::{Proto, Test, any_declared};
 use crate::funs::fun_of_name;
-use crate::judge::{Judge, first_flaw};
+use crate::judge::{Judge, Statements, first_flaw};
 use sg_facts::{Effect, FunShape, Shape, field_name};
-use sg_parse::Statement;
+use sg_parse::{Param, Ret, Spelled, Statement};
 
 /// Looks for prototypes of functions whose effects are declared otherwise.
 #[derive(Clone, Copy)]
-pub struct Effects<'a> {
-    pub shape: &'a Shape,
-    pub statements: &'a [Statement<'a>],
+pub struct Effects<'p, 's, 'a> {
+    pub shape: &'p Shape,
+    pub statements: &'p Statements<'s, 'a>,
 }
 
-impl Judge for Effects<'_> {
+impl Judge for Effects<'_, '_, '_> {
     ghost flaw = { λ j s. wrong_effect (facts_of j.shape.now) j.statements.now s };
 
     fn flaw_in(&self, statement: &Statement) -> Option<usize> {
         match statement {
             Statement::Proto { ret, name, params } => {
-                let fun = fun_of_name(self.shape, name.slice);
-                let proto = Proto {
-                    statements: self.statements,
-                    name: name.slice,
-                    ret,
-                    params: params.as_slice(),
-                };
-                if fit_effects(self.shape, &fun, &proto) {
-                    None
-                } else {
-                    Some(name.at)
-                }
+                flaw_of(self.shape, self.statements, ret, name, params.as_slice())
             }
             _ => None,
         }
+    }
+}
+
+// The place of a prototype's name, where the effects of the function are declared otherwise.
+fn flaw_of<'a>(
+    shape: &Shape,
+    statements: &Statements,
+    ret: &Ret<'a>,
+    name: &Spelled<'a>,
+    params: &[Param<'a>],
+) -> Option<usize>
+    ensures { result ≡ then_some (not (same_effects (declared_effects statements.now name.now.bytes ret.now params.now)
+        (service_effects (facts_of shape.now) (fun_of_name (facts_of shape.now) name.now.bytes)))) name.now.at }
+{
+    let fun = fun_of_name(shape, name.slice);
+    let proto = Proto {
+        statements,
+        name: name.slice,
+        ret,
+        params,
+    };
+    if fit_effects(shape, &fun, &proto) {
+        None
+    } else {
+        Some(name.at)
     }
 }
 
@@ -53,7 +69,14 @@ pub fn wrong_effect_in(shape: &Shape, statements: &[Statement]) -> Option<usize>
         (NoStatement (λ before s p. wrong_effect (facts_of shape.now) statements.now s ≡ Some p) statements.now)
         (IsFirstStatement (λ before s p. wrong_effect (facts_of shape.now) statements.now s ≡ Some p) statements.now) }
 {
-    first_flaw(&Effects { shape, statements }, statements)
+    let all = Statements::new(statements);
+    first_flaw(
+        &Effects {
+            shape,
+            statements: &all,
+        },
+        statements,
+    )
 }
 
 // Whether the effects that are declared are those of the function.

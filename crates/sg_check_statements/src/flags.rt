@@ -8,25 +8,25 @@ ghost use Rattle.sg_check_statements.specs.Inside.Pieces.{NoStatement, wrong_fla
 ghost use Rattle.sg_check_statements.specs.Flaws.{fit_leaves, leaves_another, leaves_some, is_declared};
 
 use crate::funs::fun_of_name;
-use crate::judge::{Judge, first_flaw};
+use crate::judge::{Judge, Statements, first_flaw};
 use crate::said::{says, says_of};
 use sg_facts::{FunShape, Leaves, Shape};
 use sg_parse::Statement;
 
 /// Looks for prototypes of functions whose flags, or whose state, are declared otherwise.
 #[derive(Clone, Copy)]
-pub struct Flags<'a> {
-    pub shape: &'a Shape,
-    pub statements: &'a [Statement<'a>],
+pub struct Flags<'p, 's, 'a> {
+    pub shape: &'p Shape,
+    pub statements: &'p Statements<'s, 'a>,
 }
 
-impl Judge for Flags<'_> {
+impl Judge for Flags<'_, '_, '_> {
     ghost flaw = { λ j s. wrong_flag (facts_of j.shape.now) j.statements.now s };
 
     fn flaw_in(&self, statement: &Statement) -> Option<usize> {
         match statement {
             Statement::Proto { name, .. } => {
-                if is_declared(self.shape, self.statements, name.slice) {
+                if is_declared(self.shape, self.statements.all(), name.slice) {
                     None
                 } else {
                     Some(name.at)
@@ -43,7 +43,14 @@ pub fn wrong_flag_in(shape: &Shape, statements: &[Statement]) -> Option<usize>
         (NoStatement (λ before s p. wrong_flag (facts_of shape.now) statements.now s ≡ Some p) statements.now)
         (IsFirstStatement (λ before s p. wrong_flag (facts_of shape.now) statements.now s ≡ Some p) statements.now) }
 {
-    first_flaw(&Flags { shape, statements }, statements)
+    let all = Statements::new(statements);
+    first_flaw(
+        &Flags {
+            shape,
+            statements: &all,
+        },
+        statements,
+    )
 }
 
 // Whether the flags and the state of the function of a name are declared.

@@ -6,6 +6,7 @@ ghost use Rattle.sg_check_statements.specs.Faults.{IsFirstStatement};
 ghost use Rattle.sg_check_statements.specs.Inside.Pieces.{NoStatement};
 
 use sg_parse::Statement;
+use std::marker::Model;
 
 /// What looks for one kind of flaw in a statement.
 pub trait Judge {
@@ -28,4 +29,35 @@ pub fn first_flaw<J: Judge>(judge: &J, statements: &[Statement]) -> Option<usize
         }
     }
     None
+}
+
+/// The statements of a text, for judges that look at all of them. Contracts see their list.
+#[derive(Drop)]
+pub struct Statements<'s, 'a> {
+    all: &'s [Statement<'a>],
+}
+
+impl<'s, 'a> Model for Statements<'s, 'a> {
+    ghost use Rattle.std.specs.Prelude.{List};
+    ghost use Rattle.sg_parse.specs.declared.tree.Statement.{Statement as One};
+
+    ghost Value = { List One };
+
+    ghost view = { λ s. s.all.now };
+}
+
+impl<'s, 'a> Statements<'s, 'a> {
+    /// These statements.
+    pub fn new(all: &'s [Statement<'a>]) -> Statements<'s, 'a>
+        ensures { result ≡ all.now }
+    {
+        Statements { all }
+    }
+
+    /// All of them.
+    pub fn all(&self) -> &'s [Statement<'a>]
+        ensures { result.now ≡ self.now }
+    {
+        self.all
+    }
 }
