@@ -1,7 +1,8 @@
 // Services that can't be recovered.
-ghost use Rattle.std.specs.Prelude.{◌≤◌, length};
+ghost use Rattle.std.specs.Prelude.{◌≡◌, ◌≤◌, true, length};
 ghost use Rattle.sg_facts.specs.Limits.{most_funs};
 ghost use Rattle.sg_described.specs.Described.{described_of};
+ghost use Rattle.sg_described.specs.Safe.{is_plain};
 
 use crate::parts::{ARGUMENT, DONE, SINGLE};
 use crate::services::{
@@ -34,7 +35,8 @@ static LIMITED_ANSWERS: [AnswerShape; 5] = [
 
 /// Events of which at most 100 are triggered at once: more may have come together when they are rebuilt.
 pub fn limited_event() -> Description
-    ensures { length (described_of result).facts.funs ≤ most_funs }
+    ensures few { length (described_of result).facts.funs ≤ most_funs }
+    ensures plain { is_plain (described_of result) ≡ true }
 {
     Description {
         shape: EVENT_SHAPE,
@@ -60,7 +62,8 @@ static FORGETFUL_FUNS: [FunShape; 4] = [
 
 /// Locks whose release clears the owner, and leaves the state of a lock that is taken.
 pub fn forgetful_lock() -> Description
-    ensures { length (described_of result).facts.funs ≤ most_funs }
+    ensures few { length (described_of result).facts.funs ≤ most_funs }
+    ensures plain { is_plain (described_of result) ≡ true }
 {
     Description {
         shape: Shape {
@@ -89,7 +92,8 @@ static MUTE_FUNS: [FunShape; 4] = [
 
 /// Semaphores whose up is no wake-up.
 pub fn mute_semaphore() -> Description
-    ensures { length (described_of result).facts.funs ≤ most_funs }
+    ensures few { length (described_of result).facts.funs ≤ most_funs }
+    ensures plain { is_plain (described_of result) ≡ true }
 {
     Description {
         shape: Shape {
@@ -130,7 +134,8 @@ static HEAP_ANSWERS: [AnswerShape; 4] = [DONE, DONE, DONE, DONE];
 
 /// Heaps that are made with a count, and to which another is added when they are rebuilt, too.
 pub fn heap() -> Description
-    ensures { length (described_of result).facts.funs ≤ most_funs }
+    ensures few { length (described_of result).facts.funs ≤ most_funs }
+    ensures plain { is_plain (described_of result) ≡ true }
 {
     Description {
         shape: Shape {
@@ -182,7 +187,8 @@ static CRATE_ANSWERS: [AnswerShape; 3] = [
 
 /// Crates that are made with more than they may hold, and emptied when they are rebuilt.
 pub fn crate_overfull() -> Description
-    ensures { length (described_of result).facts.funs ≤ most_funs }
+    ensures few { length (described_of result).facts.funs ≤ most_funs }
+    ensures plain { is_plain (described_of result) ≡ true }
 {
     Description {
         shape: Shape {
@@ -222,7 +228,8 @@ static TALLY_ANSWERS: [AnswerShape; 3] = [DONE, AnswerShape { rules: &TICK_RULES
 
 /// Tallies that may count to the end of their words.
 pub fn tally() -> Description
-    ensures { length (described_of result).facts.funs ≤ most_funs }
+    ensures few { length (described_of result).facts.funs ≤ most_funs }
+    ensures plain { is_plain (described_of result) ≡ true }
 {
     Description {
         shape: Shape {
@@ -257,7 +264,8 @@ static COUNTER_ANSWERS: [AnswerShape; 4] = [DONE, DONE, AnswerShape { rules: &TI
 
 /// Counters that are rebuilt by an addition.
 pub fn counter() -> Description
-    ensures { length (described_of result).facts.funs ≤ most_funs }
+    ensures few { length (described_of result).facts.funs ≤ most_funs }
+    ensures plain { is_plain (described_of result) ≡ true }
 {
     Description {
         shape: Shape {

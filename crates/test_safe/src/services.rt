@@ -1,7 +1,8 @@
 // Services that can be recovered.
-ghost use Rattle.std.specs.Prelude.{◌≤◌, length};
+ghost use Rattle.std.specs.Prelude.{◌≡◌, ◌≤◌, true, length};
 ghost use Rattle.sg_facts.specs.Limits.{most_funs};
 ghost use Rattle.sg_described.specs.Described.{described_of};
+ghost use Rattle.sg_described.specs.Safe.{is_plain};
 
 use crate::parts::{CALLER, DONE, FIELD, SINGLE, WAIT_AT_ZERO, ZERO};
 use sg_described::{AnswerShape, Description, Operand, Relation, RuleShape, Term, Test, Verdict};
@@ -111,7 +112,8 @@ pub(crate) static LOCK_ANSWERS: [AnswerShape; 4] = [
 
 /// Locks.
 pub fn lock() -> Description
-    ensures { length (described_of result).facts.funs ≤ most_funs }
+    ensures few { length (described_of result).facts.funs ≤ most_funs }
+    ensures plain { is_plain (described_of result) ≡ true }
 {
     Description {
         shape: LOCK_SHAPE,
@@ -191,7 +193,8 @@ static EVENT_ANSWERS: [AnswerShape; 5] = [DONE, WAITS, DONE, DONE, GIVES];
 
 /// Events.
 pub fn event() -> Description
-    ensures { length (described_of result).facts.funs ≤ most_funs }
+    ensures few { length (described_of result).facts.funs ≤ most_funs }
+    ensures plain { is_plain (described_of result) ≡ true }
 {
     Description {
         shape: EVENT_SHAPE,
@@ -251,7 +254,8 @@ pub(crate) static SEM_ANSWERS: [AnswerShape; 4] = [DONE, WAITS, DONE, DONE];
 
 /// Semaphores.
 pub fn semaphore() -> Description
-    ensures { length (described_of result).facts.funs ≤ most_funs }
+    ensures few { length (described_of result).facts.funs ≤ most_funs }
+    ensures plain { is_plain (described_of result) ≡ true }
 {
     Description {
         shape: SEM_SHAPE,
