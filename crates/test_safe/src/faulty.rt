@@ -1,7 +1,8 @@
 // Services that can't be recovered.
-ghost use Rattle.std.specs.Prelude.{◌≤◌, length};
+ghost use Rattle.std.specs.Prelude.{◌≡◌, ◌≤◌, true, length};
 ghost use Rattle.sg_facts.specs.Limits.{most_funs};
 ghost use Rattle.sg_described.specs.Described.{described_of};
+ghost use Rattle.sg_described.specs.Safe.{is_plain};
 
 use crate::parts::{ARGUMENT, DONE, SINGLE};
 use crate::services::{
@@ -13,7 +14,7 @@ use sg_facts::{Code, Effect, FunShape, Kind, Leaves, Shape};
 
 // ---- a replayed call that may be refused
 
-static LIMIT_RULES: [RuleShape; 1] = [RuleShape {
+const LIMIT_RULES: &[RuleShape] = &[RuleShape {
     tests: &[Test {
         left: ARGUMENT,
         relation: Relation::Above,
@@ -22,30 +23,29 @@ static LIMIT_RULES: [RuleShape; 1] = [RuleShape {
     verdict: Verdict::Refuse(Code::TooBig),
 }];
 
-static LIMITED_ANSWERS: [AnswerShape; 5] = [
+const LIMITED_ANSWERS: &[AnswerShape] = &[
     DONE,
     WAITS,
-    AnswerShape {
-        rules: &LIMIT_RULES,
-    },
+    AnswerShape { rules: LIMIT_RULES },
     DONE,
     GIVES,
 ];
 
 /// Events of which at most 100 are triggered at once: more may have come together when they are rebuilt.
 pub fn limited_event() -> Description
-    ensures { length (described_of result).facts.funs ≤ most_funs }
+    ensures few { length (described_of result).facts.funs ≤ most_funs }
+    ensures plain { is_plain (described_of result) ≡ true }
 {
     Description {
         shape: EVENT_SHAPE,
         most: &[65535],
-        answers: &LIMITED_ANSWERS,
+        answers: LIMITED_ANSWERS,
     }
 }
 
 // ---- a replayed call without a client
 
-static FORGETFUL_FUNS: [FunShape; 4] = [
+const FORGETFUL_FUNS: &[FunShape] = &[
     LOCK_ALLOC,
     LOCK_TAKE,
     FunShape {
@@ -60,21 +60,22 @@ static FORGETFUL_FUNS: [FunShape; 4] = [
 
 /// Locks whose release clears the owner, and leaves the state of a lock that is taken.
 pub fn forgetful_lock() -> Description
-    ensures { length (described_of result).facts.funs ≤ most_funs }
+    ensures few { length (described_of result).facts.funs ≤ most_funs }
+    ensures plain { is_plain (described_of result) ≡ true }
 {
     Description {
         shape: Shape {
-            funs: &FORGETFUL_FUNS,
+            funs: FORGETFUL_FUNS,
             ..LOCK_SHAPE
         },
         most: &[4294967295],
-        answers: &LOCK_ANSWERS,
+        answers: LOCK_ANSWERS,
     }
 }
 
 // ---- a missed wake-up
 
-static MUTE_FUNS: [FunShape; 4] = [
+const MUTE_FUNS: &[FunShape] = &[
     SEM_MAKE,
     SEM_DOWN,
     FunShape {
@@ -89,21 +90,22 @@ static MUTE_FUNS: [FunShape; 4] = [
 
 /// Semaphores whose up is no wake-up.
 pub fn mute_semaphore() -> Description
-    ensures { length (described_of result).facts.funs ≤ most_funs }
+    ensures few { length (described_of result).facts.funs ≤ most_funs }
+    ensures plain { is_plain (described_of result) ≡ true }
 {
     Description {
         shape: Shape {
-            funs: &MUTE_FUNS,
+            funs: MUTE_FUNS,
             ..SEM_SHAPE
         },
         most: &[65535],
-        answers: &SEM_ANSWERS,
+        answers: SEM_ANSWERS,
     }
 }
 
 // ---- a field past its greatest number
 
-static HEAP_FUNS: [FunShape; 4] = [
+const HEAP_FUNS: &[FunShape] = &[
     SEM_MAKE,
     FunShape {
         name: b"heap_add",
@@ -122,30 +124,31 @@ static HEAP_FUNS: [FunShape; 4] = [
     SEM_FREE,
 ];
 
-static HEAP_MOVES: [(u8, u8); 5] = [(1, 2), (2, 3), (3, 2), (2, 4), (3, 4)];
+const HEAP_MOVES: &[(u8, u8)] = &[(1, 2), (2, 3), (3, 2), (2, 4), (3, 4)];
 
-static HEAP_STEPS: [(u8, u8); 2] = [(1, 2), (2, 3)];
+const HEAP_STEPS: &[(u8, u8)] = &[(1, 2), (2, 3)];
 
-static HEAP_ANSWERS: [AnswerShape; 4] = [DONE, DONE, DONE, DONE];
+const HEAP_ANSWERS: &[AnswerShape] = &[DONE, DONE, DONE, DONE];
 
 /// Heaps that are made with a count, and to which another is added when they are rebuilt, too.
 pub fn heap() -> Description
-    ensures { length (described_of result).facts.funs ≤ most_funs }
+    ensures few { length (described_of result).facts.funs ≤ most_funs }
+    ensures plain { is_plain (described_of result) ≡ true }
 {
     Description {
         shape: Shape {
             name: b"heap",
-            funs: &HEAP_FUNS,
-            moves: &HEAP_MOVES,
-            steps: &HEAP_STEPS,
+            funs: HEAP_FUNS,
+            moves: HEAP_MOVES,
+            steps: HEAP_STEPS,
             ..SINGLE
         },
         most: &[65535],
-        answers: &HEAP_ANSWERS,
+        answers: HEAP_ANSWERS,
     }
 }
 
-static CRATE_FUNS: [FunShape; 3] = [
+const CRATE_FUNS: &[FunShape] = &[
     FunShape {
         name: b"crate_make",
         kinds: &[],
@@ -163,43 +166,38 @@ static CRATE_FUNS: [FunShape; 3] = [
     SEM_FREE,
 ];
 
-static CRATE_MOVES: [(u8, u8); 3] = [(1, 2), (1, 3), (2, 3)];
+const CRATE_MOVES: &[(u8, u8)] = &[(1, 2), (1, 3), (2, 3)];
 
-static CRATE_STEPS: [(u8, u8); 1] = [(1, 2)];
+const CRATE_STEPS: &[(u8, u8)] = &[(1, 2)];
 
-static CRATE_RULES: [RuleShape; 1] = [RuleShape {
+const CRATE_RULES: &[RuleShape] = &[RuleShape {
     tests: &[],
     verdict: Verdict::Give(Term::Only(Operand::Number(70000))),
 }];
 
-static CRATE_ANSWERS: [AnswerShape; 3] = [
-    AnswerShape {
-        rules: &CRATE_RULES,
-    },
-    DONE,
-    DONE,
-];
+const CRATE_ANSWERS: &[AnswerShape] = &[AnswerShape { rules: CRATE_RULES }, DONE, DONE];
 
 /// Crates that are made with more than they may hold, and emptied when they are rebuilt.
 pub fn crate_overfull() -> Description
-    ensures { length (described_of result).facts.funs ≤ most_funs }
+    ensures few { length (described_of result).facts.funs ≤ most_funs }
+    ensures plain { is_plain (described_of result) ≡ true }
 {
     Description {
         shape: Shape {
             name: b"crate",
-            funs: &CRATE_FUNS,
-            moves: &CRATE_MOVES,
-            steps: &CRATE_STEPS,
+            funs: CRATE_FUNS,
+            moves: CRATE_MOVES,
+            steps: CRATE_STEPS,
             ..SINGLE
         },
         most: &[65535],
-        answers: &CRATE_ANSWERS,
+        answers: CRATE_ANSWERS,
     }
 }
 
 // ---- words that count
 
-static TALLY_FUNS: [FunShape; 3] = [
+const TALLY_FUNS: &[FunShape] = &[
     SEM_MAKE,
     FunShape {
         name: b"tally_tick",
@@ -211,32 +209,33 @@ static TALLY_FUNS: [FunShape; 3] = [
     SEM_FREE,
 ];
 
-static TALLY_MOVES: [(u8, u8); 2] = [(1, 2), (1, 3)];
+const TALLY_MOVES: &[(u8, u8)] = &[(1, 2), (1, 3)];
 
-static TICK_RULES: [RuleShape; 1] = [RuleShape {
+const TICK_RULES: &[RuleShape] = &[RuleShape {
     tests: &[],
     verdict: Verdict::Give(Term::Only(Operand::Number(1))),
 }];
 
-static TALLY_ANSWERS: [AnswerShape; 3] = [DONE, AnswerShape { rules: &TICK_RULES }, DONE];
+const TALLY_ANSWERS: &[AnswerShape] = &[DONE, AnswerShape { rules: TICK_RULES }, DONE];
 
 /// Tallies that may count to the end of their words.
 pub fn tally() -> Description
-    ensures { length (described_of result).facts.funs ≤ most_funs }
+    ensures few { length (described_of result).facts.funs ≤ most_funs }
+    ensures plain { is_plain (described_of result) ≡ true }
 {
     Description {
         shape: Shape {
             name: b"tally",
-            funs: &TALLY_FUNS,
-            moves: &TALLY_MOVES,
+            funs: TALLY_FUNS,
+            moves: TALLY_MOVES,
             ..SINGLE
         },
         most: &[18446744073709551615],
-        answers: &TALLY_ANSWERS,
+        answers: TALLY_ANSWERS,
     }
 }
 
-static COUNTER_FUNS: [FunShape; 4] = [
+const COUNTER_FUNS: &[FunShape] = &[
     LOCK_ALLOC,
     SEM_UP,
     FunShape {
@@ -249,25 +248,26 @@ static COUNTER_FUNS: [FunShape; 4] = [
     SEM_FREE,
 ];
 
-static COUNTER_MOVES: [(u8, u8); 3] = [(1, 2), (1, 3), (1, 4)];
+const COUNTER_MOVES: &[(u8, u8)] = &[(1, 2), (1, 3), (1, 4)];
 
-static COUNTER_STEPS: [(u8, u8); 1] = [(1, 2)];
+const COUNTER_STEPS: &[(u8, u8)] = &[(1, 2)];
 
-static COUNTER_ANSWERS: [AnswerShape; 4] = [DONE, DONE, AnswerShape { rules: &TICK_RULES }, DONE];
+const COUNTER_ANSWERS: &[AnswerShape] = &[DONE, DONE, AnswerShape { rules: TICK_RULES }, DONE];
 
 /// Counters that are rebuilt by an addition.
 pub fn counter() -> Description
-    ensures { length (described_of result).facts.funs ≤ most_funs }
+    ensures few { length (described_of result).facts.funs ≤ most_funs }
+    ensures plain { is_plain (described_of result) ≡ true }
 {
     Description {
         shape: Shape {
             name: b"counter",
-            funs: &COUNTER_FUNS,
-            moves: &COUNTER_MOVES,
-            steps: &COUNTER_STEPS,
+            funs: COUNTER_FUNS,
+            moves: COUNTER_MOVES,
+            steps: COUNTER_STEPS,
             ..SINGLE
         },
         most: &[65535],
-        answers: &COUNTER_ANSWERS,
+        answers: COUNTER_ANSWERS,
     }
 }

@@ -28,7 +28,7 @@ pub(crate) const WAIT_AT_ZERO: RuleShape = RuleShape {
 pub(crate) const DONE: AnswerShape = AnswerShape { rules: &[] };
 
 /// A field that counts.
-pub(crate) static COUNT: [FieldShape; 1] = [FieldShape {
+pub(crate) const COUNT: &[FieldShape] = &[FieldShape {
     name: b"count",
     text: false,
 }];
@@ -42,7 +42,7 @@ pub(crate) const SINGLE: Shape = Shape {
     block: false,
     has_data: true,
     resc_data: false,
-    fields: &COUNT,
+    fields: COUNT,
     funs: &[],
     moves: &[],
     steps: &[],

@@ -1,7 +1,8 @@
 // Services that can be recovered.
-ghost use Rattle.std.specs.Prelude.{◌≤◌, length};
+ghost use Rattle.std.specs.Prelude.{◌≡◌, ◌≤◌, true, length};
 ghost use Rattle.sg_facts.specs.Limits.{most_funs};
 ghost use Rattle.sg_described.specs.Described.{described_of};
+ghost use Rattle.sg_described.specs.Safe.{is_plain};
 
 use crate::parts::{CALLER, DONE, FIELD, SINGLE, WAIT_AT_ZERO, ZERO};
 use sg_described::{AnswerShape, Description, Operand, Relation, RuleShape, Term, Test, Verdict};
@@ -9,7 +10,7 @@ use sg_facts::{Code, Effect, FieldShape, FunShape, Kind, Leaves, Shape};
 
 // ---- locks
 
-static OWNER: [FieldShape; 1] = [FieldShape {
+const OWNER: &[FieldShape] = &[FieldShape {
     name: b"owner",
     text: false,
 }];
@@ -46,24 +47,24 @@ pub(crate) const LOCK_FREE: FunShape = FunShape {
     effects: &[],
 };
 
-static LOCK_FUNS: [FunShape; 4] = [LOCK_ALLOC, LOCK_TAKE, LOCK_RELEASE, LOCK_FREE];
+const LOCK_FUNS: &[FunShape] = &[LOCK_ALLOC, LOCK_TAKE, LOCK_RELEASE, LOCK_FREE];
 
-static LOCK_MOVES: [(u8, u8); 5] = [(1, 2), (1, 4), (2, 2), (2, 3), (2, 4)];
+const LOCK_MOVES: &[(u8, u8)] = &[(1, 2), (1, 4), (2, 2), (2, 3), (2, 4)];
 
-static LOCK_STEPS: [(u8, u8); 1] = [(1, 2)];
+const LOCK_STEPS: &[(u8, u8)] = &[(1, 2)];
 
 /// The facts of locks.
 pub(crate) const LOCK_SHAPE: Shape = Shape {
     name: b"lock",
     block: true,
-    fields: &OWNER,
-    funs: &LOCK_FUNS,
-    moves: &LOCK_MOVES,
-    steps: &LOCK_STEPS,
+    fields: OWNER,
+    funs: LOCK_FUNS,
+    moves: LOCK_MOVES,
+    steps: LOCK_STEPS,
     ..SINGLE
 };
 
-static TAKE_RULES: [RuleShape; 2] = [
+const TAKE_RULES: &[RuleShape] = &[
     RuleShape {
         tests: &[Test {
             left: FIELD,
@@ -82,7 +83,7 @@ static TAKE_RULES: [RuleShape; 2] = [
     },
 ];
 
-static RELEASE_RULES: [RuleShape; 1] = [RuleShape {
+const RELEASE_RULES: &[RuleShape] = &[RuleShape {
     tests: &[Test {
         left: FIELD,
         relation: Relation::IsNot,
@@ -91,7 +92,7 @@ static RELEASE_RULES: [RuleShape; 1] = [RuleShape {
     verdict: Verdict::Refuse(Code::NotOwner),
 }];
 
-static FREE_RULES: [RuleShape; 1] = [RuleShape {
+const FREE_RULES: &[RuleShape] = &[RuleShape {
     tests: &[Test {
         left: FIELD,
         relation: Relation::Above,
@@ -100,29 +101,30 @@ static FREE_RULES: [RuleShape; 1] = [RuleShape {
     verdict: Verdict::Refuse(Code::Held),
 }];
 
-pub(crate) static LOCK_ANSWERS: [AnswerShape; 4] = [
+pub(crate) const LOCK_ANSWERS: &[AnswerShape] = &[
     DONE,
-    AnswerShape { rules: &TAKE_RULES },
+    AnswerShape { rules: TAKE_RULES },
     AnswerShape {
-        rules: &RELEASE_RULES,
+        rules: RELEASE_RULES,
     },
-    AnswerShape { rules: &FREE_RULES },
+    AnswerShape { rules: FREE_RULES },
 ];
 
 /// Locks.
 pub fn lock() -> Description
-    ensures { length (described_of result).facts.funs ≤ most_funs }
+    ensures few { length (described_of result).facts.funs ≤ most_funs }
+    ensures plain { is_plain (described_of result) ≡ true }
 {
     Description {
         shape: LOCK_SHAPE,
         most: &[4294967295],
-        answers: &LOCK_ANSWERS,
+        answers: LOCK_ANSWERS,
     }
 }
 
 // ---- events
 
-pub(crate) static EVENT_FUNS: [FunShape; 5] = [
+pub(crate) const EVENT_FUNS: &[FunShape] = &[
     FunShape {
         name: b"evt_split",
         kinds: &[],
@@ -160,43 +162,44 @@ pub(crate) static EVENT_FUNS: [FunShape; 5] = [
     },
 ];
 
-static EVENT_MOVES: [(u8, u8); 4] = [(1, 2), (1, 3), (1, 4), (1, 5)];
+const EVENT_MOVES: &[(u8, u8)] = &[(1, 2), (1, 3), (1, 4), (1, 5)];
 
-static EVENT_STEPS: [(u8, u8); 1] = [(1, 3)];
+const EVENT_STEPS: &[(u8, u8)] = &[(1, 3)];
 
 /// The facts of events.
 pub(crate) const EVENT_SHAPE: Shape = Shape {
     name: b"event",
     block: true,
-    funs: &EVENT_FUNS,
-    moves: &EVENT_MOVES,
-    steps: &EVENT_STEPS,
+    funs: EVENT_FUNS,
+    moves: EVENT_MOVES,
+    steps: EVENT_STEPS,
     ..SINGLE
 };
 
-static WAIT_RULES: [RuleShape; 1] = [WAIT_AT_ZERO];
+const WAIT_RULES: &[RuleShape] = &[WAIT_AT_ZERO];
 
 /// Waits while nothing was triggered.
-pub(crate) const WAITS: AnswerShape = AnswerShape { rules: &WAIT_RULES };
+pub(crate) const WAITS: AnswerShape = AnswerShape { rules: WAIT_RULES };
 
-static GIVE_RULES: [RuleShape; 1] = [RuleShape {
+const GIVE_RULES: &[RuleShape] = &[RuleShape {
     tests: &[],
     verdict: Verdict::Give(Term::Least(Operand::Argument(0), Operand::Own(0))),
 }];
 
 /// Gives what there is, up to the argument.
-pub(crate) const GIVES: AnswerShape = AnswerShape { rules: &GIVE_RULES };
+pub(crate) const GIVES: AnswerShape = AnswerShape { rules: GIVE_RULES };
 
-static EVENT_ANSWERS: [AnswerShape; 5] = [DONE, WAITS, DONE, DONE, GIVES];
+const EVENT_ANSWERS: &[AnswerShape] = &[DONE, WAITS, DONE, DONE, GIVES];
 
 /// Events.
 pub fn event() -> Description
-    ensures { length (described_of result).facts.funs ≤ most_funs }
+    ensures few { length (described_of result).facts.funs ≤ most_funs }
+    ensures plain { is_plain (described_of result) ≡ true }
 {
     Description {
         shape: EVENT_SHAPE,
         most: &[65535],
-        answers: &EVENT_ANSWERS,
+        answers: EVENT_ANSWERS,
     }
 }
 
@@ -234,28 +237,29 @@ pub(crate) const SEM_FREE: FunShape = FunShape {
     effects: &[],
 };
 
-static SEM_FUNS: [FunShape; 4] = [SEM_MAKE, SEM_DOWN, SEM_UP, SEM_FREE];
+const SEM_FUNS: &[FunShape] = &[SEM_MAKE, SEM_DOWN, SEM_UP, SEM_FREE];
 
-static SEM_MOVES: [(u8, u8); 3] = [(1, 2), (1, 3), (1, 4)];
+const SEM_MOVES: &[(u8, u8)] = &[(1, 2), (1, 3), (1, 4)];
 
 /// The facts of semaphores.
 pub(crate) const SEM_SHAPE: Shape = Shape {
     name: b"semaphore",
     block: true,
-    funs: &SEM_FUNS,
-    moves: &SEM_MOVES,
+    funs: SEM_FUNS,
+    moves: SEM_MOVES,
     ..SINGLE
 };
 
-pub(crate) static SEM_ANSWERS: [AnswerShape; 4] = [DONE, WAITS, DONE, DONE];
+pub(crate) const SEM_ANSWERS: &[AnswerShape] = &[DONE, WAITS, DONE, DONE];
 
 /// Semaphores.
 pub fn semaphore() -> Description
-    ensures { length (described_of result).facts.funs ≤ most_funs }
+    ensures few { length (described_of result).facts.funs ≤ most_funs }
+    ensures plain { is_plain (described_of result) ≡ true }
 {
     Description {
         shape: SEM_SHAPE,
         most: &[65535],
-        answers: &SEM_ANSWERS,
+        answers: SEM_ANSWERS,
     }
 }

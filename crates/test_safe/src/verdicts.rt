@@ -1,14 +1,15 @@
 // What is found of each service.
-ghost use Rattle.std.specs.Prelude.{◌≤◌, length};
+ghost use Rattle.std.specs.Prelude.{◌≡◌, ◌≤◌, true, length};
 ghost use Rattle.sg_facts.specs.Limits.{most_funs};
 ghost use Rattle.sg_described.specs.Described.{described_of};
+ghost use Rattle.sg_described.specs.Safe.{is_plain};
 
 use crate::faulty::{
     counter, crate_overfull, forgetful_lock, heap, limited_event, mute_semaphore, tally,
 };
 use crate::services::{event, lock, semaphore};
 use sg_described::{Bounds, Description};
-use sg_safe::{FailingCall, KnownField, Obstacle, SafeError, Unsafe, is_plain, safe};
+use sg_safe::{FailingCall, KnownField, Obstacle, SafeError, Unsafe, safe};
 use sg_walk::FieldState;
 use std::alloc::Global;
 use std::process::Abort;
@@ -100,9 +101,9 @@ fn try_one(
     description: &Description,
     expected: Expected,
 ) -> Result<(), Fail>
-    requires { length (described_of description.now).facts.funs ≤ most_funs }
+    requires few { length (described_of description.now).facts.funs ≤ most_funs }
+    requires plain { is_plain (described_of description.now) ≡ true }
 {
-    assert!(rt; is_plain(description));
     match safe(alloc, description) {
         Ok(()) => assert!(rt; matches!(&expected, Expected::Safe)),
         Err(SafeError::NoMemory) => return Err(Fail::new("no memory")),

@@ -1,0 +1,6 @@
+-- By computing.
+use Rattle.std.proofs.Common.{refl}
+use Rattle.test_safe.proofs.services.semaphore.Goals as goal
+
+pub returns-clause-plain : goal.returns-clause-plain
+returns-clause-plain c = refl
