@@ -13,7 +13,7 @@ use Rattle.sg_input.specs.MultiInputs.{AreMembers, IsNoMember, has_service, memb
 use Rattle.sg_input.specs.Verdicts.{refusal_name}
 use Rattle.sg_input.specs.Inside.Members.{AreFitMembers, IsFitMember}
 use Rattle.sg_input.proofs.Apart.{Differ, apart_more, apart_there, few_apart, found_any, found_name}
-use Rattle.sg_input.proofs.Among.{among}
+use Rattle.sg_input.proofs.OfServices.{among}
 use Rattle.sg_input.proofs.OneInput.{not_refused, one_interface, one_tree}
 use Rattle.sg_input.proofs.OneVerdict.{one_refusal}
 

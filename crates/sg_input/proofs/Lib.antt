@@ -1,4 +1,4 @@
-pub mod Among
+pub mod OfServices
 pub mod Apart
 pub mod Cuts
 pub mod Dividers
