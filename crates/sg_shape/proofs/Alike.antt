@@ -1,5 +1,5 @@
 -- Kinds of flaws that are told alike.
-use Rattle.std.proofs.Common.{◌≡◌, ℕ, List, refl}
+use Rattle.std.proofs.Common.{◌≡◌, List, refl}
 use Rattle.std.specs.Prelude.{find, unwrap_or}
 use Rattle.std.specs.Option.{option_map}
 use Rattle.sg_facts.specs.Facts.{Facts}

@@ -1,26 +1,13 @@
 -- The shape of a text with which nothing is wrong keeps to what every shape keeps to.
-use Rattle.std.proofs.Common.{◌≡◌, ℕ, zero, suc, ◌+◌, ◌<◌, ◌≤◌, ◌==◌, Bool, true, false, cond, ◌&&◌, ◌||◌, not, List, [], ◌∷◌, ◌++◌, map, drop, length, None, Some, codes, refl, sym, ◌∙◌, ap, subst, arith}
-use Rattle.std.specs.Prelude.{count_by, if◌then◌else◌, nat_le, nat_lt, slice_get, unwrap_or}
+use Rattle.std.proofs.Common.{◌≡◌, ℕ, zero, suc, ◌<◌, ◌≤◌, ◌==◌, Bool, true, false, ◌&&◌, ◌||◌, not, List, [], ◌∷◌, length, None, Some, refl, sym, ◌∙◌, ap, arith}
+use Rattle.std.specs.Prelude.{count_by, nat_le, slice_get, unwrap_or}
 use Rattle.std.specs.declared.option.Option.{Option}
-use Rattle.std.specs.Bool.{then_some}
-use Rattle.std.specs.List.{flat_map, list_all, list_any}
-use Rattle.std.specs.Option.{option_map}
-use Rattle.std.specs.Str.{bytes_eq}
+use Rattle.std.specs.List.{list_all, list_any}
 use Rattle.std.proofs.lemmas.Bool.{and_from, eq-eqb, le-leb, not-false}
-use Rattle.std.proofs.lemmas.Bool.Decides.{nat_tests}
-use Rattle.std.proofs.lemmas.List.{length-map}
-use Rattle.std.proofs.lemmas.List.Folds.{list_all-append, list_all-map}
-use Rattle.std.proofs.lemmas.List.Sums.{sum_by-cons}
-use Rattle.std.proofs.lemmas.Option.{slice_get-map, slice_get_within}
-use Rattle.sg_facts.specs.declared.shape.Effect.{Effect}
-use Rattle.sg_facts.specs.declared.shape.Effect.TheVariants.{SetCaller, SetArg, AddArg, SetRet, AddRet, Clear, SubOne, SubRet}
-use Rattle.sg_facts.specs.declared.shape.Kind.{Kind}
-use Rattle.sg_facts.specs.declared.shape.Kind.TheVariants.{Desc, Parent, Word, Text}
 use Rattle.sg_facts.specs.Allowed.{acts_on_one, count_args, each_arg, each_replays_well, has_no_parents, implies, is_allowed, is_cross, is_never, is_replayed, is_text_field, keeps_private, keeps_to, leaves_known, leaves_own, replays_all, replays_well, sets_once, steps_make_none, takes_among}
 use Rattle.sg_facts.specs.Facts.{Facts, Fun, fun_at, no_fun, takes_desc, takes_parent}
 use Rattle.sg_facts.specs.Inside.Rows.{writes}
 use Rattle.sg_facts.specs.Inside.Walking.{sets_caller}
-use Rattle.sg_check_statements.proofs.Judged.{all_by_any}
 use Rattle.sg_shape.specs.declared.fault.ShapeFaultKind.{ShapeFaultKind}
 use Rattle.sg_shape.specs.declared.fault.ShapeFaultKind.TheVariants.{PrivateLooksAround, QueryTakes, FileWithoutDesc, TextChanged, BlocksOrMakes, StateOfOther, MakesOn, ActsOnNone, NoParents, ReplayWrites, ArgumentLost, ReplayUnknown, RecoverMakes}
 use Rattle.sg_shape.specs.Flaws.{is_forbidden}

@@ -1,28 +1,24 @@
 -- A text with which nothing is wrong by itself is what its shape says.
-use Rattle.std.proofs.Common.{◌≡◌, ◌⊎◌, ℕ, zero, suc, ◌+◌, ◌<◌, ◌≤◌, ◌==◌, Bool, true, false, cond, ◌&&◌, ◌||◌, not, List, [], ◌∷◌, ◌++◌, map, drop, length, None, Some, codes, refl, sym, ◌∙◌, ap, subst, inl, inr, arith}
-use Rattle.std.specs.Prelude.{count_by, find, if◌then◌else◌, nat_le, slice_get, unwrap_or}
+use Rattle.std.proofs.Common.{◌≡◌, ◌⊎◌, ℕ, zero, suc, ◌+◌, ◌==◌, Bool, true, false, cond, ◌&&◌, ◌||◌, not, List, [], ◌∷◌, ◌++◌, map, drop, length, None, Some, codes, refl, sym, ◌∙◌, ap, subst, inl, inr, arith}
+use Rattle.std.specs.Prelude.{count_by, if◌then◌else◌, nat_le, slice_get, unwrap_or}
 use Rattle.std.specs.declared.option.Option.{Option}
 use Rattle.std.specs.Bool.{then_some}
 use Rattle.std.specs.Cmp.Lexicographic.{pointwise}
 use Rattle.std.specs.List.{filter_map, list_all, list_any}
-use Rattle.std.specs.Option.{is_none, option_map, option_map_or, option_or}
+use Rattle.std.specs.Option.{is_none, option_map_or, option_or}
 use Rattle.std.specs.Str.{bytes_eq}
 use Rattle.std.proofs.lemmas.Bool.{and_from, and_parts, eq-eqb, leb-true, not-false, or_right}
-use Rattle.std.proofs.lemmas.List.{length-map, append_assoc, map-append}
 use Rattle.std.proofs.lemmas.List.Elements.{filter_map-append}
-use Rattle.std.proofs.lemmas.List.Folds.{list_any-append}
-use Rattle.std.proofs.lemmas.Option.{slice_get-map}
 use Rattle.sg_facts.specs.declared.shape.Kind.{Kind}
 use Rattle.sg_facts.specs.declared.shape.Kind.TheVariants.{Desc, Parent, Word, Text}
-use Rattle.sg_facts.specs.declared.shape.Leaves.{Leaves}
 use Rattle.sg_facts.specs.declared.shape.Leaves.TheVariants.{Own, Same, Of}
-use Rattle.sg_facts.specs.Facts.{Facts, Fun, fun_at, no_fun}
+use Rattle.sg_facts.specs.Facts.{Facts, fun_at, no_fun}
 use Rattle.sg_facts.specs.Interface.{has_pair}
 use Rattle.sg_facts.specs.Words.{field_name}
 use Rattle.sg_check_statements.specs.Effects.{declared_effects, has_effect, same_effects}
-use Rattle.sg_check_statements.specs.Faults.{FirstIn, FirstOf, IsFault, IsFirstStatement}
+use Rattle.sg_check_statements.specs.Faults.{FirstOf, IsFirstStatement}
 use Rattle.sg_check_statements.specs.Flaws.{duplicate, fit_leaves, flaw_of, foreign, fun_of_name, is_declared, leaves_another, leaves_some, wrong_fact}
-use Rattle.sg_check_statements.specs.Inside.Pieces.{agree, fit_flags, is_caller, is_one, is_two, names_two}
+use Rattle.sg_check_statements.specs.Inside.Pieces.{agree, fit_flags, is_caller, is_two, names_two}
 use Rattle.sg_check_statements.specs.NameSet.{has_name}
 use Rattle.sg_check_statements.specs.Params.{fit_params, has_word, is_of_kind}
 use Rattle.sg_check_statements.specs.Says.{fun_number, has_proto, says, says_of, service_of}
@@ -38,9 +34,9 @@ use Rattle.sg_check_statements.specs.sg_parse.sg_lex.Lexeme.{Spelling}
 use Rattle.sg_shape.specs.declared.fault.ShapeFaultKind.TheVariants.{WrongFact as wrong_head}
 use Rattle.sg_shape.specs.Faults.{HasNoShapeFlaw, place_of}
 use Rattle.sg_shape.specs.Fields.{fields_of_text, first_uses, uses_of}
-use Rattle.sg_shape.specs.Flaws.{are_params, contradicts, has_its_type, has_two, is_id_param, unknown_name}
+use Rattle.sg_shape.specs.Flaws.{are_params, contradicts, has_its_type, is_id_param, unknown_name}
 use Rattle.sg_shape.specs.Prototypes.{Prototype, function_number, names_of, number_from, proto_in, protos_of}
-use Rattle.sg_shape.specs.ShapeOfText.{function_of, in_order, kind_of, leaves_of, numbered, pair_in, shape_of_text, state_in, state_of}
+use Rattle.sg_shape.specs.ShapeOfText.{function_of, in_order, kind_of, leaves_of, pair_in, shape_of_text, state_in, state_of}
 use Rattle.sg_shape.proofs.Declared.{effects_named}
 use Rattle.sg_shape.proofs.OnFields.{by_names, from_effects, named_again, to_effects}
 use Rattle.sg_shape.proofs.Flawless.{agreed, all_known, good_params, names_differ, of_name, one_each, own_funs, own_name, own_number}

@@ -1,17 +1,14 @@
 -- The functions of a text with which nothing is wrong.
-use Rattle.std.proofs.Common.{◌≡◌, ℕ, zero, suc, ◌+◌, ◌<◌, ◌≤◌, ◌==◌, Bool, true, false, cond, ◌&&◌, ◌||◌, not, List, [], ◌∷◌, map, drop, length, None, Some, refl, sym, ◌∙◌, ap, subst, codes, arith}
+use Rattle.std.proofs.Common.{◌≡◌, ℕ, zero, suc, ◌+◌, ◌≤◌, ◌==◌, Bool, true, false, cond, ◌&&◌, ◌||◌, not, List, [], ◌∷◌, map, drop, length, None, Some, refl, sym, ◌∙◌, ap, subst, codes, arith}
 use Rattle.std.specs.Prelude.{count_by, if◌then◌else◌, nat_le, slice_get}
-use Rattle.std.specs.declared.option.Option.{Option}
 use Rattle.std.specs.Bool.{then_some}
 use Rattle.std.specs.List.{list_any, list_all}
-use Rattle.std.specs.Option.{option_map}
 use Rattle.std.proofs.lemmas.Bool.{and_parts, le-leb, leb-true, not-false, or_left, or_right}
 use Rattle.std.proofs.lemmas.List.{length-map}
 use Rattle.std.proofs.lemmas.List.Sums.{sum_by-cons}
-use Rattle.std.proofs.lemmas.Option.{slice_get-map}
 use Rattle.sg_facts.specs.declared.shape.Kind.TheVariants.{Desc, Parent, Word, Text}
-use Rattle.sg_facts.specs.Allowed.{count_args, is_allowed, is_cross, sets_once, takes_among}
-use Rattle.sg_facts.specs.Facts.{Fun, takes_desc, takes_parent}
+use Rattle.sg_facts.specs.Allowed.{count_args, is_allowed, is_cross, takes_among}
+use Rattle.sg_facts.specs.Facts.{Fun}
 use Rattle.sg_facts.specs.Inside.Rows.{is_desc, is_parent}
 use Rattle.sg_facts.specs.Inside.Walking.{sets_caller}
 use Rattle.sg_check_statements.specs.Effects.{declared_effects}
@@ -19,7 +16,6 @@ use Rattle.sg_check_statements.specs.Inside.Pieces.{is_caller}
 use Rattle.sg_check_statements.specs.Params.{has_word}
 use Rattle.sg_check_statements.specs.Shapes.{all_differ}
 use Rattle.sg_check_statements.specs.sg_parse.declared.tree.Param.{Param}
-use Rattle.sg_check_statements.specs.sg_parse.declared.tree.Statement.{Statement}
 use Rattle.sg_check_statements.specs.sg_parse.declared.tree.Tree.{Tree}
 use Rattle.sg_shape.specs.declared.fault.ShapeFaultKind.TheVariants.{Limit, PrivateLooksAround}
 use Rattle.sg_shape.specs.Faults.{HasNoShapeFlaw, place_of}

@@ -1,8 +1,7 @@
 -- Names of functions, and their numbers.
-use Rattle.std.proofs.Common.{◌≡◌, ℕ, zero, suc, ◌+◌, ◌<◌, ◌≤◌, Bool, true, false, cond, ◌&&◌, ◌||◌, not, List, [], ◌∷◌, ◌++◌, map, length, None, Some, refl, sym, ◌∙◌, ap, subst, arith}
-use Rattle.std.specs.Prelude.{if◌then◌else◌, slice_get, unwrap_or}
+use Rattle.std.proofs.Common.{◌≡◌, ℕ, zero, suc, ◌+◌, Bool, true, false, ◌&&◌, ◌||◌, not, List, [], ◌∷◌, ◌++◌, map, None, Some, refl, sym, ◌∙◌, ap, arith}
+use Rattle.std.specs.Prelude.{if◌then◌else◌, slice_get}
 use Rattle.std.specs.declared.option.Option.{Option}
-use Rattle.std.specs.List.{list_any}
 use Rattle.std.specs.Str.{bytes_eq}
 use Rattle.std.proofs.lemmas.Bool.{and_parts, not-true, or_parts, or_right}
 use Rattle.std.proofs.lemmas.Bool.Decides.{same_from_decides}
@@ -16,7 +15,6 @@ use Rattle.sg_check_statements.specs.sg_parse.declared.tree.Statement.{Statement
 use Rattle.sg_check_statements.specs.sg_parse.declared.tree.Statement.TheVariants.{Proto}
 use Rattle.sg_shape.specs.Flaws.{second_place}
 use Rattle.sg_shape.specs.Prototypes.{Prototype, names_of, number_from, protos_of}
-use Rattle.sg_shape.proofs.Places.{each_fails, none_pass}
 
 -- ---- bytes
 

@@ -1,17 +1,16 @@
 -- The names of fields: those of the uses, each once.
-use Rattle.std.proofs.Common.{◌≡◌, ℕ, zero, suc, Bool, true, false, cond, ◌&&◌, ◌||◌, not, List, [], ◌∷◌, ◌++◌, map, None, Some, refl, sym, ◌∙◌, ap}
+use Rattle.std.proofs.Common.{◌≡◌, ℕ, zero, suc, Bool, true, false, cond, ◌&&◌, ◌||◌, not, List, [], ◌∷◌, map, None, Some, refl, sym, ◌∙◌, ap}
 use Rattle.std.specs.Prelude.{filter, slice_get}
 use Rattle.std.specs.declared.option.Option.{Option}
-use Rattle.std.specs.List.{cons_option, filter_map, flat_map, list_all, list_any}
+use Rattle.std.specs.List.{cons_option, filter_map, flat_map, list_all}
 use Rattle.std.specs.Str.{bytes_eq}
 use Rattle.std.proofs.lemmas.Bool.{and_parts, or_right}
 use Rattle.std.proofs.lemmas.List.Folds.{list_all-append}
-use Rattle.sg_facts.specs.Facts.{Field}
 use Rattle.sg_check_statements.specs.NameSet.{has_name}
 use Rattle.sg_check_statements.specs.Shapes.{all_differ}
 use Rattle.sg_shape.specs.Fields.{Use, field_at, first_uses, is_of_another}
-use Rattle.sg_shape.proofs.Names.{own_bytes, same_bytes, turned}
-use Rattle.sg_shape.proofs.Places.{all_pass, some_passes}
+use Rattle.sg_shape.proofs.Names.{own_bytes, same_bytes}
+use Rattle.sg_shape.proofs.Places.{all_pass}
 
 -- the names of uses
 abbrev pub use_names : List Use → List (List ℕ)

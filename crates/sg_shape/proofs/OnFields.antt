@@ -1,13 +1,12 @@
 -- Effects by the names and by the numbers of their fields.
-use Rattle.std.proofs.Common.{◌≡◌, ℕ, zero, suc, ◌+◌, ◌<◌, ◌≤◌, ◌==◌, Bool, true, false, cond, ◌&&◌, ◌||◌, not, List, [], ◌∷◌, ◌++◌, map, drop, None, Some, refl, sym, ◌∙◌, ap, subst, arith}
-use Rattle.std.specs.Prelude.{count_by, find, if◌then◌else◌, nat_le, nat_lt, slice_get, unwrap_or}
+use Rattle.std.proofs.Common.{◌≡◌, ℕ, zero, suc, ◌+◌, ◌<◌, ◌≤◌, ◌==◌, Bool, true, false, cond, ◌&&◌, ◌||◌, not, List, [], ◌∷◌, map, drop, None, Some, refl, sym, ◌∙◌, ap, arith}
+use Rattle.std.specs.Prelude.{count_by, find, slice_get}
 use Rattle.std.specs.declared.option.Option.{Option}
-use Rattle.std.specs.List.{cons_option, flat_map, list_all, list_any, sum_by}
+use Rattle.std.specs.List.{cons_option, list_all, list_any}
 use Rattle.std.specs.Option.{option_map}
 use Rattle.std.specs.Str.{bytes_eq}
 use Rattle.std.proofs.lemmas.Bool.{and_from, and_parts, not-true, or_from, or_parts, or_right}
 use Rattle.std.proofs.lemmas.Bool.Decides.{nat_tests}
-use Rattle.std.proofs.lemmas.List.Folds.{list_all-append}
 use Rattle.std.proofs.lemmas.List.Sums.{sum_by-cons}
 use Rattle.sg_facts.specs.declared.shape.Effect.{Effect}
 use Rattle.sg_facts.specs.declared.shape.Effect.TheVariants.{SetCaller, SetArg, AddArg, SetRet, AddRet, Clear, SubOne, SubRet}
@@ -21,7 +20,7 @@ use Rattle.sg_check_statements.specs.Shapes.{all_differ}
 use Rattle.sg_shape.specs.Flaws.{clash, has_two}
 use Rattle.sg_shape.specs.ShapeOfText.{effect_on_name, numbered}
 use Rattle.sg_shape.proofs.Names.{own_bytes, same_bytes}
-use Rattle.sg_shape.proofs.Places.{all_pass, each_fails, each_passes, found_at, some_passes}
+use Rattle.sg_shape.proofs.Places.{each_fails, each_passes, found_at, some_passes}
 
 -- an effect on the field of a name
 abbrev pub On : Type 0

@@ -33,11 +33,11 @@ use std::alloc::Global;
 /// The first place at which something of a kind, which isn't `Limit`, is wrong with a text within the limits: one of this shape, with these
 /// prototypes and these uses of fields.
 #[tactic(auto, unfolding(crate::specs::Faults::place_of))]
-pub fn place_of(
+pub fn place_of<'a>(
     kind: ShapeFaultKind,
     alloc: Global,
-    tree: &Tree,
-    protos: &[Proto],
+    tree: &Tree<'a>,
+    protos: &[Proto<'_, 'a>],
     uses: &[FieldUse],
     shape: &Shape,
 ) -> Result<Option<usize>, NoMemory>
@@ -154,10 +154,10 @@ fn is_text_name(fields: &[FieldShape], name: &[u8]) -> bool
 // The place at which a private service is said to look around: at the fact that descriptors may have parents of other clients, or at the
 // first prototype of a function that looks at all rows.
 #[tactic(auto, unfolding(crate::specs::Faults::place_of))]
-fn private_place(
+fn private_place<'a>(
     alloc: Global,
-    tree: &Tree,
-    protos: &[Proto],
+    tree: &Tree<'a>,
+    protos: &[Proto<'_, 'a>],
     shape: &Shape,
 ) -> Result<Option<usize>, NoMemory>
     requires protos { protos.now ≡ protos_of tree.now.statements }
@@ -174,12 +174,12 @@ fn private_place(
 }
 
 // The place of the first prototype that has a flaw of a kind.
-fn flawed_place(
+fn flawed_place<'a>(
     kind: ShapeFaultKind,
     alloc: Global,
     shape: &Shape,
-    statements: &[Statement],
-    protos: &[Proto],
+    statements: &[Statement<'a>],
+    protos: &[Proto<'_, 'a>],
 ) -> Result<Option<usize>, NoMemory>
     requires { All (λ p. length p.params ≤ most_params) protos.now }
     ensures { IfOk result (λ place. place ≡ option_map (λ p. p.name.at) (find (is_flawed kind (facts_of shape.now) statements.now) protos.now)) }
@@ -194,12 +194,12 @@ fn flawed_place(
 }
 
 // Whether a prototype has a flaw of a kind.
-fn is_flawed(
+fn is_flawed<'a>(
     kind: ShapeFaultKind,
     alloc: Global,
     shape: &Shape,
-    statements: &[Statement],
-    proto: &Proto,
+    statements: &[Statement<'a>],
+    proto: &Proto<'_, 'a>,
 ) -> Result<bool, NoMemory>
     requires { length proto.now.params ≤ most_params }
     ensures { IfOk result (λ flawed. flawed ≡ is_flawed kind (facts_of shape.now) statements.now proto.now) }
@@ -213,7 +213,11 @@ fn is_flawed(
 }
 
 // Whether a prototype is said to do two things to a field.
-fn has_two_effects(alloc: Global, statements: &[Statement], proto: &Proto) -> Result<bool, NoMemory>
+fn has_two_effects<'a>(
+    alloc: Global,
+    statements: &[Statement<'a>],
+    proto: &Proto<'_, 'a>,
+) -> Result<bool, NoMemory>
     requires { length proto.now.params ≤ most_params }
     ensures { IfOk result (λ two. two ≡ has_two (declared_effects statements.now proto.now.name.bytes proto.now.ret proto.now.params)) }
 {

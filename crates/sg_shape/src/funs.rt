@@ -19,10 +19,10 @@ use sg_facts::{FieldShape, FunShape, Leaves, NoMemory};
 use std::alloc::Global;
 
 /// The functions of a text with these prototypes and fields, kept to the end of the program.
-pub fn fun_shapes(
+pub fn fun_shapes<'a>(
     alloc: Global,
-    statements: &[Statement],
-    protos: &[Proto],
+    statements: &[Statement<'a>],
+    protos: &[Proto<'_, 'a>],
     fields: &[FieldShape],
 ) -> Result<&'static [FunShape], NoMemory>
     requires protos { protos.now ≡ protos_of statements.now }
@@ -40,12 +40,12 @@ pub fn fun_shapes(
 }
 
 // The function of a prototype.
-fn fun_shape(
+fn fun_shape<'a>(
     alloc: Global,
-    statements: &[Statement],
-    protos: &[Proto],
+    statements: &[Statement<'a>],
+    protos: &[Proto<'_, 'a>],
     fields: &[FieldShape],
-    proto: &Proto,
+    proto: &Proto<'_, 'a>,
 ) -> Result<FunShape, NoMemory>
     requires protos { protos.now ≡ protos_of statements.now }
     requires few_protos { length protos.now ≤ most_funs }

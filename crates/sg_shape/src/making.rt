@@ -21,10 +21,10 @@ use sg_facts::{FieldShape, FunShape, NoMemory, Parents, Shape};
 use std::alloc::Global;
 
 /// The shape that a text within the limits declares: with these prototypes, and these first uses of its fields.
-pub fn made(
+pub fn made<'a>(
     alloc: Global,
-    tree: &Tree,
-    protos: &[Proto],
+    tree: &Tree<'a>,
+    protos: &[Proto<'_, 'a>],
     first: &[FieldUse],
 ) -> Result<Shape, NoMemory>
     requires protos { protos.now ≡ protos_of tree.now.statements }

@@ -69,10 +69,10 @@ pub fn shape_of(alloc: Global, tree: &Tree) -> Result<Shape, ShapeError>
 }
 
 // The shape of a text with these prototypes and uses of fields, or what is first wrong with it.
-fn shape_with(
+fn shape_with<'a>(
     alloc: Global,
-    tree: &Tree,
-    protos: &[Proto],
+    tree: &Tree<'a>,
+    protos: &[Proto<'_, 'a>],
     uses: &[FieldUse],
 ) -> Result<Shape, ShapeError>
     requires protos { protos.now ≡ protos_of tree.now.statements }
@@ -141,10 +141,10 @@ fn is_long(proto: &Proto) -> bool
 }
 
 // Nothing of the other kinds is wrong with a text within the limits: one of this shape, with these prototypes and uses of fields.
-fn flawless(
+fn flawless<'a>(
     alloc: Global,
-    tree: &Tree,
-    protos: &[Proto],
+    tree: &Tree<'a>,
+    protos: &[Proto<'_, 'a>],
     uses: &[FieldUse],
     shape: &Shape,
 ) -> Result<(), ShapeError>

@@ -1,11 +1,11 @@
 -- Use by use.
-use Rattle.std.proofs.Common.{◌≡◌, ℕ, ◌+◌, ◌≤◌, true, false, List, [], ◌∷◌, ◌++◌, length, take, Some, sym, ◌∙◌, ap, subst, length-append, arith}
+use Rattle.std.proofs.Common.{◌≡◌, ◌≤◌, true, false, [], ◌∷◌, ◌++◌, length, Some, sym, ◌∙◌, ap, subst, length-append, arith}
 use Rattle.std.specs.Option.{option_map}
 use Rattle.std.proofs.lemmas.List.{take_all}
 use Rattle.std.proofs.lemmas.Option.{slice_get_past}
 use Rattle.sg_facts.specs.Limits.{most_fields}
 use Rattle.sg_shape.specs.Fields.{Use, first_uses}
-use Rattle.sg_shape.proofs.FirstUses.{first_ones, had_use, has_use, is_first, next_one, not_first}
+use Rattle.sg_shape.proofs.FirstUses.{first_ones, had_use, is_first, next_one, not_first}
 use Rattle.sg_shape.proofs.fields.fields_of.Goals as goal
 
 pub uses-preserved-then-has_use : goal.uses-preserved-then-has_use

@@ -1,5 +1,5 @@
 -- Statement by statement.
-use Rattle.std.proofs.Common.{◌∷◌, sym, ap, ◌∙◌}
+use Rattle.std.proofs.Common.{sym, ap}
 use Rattle.std.specs.Prelude.{slice_get}
 use Rattle.sg_shape.specs.Flaws.{unknown_name}
 use Rattle.sg_shape.proofs.Loops.{first_gathered, nothing_more}
