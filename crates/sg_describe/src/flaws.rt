@@ -1,7 +1,8 @@
 // Where something is wrong with what a text says of answers.
-ghost use Rattle.std.specs.Prelude.{◌≡◌, ◌+◌, ◌<◌, ◌^◌, [], is_none, length, map, not};
+ghost use Rattle.std.specs.Prelude.{◌≡◌, ◌==◌, ◌+◌, ◌<◌, ◌^◌, [], is_none, length, map, not};
 ghost use Rattle.std.specs.List.{list_all, list_any};
 ghost use Rattle.sg_facts.specs.Allowed.{is_never, is_replayed, wants_word};
+ghost use Rattle.sg_facts.specs.Counted.{takes_word};
 ghost use Rattle.sg_facts.specs.Facts.{facts_of, fun_of_shape};
 ghost use Rattle.sg_described.specs.Safe.{is_plain_kind};
 ghost use Rattle.sg_describe.specs.AnswerFaults.{flaw_of};

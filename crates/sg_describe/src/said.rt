@@ -32,7 +32,10 @@ fn most_in<'t, 'a>(statement: &'t Statement<'a>, field: &[u8]) -> Option<&'t Spe
 pub fn rules_said<'t, 'a>(statements: &'t [Statement<'a>], fun: &[u8]) -> &'t [Rule<'a>]
     ensures { result.now ≡ rules_said fun.now statements.now }
 {
-    answer_said(statements, fun).unwrap_or(&[])
+    match answer_said(statements, fun) {
+        Some(rules) => rules,
+        None => &[],
+    }
 }
 
 /// The rules of the first statement that says how the function of a name answers.

@@ -2,7 +2,7 @@
 ghost use Rattle.std.specs.Prelude.{◌≡◌, ◌||◌, ◌++◌, ℕ, nat_lt, List, codes, length, true, map, IfOk};
 ghost use Rattle.std.specs.List.{flat_map};
 ghost use Rattle.sg_facts.specs.Facts.{Facts, facts_of};
-ghost use Rattle.sg_input.specs.sg_check.Shapes.{are_shapes};
+ghost use Rattle.sg_input.specs.sg_check_statements.Shapes.{are_shapes};
 ghost use Rattle.sg_input.specs.Divider.{IsCut};
 ghost use Rattle.sg_input.specs.Inputs.{AreTexts, IsInterface, most_interface, most_script};
 ghost use Rattle.sg_input.specs.Lines.{refused_line, script_kind_name};

@@ -1,7 +1,7 @@
 // Why the text of an interface is refused, and what is told of a place.
 ghost use Rattle.std.specs.Prelude.{◌≡◌, ◌++◌, List, Ok, Err as failed, codes, true, map, IfOk, OnOk};
 ghost use Rattle.sg_facts.specs.Facts.{Facts, facts_of};
-ghost use Rattle.sg_input.specs.sg_check.Shapes.{are_shapes};
+ghost use Rattle.sg_input.specs.sg_check_statements.Shapes.{are_shapes};
 ghost use Rattle.sg_input.specs.sg_check_statements.Faults.{IsFault};
 ghost use Rattle.sg_input.specs.Lines.{refused_line};
 ghost use Rattle.sg_input.specs.Verdicts.{refusal_name, services_for};

@@ -5,7 +5,7 @@ ghost use Rattle.std.specs.Option.{option_copied, option_map};
 ghost use Rattle.sg_facts.specs.Facts.{facts_of};
 ghost use Rattle.sg_facts.specs.Interface.{HasFewFields};
 ghost use Rattle.sg_input.specs.sg_check.Inside.Reached.{AreTriples};
-ghost use Rattle.sg_input.specs.sg_check.Shapes.{are_shapes};
+ghost use Rattle.sg_input.specs.sg_check_statements.Shapes.{are_shapes};
 ghost use Rattle.sg_input.specs.sg_check_statements.Faults.{IsFault};
 ghost use Rattle.sg_input.specs.sg_check_statements.Flaws.{HasNoWalk, IsProtoWhere};
 ghost use Rattle.sg_input.specs.sg_check_statements.Says.{service_of};

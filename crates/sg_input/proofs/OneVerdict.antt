@@ -6,8 +6,8 @@ use Rattle.sg_facts.specs.sg_base.declared.memory.NoMemory.{NoMemory}
 use Rattle.sg_print.specs.sg_lex.Tokens.{answers_of}
 use Rattle.sg_facts.specs.Facts.{Facts}
 use Rattle.sg_facts.specs.Interface.{Declared}
-use Rattle.sg_print.specs.sg_parse.declared.error.ParseError.{ParseError}
-use Rattle.sg_print.specs.sg_parse.declared.error.ParseError.TheVariants.{NoMemory as no_memory, Lex as lex_fault, Syntax as syntax_fault}
+use Rattle.sg_print.specs.sg_parse.sg_rules.declared.error.ParseError.{ParseError}
+use Rattle.sg_print.specs.sg_parse.sg_rules.declared.error.ParseError.TheVariants.{NoMemory as no_memory, Lex as lex_fault, Syntax as syntax_fault}
 use Rattle.sg_print.specs.sg_parse.declared.tree.Tree.{Tree}
 use Rattle.sg_print.specs.sg_parse.Grammar.Parses.{Parses}
 use Rattle.sg_print.specs.sg_parse.Grammar.Upgraded.{upgraded}

@@ -4,8 +4,8 @@ use Rattle.std.specs.Prelude.{Ok, Err, IfOk}
 use Rattle.std.specs.declared.result.Result.{Result}
 use Rattle.sg_facts.specs.sg_base.declared.memory.NoMemory.{NoMemory}
 use Rattle.sg_facts.specs.Facts.{Facts}
-use Rattle.sg_print.specs.sg_parse.declared.error.ParseError.{ParseError}
-use Rattle.sg_print.specs.sg_parse.declared.error.ParseError.TheVariants.{Lex as lex_fault, Syntax as syntax_fault}
+use Rattle.sg_print.specs.sg_parse.sg_rules.declared.error.ParseError.{ParseError}
+use Rattle.sg_print.specs.sg_parse.sg_rules.declared.error.ParseError.TheVariants.{Lex as lex_fault, Syntax as syntax_fault}
 use Rattle.sg_print.specs.sg_parse.declared.tree.Tree.{Tree}
 use Rattle.sg_print.specs.sg_parse.Grammar.Parses.{Parses}
 use Rattle.sg_stub.specs.sg_check_statements.declared.fault.CheckError.{CheckError}

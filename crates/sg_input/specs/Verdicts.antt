@@ -7,7 +7,7 @@ use Rattle.sg_facts.specs.Interface.{Declared}
 use Rattle.sg_facts.specs.Tables.{AreTables, Compiled}
 use Rattle.sg_print.specs.Printed.{printed}
 use Rattle.sg_print.specs.TablesText.{tables_text}
-use Rattle.sg_print.specs.sg_parse.declared.error.ParseError.TheVariants.{Lex as lex_fault, Syntax as syntax_fault}
+use Rattle.sg_print.specs.sg_parse.sg_rules.declared.error.ParseError.TheVariants.{Lex as lex_fault, Syntax as syntax_fault}
 use Rattle.sg_print.specs.sg_parse.declared.tree.Tree.{Tree}
 use Rattle.sg_print.specs.sg_parse.Grammar.Parses.{Parses}
 use Rattle.sg_print.specs.sg_parse.Grammar.Upgraded.{upgraded}

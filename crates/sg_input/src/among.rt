@@ -2,7 +2,7 @@
 ghost use Rattle.std.specs.Prelude.{◌≡◌, map, true};
 ghost use Rattle.std.specs.Result.{MatchResult};
 ghost use Rattle.sg_facts.specs.Facts.{facts_of};
-ghost use Rattle.sg_stub.specs.sg_check.Shapes.{are_shapes};
+ghost use Rattle.sg_stub.specs.sg_check_statements.Shapes.{are_shapes};
 ghost use Rattle.sg_stub.specs.sg_check_statements.Faults.{IsAccepted};
 ghost use Rattle.sg_stub.specs.sg_check_statements.Stages.{IsFirstFault};
 ghost use Rattle.sg_input.specs.Verdicts.{is_own, services_for};

@@ -5,7 +5,7 @@ ghost use Rattle.sg_facts.specs.Interface.{Declared};
 ghost use Rattle.sg_print.specs.sg_parse.declared.tree.Tree.{Tree as Sentence};
 ghost use Rattle.sg_print.specs.sg_parse.Grammar.Parses.{Parses};
 ghost use Rattle.sg_print.specs.sg_parse.Grammar.Upgraded.{upgraded};
-ghost use Rattle.sg_stub.specs.sg_check.Shapes.{are_shapes};
+ghost use Rattle.sg_stub.specs.sg_check_statements.Shapes.{are_shapes};
 ghost use Rattle.sg_stub.specs.sg_check_statements.Stages.{IsFirstFault};
 ghost use Rattle.sg_input.specs.declared.read.Read.{Read as AnyRead};
 ghost use Rattle.sg_input.specs.declared.read.Read.TheVariants.{Refused as refused_with};

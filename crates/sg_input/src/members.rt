@@ -4,7 +4,7 @@ ghost use Rattle.sg_facts.specs.Facts.{Facts, facts_of};
 ghost use Rattle.sg_print.specs.sg_parse.declared.tree.Tree.{Tree as Sentence};
 ghost use Rattle.sg_print.specs.sg_parse.Grammar.Parses.{Parses};
 ghost use Rattle.sg_script.specs.Scripts.{most_members};
-ghost use Rattle.sg_stub.specs.sg_check.Shapes.{are_shapes};
+ghost use Rattle.sg_stub.specs.sg_check_statements.Shapes.{are_shapes};
 ghost use Rattle.sg_stub.specs.sg_check_statements.Stages.{IsFirstFault};
 ghost use Rattle.sg_input.specs.Inside.Members.{AreFitMembers, IsGathered, IsMemberOf, IsFitMember};
 ghost use Rattle.sg_input.specs.MultiInputs.{has_service, member_line};

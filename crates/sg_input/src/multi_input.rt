@@ -4,7 +4,7 @@ ghost use Rattle.sg_facts.specs.Facts.{Facts, facts_of};
 ghost use Rattle.sg_facts.specs.Interface.{Declared};
 ghost use Rattle.sg_script.specs.Scripts.{most_members};
 ghost use Rattle.sg_script.specs.declared.multi.MultiScript.{MultiScript as OneScript};
-ghost use Rattle.sg_input.specs.sg_check.Shapes.{are_shapes};
+ghost use Rattle.sg_input.specs.sg_check_statements.Shapes.{are_shapes};
 ghost use Rattle.sg_input.specs.declared.read.Read.{Read as AnyRead};
 ghost use Rattle.sg_input.specs.Inside.Members.{AreFit, AreFitMembers};
 ghost use Rattle.sg_input.specs.MultiInputs.{AreMembers, AreMultiTexts, IsMultiInputOf, are_short};

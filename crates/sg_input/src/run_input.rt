@@ -4,7 +4,7 @@ ghost use Rattle.sg_facts.specs.Facts.{Facts, facts_of};
 ghost use Rattle.sg_facts.specs.Interface.{Declared};
 ghost use Rattle.sg_facts.specs.declared.entry.Entry.{Entry};
 ghost use Rattle.sg_facts.specs.sg_base.Room.{Roomy};
-ghost use Rattle.sg_input.specs.sg_check.Shapes.{are_shapes};
+ghost use Rattle.sg_input.specs.sg_check_statements.Shapes.{are_shapes};
 ghost use Rattle.sg_input.specs.declared.read.Read.{Read as AnyRead};
 ghost use Rattle.sg_input.specs.Inputs.{AreTexts, IsInterface, IsRunInputOf, IsSameRun, most_run};
 ghost use Rattle.sg_input.specs.Judged.{MayBeJudged};

@@ -2,7 +2,7 @@
 ghost use Rattle.std.specs.Prelude.{◌≡◌, ℕ, Ok, List, MatchOption, codes, map, true, IfOk};
 ghost use Rattle.std.specs.Result.{MatchResult};
 ghost use Rattle.sg_facts.specs.Facts.{facts_of};
-ghost use Rattle.sg_explain.specs.sg_input.sg_check.Shapes.{are_shapes};
+ghost use Rattle.sg_explain.specs.sg_input.sg_check_statements.Shapes.{are_shapes};
 ghost use Rattle.sg_explain.specs.sg_input.declared.read.Read.{Read as AnyRead};
 ghost use Rattle.sg_own.specs.Faults.{IsOwnAccepted};
 ghost use Rattle.sg_judge.specs.Said.{IsChecked, IsOfServices, IsOwnText, IsRenewed, IsTabled};

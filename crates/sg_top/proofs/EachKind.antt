@@ -11,7 +11,7 @@ use Rattle.sg_input.specs.sg_entries.Inside.Classes.{IsName}
 use Rattle.sg_load.specs.Services.{answering, facts_by, played_services, standard}
 use Rattle.sg_load.specs.declared.kind.ServiceKind.{ServiceKind}
 use Rattle.sg_load.specs.declared.kind.ServiceKind.TheVariants.{Locks, Events, Pages, Files, Threads, Timers}
-use Rattle.sg_load.specs.sg_check.Shapes.{all_differ}
+use Rattle.sg_load.specs.sg_check_statements.Shapes.{all_differ}
 use Rattle.sg_load.specs.sg_plain.Answering.{Answering}
 use Rattle.sg_top.specs.Answer.{services}
 use Rattle.sg_top.specs.Inside.Plays.{IsPlayed}

@@ -11,7 +11,7 @@ use Rattle.sg_facts.specs.sg_base.Lists.{Each}
 use Rattle.sg_input.specs.sg_entries.Inside.Classes.{IsName}
 use Rattle.sg_input.specs.sg_entries.Printed.{HasNames}
 use Rattle.sg_input.specs.sg_script.Scripts.{declared_from}
-use Rattle.sg_load.specs.sg_check.Shapes.{all_differ}
+use Rattle.sg_load.specs.sg_check_statements.Shapes.{all_differ}
 use Rattle.sg_load.specs.sg_check_statements.NameSet.{has_name}
 use Rattle.sg_top.specs.Inside.Plays.{IsPlayed}
 use Rattle.sg_top.proofs.EachKind.{AreNamed, named_played}

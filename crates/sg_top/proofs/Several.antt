@@ -17,7 +17,7 @@ use Rattle.sg_input.specs.sg_script.declared.multi.MultiScript.{MultiScript}
 use Rattle.sg_input.proofs.Gathering.{few_members}
 use Rattle.sg_load.specs.Services.{answering, facts_by, played_services}
 use Rattle.sg_load.specs.declared.kind.ServiceKind.{ServiceKind}
-use Rattle.sg_load.specs.sg_check.Shapes.{IsSmall}
+use Rattle.sg_load.specs.sg_check_statements.Shapes.{IsSmall}
 use Rattle.sg_multi.specs.Members.{setting_by}
 use Rattle.sg_multi.specs.sg_sim.sg_world_laws.Setting.{stubs_of}
 use Rattle.sg_multi.specs.Playable.{IsMultiPlayable}

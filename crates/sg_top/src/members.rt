@@ -4,7 +4,7 @@ ghost use Rattle.sg_facts.specs.Fits.{Fits};
 ghost use Rattle.sg_facts.specs.Interface.{Declared};
 ghost use Rattle.sg_facts.specs.sg_base.Lists.{Each};
 ghost use Rattle.sg_load.specs.Services.{facts_by};
-ghost use Rattle.sg_load.specs.sg_check.Shapes.{IsSmall};
+ghost use Rattle.sg_load.specs.sg_check_statements.Shapes.{IsSmall};
 ghost use Rattle.sg_multi.specs.Playable.{IsMultiPlayable};
 ghost use Rattle.sg_multi.specs.Played.{IsMultiPlayed, stubs_by};
 ghost use Rattle.sg_top.specs.Inside.Plays.{IsPlayed};

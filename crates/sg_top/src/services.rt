@@ -8,7 +8,7 @@ ghost use Rattle.sg_facts.specs.Limits.{most_script_calls};
 ghost use Rattle.sg_facts.specs.Trace.{run_of};
 ghost use Rattle.sg_facts.specs.sg_base.Lists.{Each};
 ghost use Rattle.sg_load.specs.Services.{answering, facts_by};
-ghost use Rattle.sg_load.specs.sg_check.Shapes.{are_shapes};
+ghost use Rattle.sg_load.specs.sg_check_statements.Shapes.{are_shapes};
 ghost use Rattle.sg_load.specs.sg_plain.Playing.Playable.{IsPlayable};
 ghost use Rattle.sg_report.specs.sg_hist.Clients.{MayBeMade};
 ghost use Rattle.sg_explore.specs.sg_shared.Runs.{IsRunInOrder};

@@ -1,7 +1,7 @@
 // What is answered on a text, and what is to be.
 ghost use Rattle.std.specs.Prelude.{◌≡◌, true, map};
 ghost use Rattle.sg_facts.specs.Facts.{facts_of};
-ghost use Rattle.sg_input.specs.sg_check.Shapes.{are_shapes};
+ghost use Rattle.sg_input.specs.sg_check_statements.Shapes.{are_shapes};
 
 use crate::edits::{Edit, Layout, edited};
 use crate::shapes::standard_shapes;

@@ -1,7 +1,7 @@
 // Against which shapes a text is checked.
 ghost use Rattle.std.specs.Prelude.{◌≡◌, true};
 ghost use Rattle.sg_facts.specs.Facts.{facts_of};
-ghost use Rattle.sg_input.specs.sg_check.Shapes.{is_shape};
+ghost use Rattle.sg_input.specs.sg_check_statements.Shapes.{is_shape};
 
 use crate::answers::answer;
 use sg_facts::Shape;

@@ -2,7 +2,7 @@
 // the service's order.
 ghost use Rattle.std.specs.Prelude.{◌≡◌, true, map};
 ghost use Rattle.sg_facts.specs.Facts.{facts_of};
-ghost use Rattle.sg_input.specs.sg_check.Shapes.{are_shapes};
+ghost use Rattle.sg_input.specs.sg_check_statements.Shapes.{are_shapes};
 
 use crate::answers::accepted;
 use crate::edits::Edit::{self, Front, Then, Twice, Without};

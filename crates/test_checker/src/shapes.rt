@@ -7,7 +7,7 @@ ghost use Rattle.sg_load.specs.Services.sg_mm.MmFacts.{mm_facts};
 ghost use Rattle.sg_load.specs.Services.sg_ramfs.RamfsFacts.{ramfs_facts};
 ghost use Rattle.sg_load.specs.Services.sg_sched.SchedFacts.{sched_facts};
 ghost use Rattle.sg_load.specs.Services.sg_timer.TimerFacts.{timer_facts};
-ghost use Rattle.sg_input.specs.sg_check.Shapes.{are_shapes};
+ghost use Rattle.sg_input.specs.sg_check_statements.Shapes.{are_shapes};
 
 use sg_facts::Shape;
 use sg_load::kind::{

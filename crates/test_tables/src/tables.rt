@@ -1,7 +1,7 @@
 // The tables of the standard interfaces.
 ghost use Rattle.std.specs.Prelude.{◌≡◌, true, IfOk};
 ghost use Rattle.sg_facts.specs.Facts.{facts_of};
-ghost use Rattle.sg_stub.specs.sg_check.Shapes.{is_shape};
+ghost use Rattle.sg_stub.specs.sg_check_statements.Shapes.{is_shape};
 ghost use Rattle.sg_load.specs.Services.sg_lock.LockFacts.{lock_facts};
 ghost use Rattle.sg_load.specs.Services.sg_event.EventFacts.{event_facts};
 ghost use Rattle.sg_load.specs.Services.sg_mm.MmFacts.{mm_facts};

@@ -5,7 +5,7 @@ use Rattle.sg_facts.specs.Facts.{Facts}
 use Rattle.sg_facts.specs.Fits.{Fits}
 use Rattle.sg_facts.specs.Interface.{Declared}
 use Rattle.sg_script.specs.declared.multi.MultiScript.{MultiScript}
-use Rattle.sg_stub.specs.sg_check.Shapes.{IsSmall}
+use Rattle.sg_stub.specs.sg_check_statements.Shapes.{IsSmall}
 use Rattle.sg_input.specs.declared.read.Read.{Read}
 use Rattle.sg_input.specs.declared.read.Read.TheVariants.{Ready, Refused}
 use Rattle.sg_input.specs.Inputs.{IsInterface}

@@ -7,7 +7,7 @@ use Rattle.sg_facts.specs.Interface.{Declared}
 use Rattle.sg_print.proofs.Law.{upgrades_back}
 use Rattle.sg_print.specs.PrintsBack.{PrintsBack}
 use Rattle.sg_print.specs.sg_parse.declared.tree.Tree.{Tree}
-use Rattle.sg_print.specs.sg_parse.Grammar.Sentence.{IsHead}
+use Rattle.sg_print.specs.sg_parse.Grammar.Inside.Forms.{IsHead}
 use Rattle.sg_print.specs.sg_parse.Grammar.Upgraded.{upgraded}
 use Rattle.sg_stub.specs.sg_check_statements.Faults.{IsAccepted}
 use Rattle.sg_input.specs.Verdicts.{services_for}

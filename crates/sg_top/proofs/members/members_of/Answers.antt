@@ -2,7 +2,7 @@
 use Rattle.std.proofs.Common.{[], sym, subst}
 use Rattle.sg_facts.specs.Fits.{Fits}
 use Rattle.sg_facts.specs.Interface.{Declared}
-use Rattle.sg_load.specs.sg_check.Shapes.{IsSmall}
+use Rattle.sg_load.specs.sg_check_statements.Shapes.{IsSmall}
 use Rattle.sg_top.specs.Inside.Plays.{IsPlayed}
 use Rattle.sg_top.specs.Inside.Several.{AreMembersOf}
 use Rattle.sg_top.proofs.Several.{members_all, members_more}
