@@ -1,6 +1,7 @@
 pub mod ByDigit
 pub mod Clear
 pub mod Few
+pub mod Mapped
 pub mod Finding
 pub mod Plain
 pub mod PlainFields

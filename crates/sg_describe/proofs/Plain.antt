@@ -12,9 +12,10 @@ use Rattle.std.proofs.lemmas.List.Folds.{list_all-map}
 use Rattle.std.proofs.lemmas.Option.{slice_get-map}
 use Rattle.sg_facts.specs.Allowed.{implies, is_allowed, is_never, is_replayed, wants_word}
 use Rattle.sg_facts.specs.Facts.{Facts, Field, Fun}
+use Rattle.sg_facts.specs.Limits.{most_fields, most_funs}
 use Rattle.sg_facts.specs.sg_base.Counts.{last_count}
 use Rattle.sg_check_statements.specs.Says.{says}
-use Rattle.sg_check_statements.specs.Shapes.{are_funs, is_fun, is_shape}
+use Rattle.sg_check_statements.specs.Shapes.{all_differ, are_funs, is_fun, is_shape, leaves_fun}
 use Rattle.sg_check_statements.specs.sg_parse.declared.tree.Statement.{Statement}
 use Rattle.sg_check_statements.specs.sg_parse.declared.tree.Statement.TheVariants.{One, Two, Proto, External, Most, Unique, Answer}
 use Rattle.sg_check_statements.specs.sg_parse.declared.tree.Tree.{Tree}
@@ -185,7 +186,9 @@ module _ (tree : Tree) (sound : HasNoShapeFlaw tree) (none : HasNoAnswerFlaw tre
   -- ---- so are its rules
 
   own_rules : (k : ℕ) (f : Fun) → slice_get facts.funs k ≡ Some f → rules_at d (1 + k) ≡ answer_of facts ss f
-  own_rules k f at = ap (λ o. unwrap_or o []) (slice_get-map (answer_of facts ss) facts.funs k ∙ ap (option_map (answer_of facts ss)) at)
+  own_rules k f at =
+      let next : 1 + k ≡ suc k = omega arith in
+      ap (rules_at d) next ∙ ap (λ o. unwrap_or o []) (slice_get-map (answer_of facts ss) facts.funs k ∙ ap (option_map (answer_of facts ss)) at)
 
   has_word : (wants gives answers : Bool) → (gives ≡ true → answers ≡ true) → (wants && not gives) ≡ false → implies wants answers ≡ true
   has_word true gives answers more is = more (no_it gives is)
@@ -208,7 +211,10 @@ module _ (tree : Tree) (sound : HasNoShapeFlaw tree) (none : HasNoAnswerFlaw tre
   six_parts a b c m e f all = (and_parts (a && b && c) m (and_parts (a && b && c && m) e (and_parts (a && b && c && m && e) f all).0).0).1
 
   moves_named : list_all (are_funs (length facts.funs)) facts.moves ≡ true
-  moves_named = six_parts _ _ _ _ _ _ (fits tree sound)
+  moves_named =
+      six_parts (nat_le (length facts.funs) most_funs) (nat_le (length facts.fields) most_fields) (all_differ (map (λ (f : Fun). f.name) facts.funs))
+      (list_all (are_funs (length facts.funs)) facts.moves) (list_all (are_funs (length facts.funs)) facts.steps) (list_all (λ (f : Fun). leaves_fun (length facts.funs) f.leaves) facts.funs)
+      (fits tree sound)
 
   move_plain : (p : ℕ × ℕ) → are_funs (length facts.funs) p ≡ true → is_plain_move d p ≡ true
   move_plain p is =

@@ -98,9 +98,10 @@ uses_plain statements none =
     let params = uses_in_params statements in
     let rets = filter_map (λ p. ret_use p.ret) (protos_of statements) in
     let words = filter_map word_use statements in
-    list_all-append is_number params (rets ++ words)
-    ∙ and_from (list_all is_number params) (list_all is_number (rets ++ words)) (protos_plain statements none)
-    (list_all-append is_number rets words ∙ and_from (list_all is_number rets) (list_all is_number words) (rets_plain (protos_of statements)) (words_plain statements))
+    list_all-append is_number (params ++ rets) words
+    ∙ and_from (list_all is_number (params ++ rets)) (list_all is_number words)
+    (list_all-append is_number params rets ∙ and_from (list_all is_number params) (list_all is_number rets) (protos_plain statements none) (rets_plain (protos_of statements)))
+    (words_plain statements)
 
 -- ---- so no field is a text
 

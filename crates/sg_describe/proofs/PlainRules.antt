@@ -5,6 +5,7 @@ use Rattle.std.specs.Bool.{then_some}
 use Rattle.std.specs.declared.option.Option.{Option}
 use Rattle.std.specs.List.{list_all, list_any}
 use Rattle.std.specs.Option.{option_map_or, option_or}
+use Rattle.std.proofs.lemmas.Bool.Decides.{nat_tests}
 use Rattle.std.proofs.lemmas.Bool.{and_from, and_parts, or_left, or_right}
 use Rattle.std.proofs.lemmas.List.{length-map}
 use Rattle.sg_facts.specs.Facts.{Facts, Fun}
@@ -61,7 +62,10 @@ module _ (facts : Facts) (f : Fun) where
 
   untested : (tests : List TextTest) (rows : Bool) → ((length tests == 0) && rows) ≡ true → (length (map (test_of facts f) tests) == 0) ≡ true
   untested [] rows is = refl
-  untested (t ∷ tests) rows is = absurd (cc is)
+  untested (t ∷ tests) rows is = absurd (impossible (length tests) (and_parts (length (t ∷ tests) == 0) rows is).0)
+    where
+      impossible : (n : ℕ) → (suc n == 0) ≡ true → ⊥
+      impossible n is = let no : suc n ≡ 0 = grind (arith, nat_tests, is) in omega (arith, no)
 
   rule_gives : (r : TextRule) → gives_always r ≡ true → gives (rule_of facts f r) ≡ true
   rule_gives (Refuse at code when) is = absurd (cc is)

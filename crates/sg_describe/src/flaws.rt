@@ -242,14 +242,28 @@ fn takes_plain(fun: &FunShape) -> bool
 fn lacks_word(fun: &FunShape, rules: &[Rule]) -> bool
     ensures { result ≡ lacks_word (fun_of_shape fun.now) rules.now }
 {
-    wants_word(fun) && !rules.iter().any(gives_always)
+    wants_word(fun) && !give_word(rules)
+}
+
+// Whether one of some rules always gives a word.
+fn give_word(rules: &[Rule]) -> bool
+    ensures { result ≡ list_any gives_always rules.now }
+{
+    rules.iter().any(|rule| gives_always(rule))
 }
 
 // Whether a function takes a returned word into a field.
 fn wants_word(fun: &FunShape) -> bool
     ensures { result ≡ wants_word (fun_of_shape fun.now) }
 {
-    fun.effects.iter().any(|effect| takes_word(effect.1))
+    take_word(fun.effects)
+}
+
+// Whether one of some effects takes a returned word.
+fn take_word(effects: &[(u8, Effect)]) -> bool
+    ensures { result ≡ list_any (λ e. takes_word e.1) effects.now }
+{
+    effects.iter().any(|effect| takes_word(effect.1))
 }
 
 // Whether an effect takes a returned word.

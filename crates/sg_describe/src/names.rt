@@ -1,5 +1,6 @@
 // What names and numbers in rules stand for.
-ghost use Rattle.std.specs.Prelude.{◌≡◌, ◌≤◌, is_some, length};
+ghost use Rattle.std.specs.Prelude.{◌≡◌, ◌≤◌, is_some, length, position};
+ghost use Rattle.std.specs.Str.{bytes_eq};
 ghost use Rattle.sg_facts.specs.Facts.{facts_of};
 ghost use Rattle.sg_facts.specs.Limits.{most_fields, most_funs};
 ghost use Rattle.sg_describe.specs.Names.{argument_at, argument_named, code_named, field_number, named, param_place};
@@ -7,7 +8,7 @@ ghost use Rattle.sg_describe.specs.Names.{argument_at, argument_named, code_name
 use crate::digits::number_of_digits;
 use sg_check_statements::fun_number;
 use sg_described::Operand;
-use sg_facts::{Code, Kind, Shape};
+use sg_facts::{Code, FieldShape, Kind, Shape};
 use sg_shape::count_args;
 
 /// Every code.
@@ -38,7 +39,14 @@ pub fn code_named(name: &[u8]) -> Option<Code>
 pub fn field_number(shape: &Shape, name: &[u8]) -> Option<usize>
     ensures { result ≡ field_number (facts_of shape.now) name.now }
 {
-    shape.fields.iter().position(|field| field.name == name)
+    place_of(shape.fields, name)
+}
+
+// The place, from 0, of the field of a name among fields.
+fn place_of(fields: &[FieldShape], name: &[u8]) -> Option<usize>
+    ensures { result ≡ position (λ field. bytes_eq field.name.now name.now) fields.now }
+{
+    fields.iter().position(|field| field.name == name)
 }
 
 /// What a name in a rule stands for: the field of the name, else the state that the function of the name leaves, as its number. A shape has

@@ -1,5 +1,5 @@
 // What the statements of a text say of greatest numbers and of answers.
-ghost use Rattle.std.specs.Prelude.{◌≡◌};
+ghost use Rattle.std.specs.Prelude.{◌≡◌, [], unwrap_or};
 ghost use Rattle.std.specs.Option.{option_copied};
 ghost use Rattle.sg_describe.specs.Said.{most_in, most_said, proto_in, proto_place, rules_in, rules_said};
 ghost use Rattle.sg_describe.specs.Said.{first_in};
@@ -32,7 +32,14 @@ fn most_in<'t, 'a>(statement: &'t Statement<'a>, field: &[u8]) -> Option<&'t Spe
 pub fn rules_said<'t, 'a>(statements: &'t [Statement<'a>], fun: &[u8]) -> &'t [Rule<'a>]
     ensures { result.now ≡ rules_said fun.now statements.now }
 {
-    match answer_said(statements, fun) {
+    told(answer_said(statements, fun))
+}
+
+// The rules that are told; none where none are.
+fn told<'t, 'a>(rules: Option<&'t [Rule<'a>]>) -> &'t [Rule<'a>]
+    ensures { result.now ≡ unwrap_or (option_copied rules.entry) [] }
+{
+    match rules {
         Some(rules) => rules,
         None => &[],
     }

@@ -5,7 +5,7 @@ use Rattle.sg_describe.specs.declared.fault.AnswerFaultKind.{AnswerFaultKind}
 use Rattle.sg_describe.specs.declared.fault.AnswerFaultKind.TheVariants.{NotYet}
 use Rattle.sg_describe.specs.AnswerFaults.{IsFirstAnswerError, answer_kinds, answer_rank, flaw_of}
 use Rattle.sg_describe.specs.Inside.Stages.{AreClear}
-use Rattle.sg_describe.proofs.Clear.{none_clear, ranked, stage}
+use Rattle.sg_describe.proofs.Clear.{ranked, stage}
 use Rattle.sg_describe.proofs.describing.flawless.Goals as goal
 use Rattle.sg_describe.proofs.describing.flawless.Goals.{After-unless}
 
@@ -20,12 +20,9 @@ answered c =
     let kind = get_or answer_kinds c.loop-kind.kind-index NotYet in
     let rank = in_order c.loop-kind.kind-index c.loop-kind-test.true in
     let clear = subst (AreClear tree) (sym rank) c.loop-kind.invariant in
-    let here = c.flaw_of.ensures ∙ ap (λ facts. flaw_of kind facts tree) c.requires-shape in
+    let here = c.flaw_of.ensures ∙ ap (λ facts. flaw_of kind facts tree) c.requires.shape in
     let told = stage tree kind c.flaw_of.result c.unless.result clear here c.unless.ensures in
     subst (λ n. MatchResult c.unless.result (λ _. AreClear tree (n + 1)) (IsFirstAnswerError tree)) rank told
-
-pub loop-kind-holds : goal.loop-kind-holds
-loop-kind-holds c = none_clear c.args.tree.now
 
 pub returns-in_err-unless : goal.returns-in_err-unless
 returns-in_err-unless c = let told = answered (goal.at.returns-in_err-unless c).After-unless in search rules

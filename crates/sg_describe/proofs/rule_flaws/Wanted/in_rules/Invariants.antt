@@ -6,4 +6,4 @@ use Rattle.sg_describe.specs.AnswerFlaws.{rule_flaw}
 use Rattle.sg_describe.proofs.rule_flaws.Wanted.in_rules.Given as goal
 
 abbrev pub invariant-rules : goal.invariant-rules
-invariant-rules l = filter_map (rule_flaw l.self.kind (facts_of l.self.shape) (fun_of_shape l.self.fun)) (take l.rule-index l.rules) ≡ []
+invariant-rules l = filter_map (rule_flaw l.self.kind (facts_of l.self.shape.now) (fun_of_shape l.self.fun.now)) (take l.rule-index l.rules) ≡ []

@@ -6,4 +6,4 @@ use Rattle.sg_describe.specs.AnswerFlaws.{operand_flaw, test_flaw}
 use Rattle.sg_describe.proofs.rule_flaws.Wanted.in_tests.Given as goal
 
 abbrev pub invariant-tests : goal.invariant-tests
-invariant-tests l = filter_map (test_flaw (operand_flaw l.self.kind (facts_of l.self.shape) (fun_of_shape l.self.fun))) (take l.test-index l.tests) ≡ []
+invariant-tests l = filter_map (test_flaw (operand_flaw l.self.kind (facts_of l.self.shape.now) (fun_of_shape l.self.fun.now))) (take l.test-index l.tests) ≡ []
