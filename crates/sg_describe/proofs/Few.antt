@@ -4,14 +4,12 @@ use Rattle.std.specs.Prelude.{All}
 use Rattle.std.proofs.lemmas.List.{length-map}
 use Rattle.std.proofs.lemmas.Option.{slice_get-get_or}
 use Rattle.sg_facts.specs.Facts.{Facts, Fun}
-use Rattle.sg_facts.specs.Limits.{most_fields, most_funs}
 use Rattle.sg_check_statements.specs.sg_parse.declared.tree.Param.{Param}
-use Rattle.sg_check_statements.specs.sg_parse.declared.tree.Statement.{Statement}
 use Rattle.sg_check_statements.specs.sg_parse.declared.tree.Tree.{Tree}
 use Rattle.sg_shape.specs.declared.fault.ShapeFaultKind.TheVariants.{Limit}
 use Rattle.sg_shape.specs.Faults.{HasNoShapeFlaw}
 use Rattle.sg_shape.specs.Fields.{field_at, first_uses, uses_of}
-use Rattle.sg_shape.specs.Prototypes.{Prototype, protos_of}
+use Rattle.sg_shape.specs.Prototypes.{protos_of}
 use Rattle.sg_shape.specs.ShapeOfText.{function_of, kind_of, shape_of_text}
 use Rattle.sg_shape.proofs.Flawless.{few_fields, few_params, few_protos, own_funs}
 use Rattle.sg_describe.specs.Inside.Parts.{HasFewNames, HasFewParams}

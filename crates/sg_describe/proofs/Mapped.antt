@@ -1,7 +1,6 @@
 -- Tests and places in a mapped list are those of the list.
-use Rattle.std.proofs.Common.{◌≡◌, ℕ, Bool, true, false, cond, ◌||◌, List, [], ◌∷◌, get_or, map, zero, ◌<◌, arith, length, None, Some, suc, ◌+◌, not, refl, ◌∙◌, ap}
+use Rattle.std.proofs.Common.{◌≡◌, ℕ, Bool, cond, ◌||◌, List, [], ◌∷◌, get_or, map, zero, ◌<◌, arith, length, None, Some, suc, ◌+◌, not, refl, ◌∙◌, ap}
 use Rattle.std.specs.Prelude.{All, nat_lt, position}
-use Rattle.std.specs.declared.option.Option.{Option}
 use Rattle.std.specs.List.{list_any, position_or_len}
 use Rattle.std.proofs.lemmas.List.{length-map}
 

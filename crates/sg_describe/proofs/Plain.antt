@@ -1,21 +1,21 @@
 -- A text in which nothing is wrong describes a service of single rows, which keeps to what it has to by itself.
-use Rattle.std.proofs.Common.{◌≡◌, ℕ, zero, suc, ◌+◌, ◌<◌, ◌≤◌, ◌==◌, Bool, true, false, cond, ◌&&◌, ◌||◌, not, List, [], ◌∷◌, ◌++◌, map, drop, length, None, Some, codes, refl, sym, ◌∙◌, ap, subst, arith}
+use Rattle.std.proofs.Common.{◌≡◌, ℕ, zero, suc, ◌+◌, Bool, true, false, ◌&&◌, ◌||◌, not, List, [], ◌∷◌, map, length, None, Some, codes, refl, sym, ◌∙◌, ap, arith}
 use Rattle.std.specs.Prelude.{if◌then◌else◌, nat_le, nat_lt, slice_get, unwrap_or}
 use Rattle.std.specs.Bool.{then_some}
 use Rattle.std.specs.declared.option.Option.{Option}
-use Rattle.std.specs.List.{cons_option, filter_map, list_all, list_any}
+use Rattle.std.specs.List.{list_all, list_any}
 use Rattle.std.specs.Option.{option_and_then, option_map, option_map_or, option_or}
 use Rattle.std.specs.Str.{bytes_eq}
-use Rattle.std.proofs.lemmas.Bool.{and_from, and_parts, eq-eqb, le-leb, leb-true, or_parts}
+use Rattle.std.proofs.lemmas.Bool.{and_from, and_parts, eq-eqb, le-leb, or_parts}
 use Rattle.std.proofs.lemmas.List.{length-map}
 use Rattle.std.proofs.lemmas.List.Folds.{list_all-map}
 use Rattle.std.proofs.lemmas.Option.{slice_get-map}
-use Rattle.sg_facts.specs.Allowed.{implies, is_allowed, is_never, is_replayed, wants_word}
+use Rattle.sg_facts.specs.Allowed.{implies, is_never, is_replayed, wants_word}
 use Rattle.sg_facts.specs.Facts.{Facts, Field, Fun}
 use Rattle.sg_facts.specs.Limits.{most_fields, most_funs}
 use Rattle.sg_facts.specs.sg_base.Counts.{last_count}
 use Rattle.sg_check_statements.specs.Says.{says}
-use Rattle.sg_check_statements.specs.Shapes.{all_differ, are_funs, is_fun, is_shape, leaves_fun}
+use Rattle.sg_check_statements.specs.Shapes.{all_differ, are_funs, is_fun, leaves_fun}
 use Rattle.sg_check_statements.specs.sg_parse.declared.tree.Statement.{Statement}
 use Rattle.sg_check_statements.specs.sg_parse.declared.tree.Statement.TheVariants.{One, Two, Proto, External, Most, Unique, Answer}
 use Rattle.sg_check_statements.specs.sg_parse.declared.tree.Tree.{Tree}
@@ -32,13 +32,12 @@ use Rattle.sg_shape.proofs.Places.{all_pass, each_passes}
 use Rattle.sg_shape.proofs.Shapes.{fits}
 use Rattle.sg_described.specs.Described.{Described, rules_at}
 use Rattle.sg_described.specs.Meaning.{last_word}
-use Rattle.sg_described.specs.NeverZero.{all_from}
 use Rattle.sg_described.specs.Safe.{always_gives, are_plain_rules, is_plain, is_plain_fun, is_plain_kind, is_plain_move, is_plain_rule}
 use Rattle.sg_describe.specs.declared.fault.AnswerFaultKind.{AnswerFaultKind}
 use Rattle.sg_describe.specs.declared.fault.AnswerFaultKind.TheVariants.{NotYet, NoWord}
-use Rattle.sg_describe.specs.AnswerFaults.{HasNoAnswerFlaw, flaw_of}
-use Rattle.sg_describe.specs.AnswerFlaws.{fun_flaw, funs_flaw, gives_always, head_flaw, is_flawed, is_later_word, lacks_word, not_yet_in, repeat_place, replays_text, rule_flaw, statement_flaw, text_param}
-use Rattle.sg_describe.specs.DescribedText.{answer_of, described_of_text, described_with, most_of, most_unsaid, rule_of}
+use Rattle.sg_describe.specs.AnswerFaults.{HasNoAnswerFlaw}
+use Rattle.sg_describe.specs.AnswerFlaws.{fun_flaw, funs_flaw, gives_always, head_flaw, is_flawed, is_later_word, not_yet_in, repeat_place, rule_flaw, statement_flaw}
+use Rattle.sg_describe.specs.DescribedText.{answer_of, described_of_text, most_of, most_unsaid}
 use Rattle.sg_describe.specs.Said.{first_in, most_said, proto_in, proto_place, rules_said}
 use Rattle.sg_describe.proofs.Finding.{all_from_each, mapped_at, neither, no_it, none_in, not_held, not_it, not_told}
 use Rattle.sg_describe.proofs.PlainFields.{fields_plain, numbered_within}

@@ -1,20 +1,17 @@
 -- The rules of a function in which nothing is wrong.
-use Rattle.std.proofs.Common.{◌≡◌, ℕ, zero, suc, ◌+◌, ◌<◌, ◌≤◌, ◌==◌, Bool, true, false, cond, ◌&&◌, ◌||◌, not, List, [], ◌∷◌, ◌++◌, map, length, None, Some, codes, refl, sym, ◌∙◌, ap, subst, arith}
-use Rattle.std.specs.Prelude.{is_none, slice_get, unwrap_or}
-use Rattle.std.specs.Bool.{then_some}
+use Rattle.std.proofs.Common.{◌≡◌, ℕ, suc, ◌==◌, Bool, true, false, ◌&&◌, ◌||◌, not, List, [], ◌∷◌, map, length, None, Some, refl, arith}
+use Rattle.std.specs.Prelude.{is_none, unwrap_or}
 use Rattle.std.specs.declared.option.Option.{Option}
 use Rattle.std.specs.List.{list_all, list_any}
-use Rattle.std.specs.Option.{option_map_or, option_or}
+use Rattle.std.specs.Option.{option_map_or}
 use Rattle.std.proofs.lemmas.Bool.Decides.{nat_tests}
 use Rattle.std.proofs.lemmas.Bool.{and_from, and_parts, or_left, or_right}
-use Rattle.std.proofs.lemmas.List.{length-map}
 use Rattle.sg_facts.specs.Facts.{Facts, Fun}
 use Rattle.sg_facts.specs.Guard.{is_guards}
 use Rattle.sg_facts.specs.sg_base.declared.reply.Code.{Code}
 use Rattle.sg_facts.specs.sg_base.declared.reply.Code.TheVariants.{NotFound}
 use Rattle.sg_check_statements.specs.sg_parse.sg_rules.declared.tree.Rule.{Rule as TextRule}
 use Rattle.sg_check_statements.specs.sg_parse.sg_rules.declared.tree.Rule.TheVariants.{Refuse, Wait, Give, GiveRow, GiveFirst}
-use Rattle.sg_check_statements.specs.sg_parse.sg_rules.declared.tree.RowTest.{RowTest}
 use Rattle.sg_check_statements.specs.sg_parse.sg_rules.declared.tree.Test.{Test as TextTest}
 use Rattle.sg_described.specs.Described.{Rule}
 use Rattle.sg_described.specs.Known.{is_give}
@@ -25,7 +22,7 @@ use Rattle.sg_describe.specs.AnswerFlaws.{gives_always, operand_flaw, operands_f
 use Rattle.sg_describe.specs.DescribedText.{rule_of, test_of}
 use Rattle.sg_describe.specs.Names.{code_named}
 use Rattle.sg_describe.specs.Said.{first_in}
-use Rattle.sg_describe.proofs.Finding.{neither, no_it, none_in, not_it, not_told}
+use Rattle.sg_describe.proofs.Finding.{neither, none_in, not_it, not_told}
 
 module _ (facts : Facts) (f : Fun) where
   own_none : (kind : AnswerFaultKind) (r : TextRule) → rule_flaw kind facts f r ≡ None → own_flaw kind f r ≡ None

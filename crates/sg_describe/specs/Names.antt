@@ -1,10 +1,10 @@
 -- What names and numbers in rules stand for.
-use Rattle.std.specs.Prelude.{ℕ, ◌-◌, Bool, true, false, if◌then◌else◌, nat_le, List, [], ◌∷◌, None, Some, find, position, slice_get, take, unwrap_or}
+use Rattle.std.specs.Prelude.{ℕ, ◌-◌, Bool, true, false, if◌then◌else◌, nat_le, List, [], ◌∷◌, None, Some, find, position, slice_get, take}
 use Rattle.std.specs.Option.{option_and_then, option_map, option_map_or, option_or}
 use Rattle.std.specs.Str.{bytes_eq}
 use Rattle.std.specs.declared.option.Option.{Option}
 use Rattle.sg_facts.specs.Allowed.{count_args}
-use Rattle.sg_facts.specs.Facts.{Facts, Fun}
+use Rattle.sg_facts.specs.Facts.{Facts}
 use Rattle.sg_facts.specs.declared.shape.Kind.{Kind}
 use Rattle.sg_facts.specs.declared.shape.Kind.TheVariants.{Word}
 use Rattle.sg_facts.specs.sg_base.Codes.{code_name}

@@ -1,5 +1,5 @@
 -- What the statements of a text say of greatest numbers and of answers.
-use Rattle.std.specs.Prelude.{ℕ, if◌then◌else◌, List, [], ◌∷◌, None, Some, filter_map, slice_get, unwrap_or}
+use Rattle.std.specs.Prelude.{ℕ, if◌then◌else◌, List, [], None, Some, filter_map, slice_get, unwrap_or}
 use Rattle.std.specs.Str.{bytes_eq}
 use Rattle.std.specs.declared.option.Option.{Option}
 use Rattle.sg_check_statements.specs.sg_parse.declared.tree.Statement.{Statement}

@@ -1,7 +1,6 @@
 -- Each kind is looked for where the ones before are clear.
-use Rattle.std.proofs.Common.{◌≡◌, ℕ, ◌+◌, ◌<◌, List, [], ◌∷◌, get_or, rules, sym, ◌∙◌, ap, subst, arith}
+use Rattle.std.proofs.Common.{◌≡◌, ℕ, ◌+◌, ◌<◌, get_or, rules, sym, ◌∙◌, ap, subst, arith}
 use Rattle.std.specs.Result.{MatchResult}
-use Rattle.sg_describe.specs.declared.fault.AnswerFaultKind.{AnswerFaultKind}
 use Rattle.sg_describe.specs.declared.fault.AnswerFaultKind.TheVariants.{NotYet}
 use Rattle.sg_describe.specs.AnswerFaults.{IsFirstAnswerError, answer_kinds, answer_rank, flaw_of}
 use Rattle.sg_describe.specs.Inside.Stages.{AreClear}

@@ -1,8 +1,8 @@
 -- Part by part.
 use Rattle.std.proofs.Common.{sym, ap, ◌∙◌, map}
 use Rattle.sg_facts.specs.Facts.{Field, facts_of}
-use Rattle.sg_described.specs.Described.{Described, rules_of}
-use Rattle.sg_describe.specs.DescribedText.{answer_of, most_of}
+use Rattle.sg_described.specs.Described.{rules_of}
+use Rattle.sg_describe.specs.DescribedText.{most_of}
 use Rattle.sg_describe.proofs.Mapped.{map_mapped}
 use Rattle.sg_describe.proofs.making.described.Goals as goal
 
