@@ -34,7 +34,7 @@ module _ (tree : Tree) where
   pub not_both : (i : Declared) (kind : OwnKind) (at : ℕ) → IsOwnAccepted tree i → IsOwnFault tree kind at → ⊥
   not_both i (Shape kind) at is fault = not_both_shapes tree kind at is.described.shape fault
   not_both i (Answers kind) at is fault = not_both_answers tree kind at is.described.answers fault.1
-  not_both i (Safety kind) at is (described, reason, told, rest) = unreasoned reason told is.safe
+  not_both i (Safety kind) at is (described, reason, told, of, place) = unreasoned reason told is.safe
   not_both i (Walks kind) at is (described, safe, inl fault) = is.accepted.none kind at fault.here
   not_both i (Walks kind) at is (described, safe, inr (accepted, external, no_walk)) = inside_not at external is.inside
 
@@ -58,14 +58,14 @@ module _ (tree : Tree) where
         ap Safety (kind ∙ ap kind_of same ∙ sym kind'),
         at ∙ ap (reason_place (shape_of_text tree) tree.statements) same ∙ sym at',
       )
-  one_fault (Safety one) (Walks other) here there (d, reason, told, rest) b = unreasoned reason told b.1
+  one_fault (Safety one) (Walks other) here there (d, reason, told, of, place) b = unreasoned reason told b.1
   one_fault (Walks one) (Shape other) here there a b = absurd (not_both_shapes tree other there a.0.shape b)
   one_fault (Walks one) (Answers other) here there a b = absurd (not_both_answers tree other there a.0.answers b.1)
-  one_fault (Walks one) (Safety other) here there a (d, reason, told, rest) = unreasoned reason told a.1
+  one_fault (Walks one) (Safety other) here there a (d, reason, told, of, place) = unreasoned reason told a.1
   one_fault (Walks one) (Walks other) here there (d, safe, inl a) (d', safe', inl b) =
       let same = same_fault (itself tree) tree one other here there a b in (ap Walks same.0, same.1)
-  one_fault (Walks one) (Walks other) here there (d, safe, inl a) (d', safe', inr ((i, accepted), b)) = absurd (accepted.none one here a.here)
-  one_fault (Walks one) (Walks other) here there (d, safe, inr ((i, accepted), a)) (d', safe', inl b) = absurd (accepted.none other there b.here)
+  one_fault (Walks one) (Walks other) here there (d, safe, inl a) (d', safe', inr ((i, accepted), external, kind)) = absurd (accepted.none one here a.here)
+  one_fault (Walks one) (Walks other) here there (d, safe, inr ((i, accepted), external, kind)) (d', safe', inl b) = absurd (accepted.none other there b.here)
   one_fault (Walks one) (Walks other) here there (d, safe, inr (accepted, external, kind)) (d', safe', inr (accepted', external', kind')) =
       let same : Some here ≡ Some there = sym external ∙ external' in
       (ap Walks (kind ∙ sym kind'), cc same)
