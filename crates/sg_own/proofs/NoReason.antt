@@ -1,6 +1,5 @@
 -- Where a description is safe there is no reason why it isn't.
-use Rattle.std.proofs.Common.{◌≡◌, true, false, not, None, Some, sym, ◌∙◌, ap}
-use Rattle.std.specs.Bool.{then_some}
+use Rattle.std.proofs.Common.{◌≡◌, None, ◌∙◌, ap}
 use Rattle.std.specs.Option.{option_map, option_or}
 use Rattle.std.specs.declared.option.Option.{Option}
 use Rattle.sg_safe.specs.sg_described.Described.{Described}

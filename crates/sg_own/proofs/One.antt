@@ -1,9 +1,7 @@
 -- One thing is said of a text that describes a service of its own.
-use Rattle.std.proofs.Common.{◌≡◌, ◌⊎◌, inl, inr, ℕ, List, [], ◌∷◌, None, Some, refl, sym, ◌∙◌, ap, subst}
-use Rattle.std.specs.declared.option.Option.{Option}
-use Rattle.sg_facts.specs.Facts.{Facts}
+use Rattle.std.proofs.Common.{◌≡◌, ◌⊎◌, inl, inr, ℕ, None, Some, sym, ◌∙◌, ap}
 use Rattle.sg_facts.specs.Interface.{Declared}
-use Rattle.sg_check.specs.sg_check_statements.Faults.{IsAccepted, IsFault, interface_of}
+use Rattle.sg_check.specs.sg_check_statements.Faults.{interface_of}
 use Rattle.sg_check.specs.sg_check_statements.declared.fault.CheckKind.{CheckKind}
 use Rattle.sg_check.specs.sg_check_statements.declared.fault.CheckKind.TheVariants.{NoCreation, NoWalk, Unreached}
 use Rattle.sg_check.specs.sg_check_statements.sg_parse.declared.tree.Tree.{Tree}

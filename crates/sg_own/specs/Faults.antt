@@ -1,17 +1,15 @@
 -- What is first wrong with a text that describes a service of its own, and when it is accepted.
-use Rattle.std.specs.Prelude.{ℕ, ◌≡◌, ◌⊎◌, true, List, [], ◌∷◌, None, Some}
+use Rattle.std.specs.Prelude.{ℕ, ◌≡◌, ◌⊎◌, List, [], ◌∷◌, None, Some}
 use Rattle.std.specs.declared.option.Option.{Option}
 use Rattle.sg_facts.specs.Facts.{Facts}
 use Rattle.sg_facts.specs.Interface.{Declared}
 use Rattle.sg_check.specs.sg_check_statements.Faults.{IsAccepted, IsFault}
-use Rattle.sg_check.specs.sg_check_statements.declared.fault.CheckKind.{CheckKind}
 use Rattle.sg_check.specs.sg_check_statements.declared.fault.CheckKind.TheVariants.{NoWalk as no_walk}
 use Rattle.sg_check.specs.sg_check_statements.sg_parse.declared.tree.Statement.{Statement}
 use Rattle.sg_check.specs.sg_check_statements.sg_parse.declared.tree.Statement.TheVariants.{External}
 use Rattle.sg_check.specs.sg_check_statements.sg_parse.declared.tree.Tree.{Tree}
 use Rattle.sg_describe.specs.sg_shape.Faults.{HasNoShapeFlaw, IsFirstShapeFlaw}
 use Rattle.sg_describe.specs.sg_shape.ShapeOfText.{shape_of_text}
-use Rattle.sg_describe.specs.sg_described.Described.{Described}
 use Rattle.sg_describe.specs.sg_described.Safe.{IsSafe}
 use Rattle.sg_describe.specs.AnswerFaults.{HasNoAnswerFlaw, IsFirstAnswerFlaw}
 use Rattle.sg_describe.specs.DescribedText.{described_of_text}

@@ -1,5 +1,5 @@
 -- What an error tells of a text that describes a service of its own.
-use Rattle.std.specs.Prelude.{ℕ, ◌≡◌, Some}
+use Rattle.std.specs.Prelude.{◌≡◌, Some}
 use Rattle.sg_check.specs.sg_check_statements.sg_parse.declared.tree.Tree.{Tree}
 use Rattle.sg_describe.specs.DescribedText.{described_of_text}
 use Rattle.sg_safe.specs.Reasons.{IsReason, unsafe_in}
@@ -7,8 +7,7 @@ use Rattle.sg_safe.specs.declared.reason.Unsafe.{Unsafe}
 use Rattle.sg_own.specs.declared.fault.OwnError.{OwnError}
 use Rattle.sg_own.specs.declared.fault.OwnError.TheVariants.{NoMemory, Fault}
 use Rattle.sg_own.specs.declared.fault.OwnFault.{OwnFault}
-use Rattle.sg_own.specs.declared.fault.OwnKind.{OwnKind}
-use Rattle.sg_own.specs.declared.fault.OwnKind.TheVariants.{Shape, Answers, Safety, Walks}
+use Rattle.sg_own.specs.declared.fault.OwnKind.TheVariants.{Safety}
 use Rattle.sg_own.specs.Faults.{IsOwnFault}
 
 -- a fault tells what is first wrong, and, where the service can't be recovered, why
