@@ -35,8 +35,8 @@ walk_words facts (fun ∷ walk) = flat_map (λ f. codes " " ++ (fun_at facts.fun
 -- the field that a replayed call fails by
 abbrev pub obstacle_words : Facts → Obstacle → List ℕ
 obstacle_words facts (ByRule rule) = []
-obstacle_words facts (NoClient x) = codes "; the client would be " ++ field_name facts x
-obstacle_words facts (PastMost x) = codes "; the field is " ++ field_name facts x
+obstacle_words facts (NoClient x) = concat (codes "; the client would be " ∷ field_name facts x ∷ [])
+obstacle_words facts (PastMost x) = concat (codes "; the field is " ∷ field_name facts x ∷ [])
 
 -- where a replayed call may fail: after which calls, and with which fields
 abbrev pub call_line : Facts → List ℕ → FailingCall → List ℕ
