@@ -38,7 +38,8 @@ module _ (Accepts : List ℕ → Tree → List ℕ → Type 0) (alone : IsOneOut
       absurd (never_both text tree one other is (subst (λ t. IsOwnRefusal text t other) (one_own_tree text tree tree' own own') is'))
   one_own text (Refused one) (Ready other) (tree, own, is) (tree', own', is') =
       absurd (never_both text tree other one (subst (λ t. Accepts text t other) (one_own_tree text tree tree' own own') is') is)
-  one_own text (Refused one) (Refused other) (tree, own, kind, at, fault, told) (tree', own', is') =
+  one_own text (Refused one) (Refused other) (tree, own, is) (tree', own', is') =
+      let (kind, at, fault, told) = is in
       let (kind', at', fault', told') = subst (λ t. IsOwnRefusal text t other) (one_own_tree text tree tree' own own') is' in
       let same = one_fault tree kind kind' at at' fault fault' in
       ap Refused (told ∙ ap (λ k. refused_line (codes "interface refused at ") text at (own_name k)) same.0

@@ -1,0 +1,6 @@
+-- One field fewer is left.
+use Rattle.std.proofs.Common.{length}
+use Rattle.sg_judge.proofs.reasons.+put_fields.Given as goal
+
+abbrev pub decreases-put_fields : goal.decreases-put_fields
+decreases-put_fields l = length l.fields.now
