@@ -48,7 +48,8 @@ use Rattle.sg_facts.specs.sg_base.declared.value.Value.{Value}
 use Rattle.sg_facts.specs.sg_base.declared.value.Value.TheVariants.{Word, Text}
 use Rattle.sg_report.specs.Report.{entry_line, listed, reply_text, takes_id, value_text}
 use Rattle.sg_report.specs.Inside.Pieces.{quoted}
-use Rattle.sg_script.specs.Numbers.{is_text, value_of_digits}
+use Rattle.sg_lex.specs.Numbers.{value_of_digits}
+use Rattle.sg_script.specs.Numbers.{is_text}
 use Rattle.sg_script.specs.Scripts.{declared_fun}
 
 -- ---- numbers

@@ -12,7 +12,7 @@ use Rattle.sg_facts.specs.sg_base.declared.reply.Reply.TheVariants.{Refused, Ok}
 use Rattle.sg_facts.specs.sg_base.declared.value.Value.{Value}
 use Rattle.sg_facts.specs.sg_base.declared.value.Value.TheVariants.{Word, Text}
 use Rattle.sg_report.specs.Report.{takes_id}
-use Rattle.sg_script.specs.Numbers.{value_of_digits}
+use Rattle.sg_lex.specs.Numbers.{value_of_digits}
 use Rattle.sg_script.specs.Scripts.{declared_fun}
 
 -- the number that is written

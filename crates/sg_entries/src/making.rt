@@ -15,7 +15,8 @@ use sg_facts::{
     Args, Bytes, Call, Entry, FunShape, Good, Interface, Kind, LAST_CLIENT, NoMemory, Reply, Text,
     Value, Words,
 };
-use sg_script::{MOST_CALLS, declared_fun, is_text, number_of_digits, text_of};
+use sg_lex::number_of_digits;
+use sg_script::{MOST_CALLS, declared_fun, is_text, text_of};
 use std::alloc::Global;
 
 // The number of the first entry that is one too many: a run has as many entries as its script has calls, at the most.

@@ -4,6 +4,7 @@ pub mod Chains
 pub mod Classes
 pub mod Closes
 pub mod Comments
+pub mod Digits
 pub mod Firsts
 pub mod Forward
 pub mod Fronts

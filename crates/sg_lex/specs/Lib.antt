@@ -2,6 +2,7 @@ pub mod Bytes
 pub mod Fronts
 pub mod Inside
 pub mod Lexeme
+pub mod Numbers
 pub mod Reading
 pub mod Sentences
 pub mod Table

@@ -8,6 +8,7 @@
 //! - `token_test`: what a token is asked for (`TokenTest`, `IsKind`, `IsMark`, `IsWord`)
 //! - `spelled`: a part of a text, with its place (`Spelled`)
 //! - `front`: what stands at the front of a text, over `bytes`, the classes of bytes
+//! - `numbers`: what digits stand for (`number_of_digits`)
 //! - `laws`: tokens are slices, and the answers are the one reading of a text
 #![tactic(auto)]
 
@@ -15,6 +16,7 @@ mod bytes;
 mod front;
 mod laws;
 mod lexer;
+mod numbers;
 mod reader;
 mod spelled;
 mod token;
@@ -22,6 +24,7 @@ mod token_test;
 
 pub use laws::{answers_are_the_reading, tokens_are_slices};
 pub use lexer::{Lexer, first_token};
+pub use numbers::number_of_digits;
 pub use reader::Reader;
 pub use spelled::{Spelled, SpelledList};
 pub use token::{LexFault, Token, TokenKind};

@@ -1,4 +1,3 @@
-pub mod Digits
 pub mod Earliest
 pub mod Held
 pub mod Naming

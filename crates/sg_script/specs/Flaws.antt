@@ -17,7 +17,8 @@ use Rattle.sg_script_parse.specs.declared.tree.Part.TheVariants.{Setup, Client, 
 use Rattle.sg_script.specs.declared.fault.ScriptKind.{ScriptKind}
 use Rattle.sg_script.specs.declared.fault.ScriptKind.TheVariants.{Syntax, UnknownFunction, UnknownService, BadArgs, BadClient, Twice, NotAscending, Blocking, Limit}
 use Rattle.sg_script.specs.declared.fault.ScriptFault.{ScriptFault}
-use Rattle.sg_script.specs.Numbers.{counts_as, is_known_client, is_text, unquoted, value_of_digits}
+use Rattle.sg_script.specs.Numbers.{counts_as, is_known_client, is_text, unquoted}
+use Rattle.sg_script_parse.specs.sg_lex.Numbers.{value_of_digits}
 use Rattle.sg_script.specs.Scripts.{calls_of_setup, function_named, is_stop_of, stop_member}
 use Rattle.sg_script.specs.contracts.fault.ScriptKindPartialEq.TheImpl.{eq-value as same_kind}
 

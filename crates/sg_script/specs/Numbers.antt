@@ -1,26 +1,14 @@
 -- What numbers and texts of a script stand for.
-use Rattle.std.specs.Prelude.{ℕ, ◌+◌, ◌*◌, ◌-◌, Bool, ◌&&◌, nat_le, if◌then◌else◌, List, None, Some, length, min, take, drop}
-use Rattle.std.specs.declared.option.Option.{Option}
-use Rattle.std.specs.List.{fold, list_all}
+use Rattle.std.specs.Prelude.{ℕ, ◌-◌, Bool, ◌&&◌, nat_le, List, length, min, take, drop}
+use Rattle.std.specs.List.{list_all}
 use Rattle.sg_facts.specs.sg_base.Counts.{last_count}
 use Rattle.sg_facts.specs.sg_base.Text.{is_text_byte}
 use Rattle.sg_facts.specs.Limits.{last_client}
-
--- what digits stand for
-abbrev pub value_of_digits : List ℕ → ℕ
-value_of_digits digits = fold (λ a d. 10 * a + (d - 48)) 0 digits
+use Rattle.sg_script_parse.specs.sg_lex.Numbers.{value_of_digits}
 
 -- what digits count as: a number above the greatest of 64 bits counts as the greatest
 abbrev pub counts_as : List ℕ → ℕ
 counts_as digits = min (value_of_digits digits) last_count
-
--- a number; None where it is above the greatest of 64 bits
-abbrev pub bounded : ℕ → Option ℕ
-bounded n = if nat_le n last_count then Some n else None
-
--- what digits stand for; None where that is above the greatest number
-abbrev pub number_of_digits : List ℕ → Option ℕ
-number_of_digits digits = bounded (value_of_digits digits)
 
 -- what stands between the quotes of a text
 abbrev pub unquoted : List ℕ → List ℕ

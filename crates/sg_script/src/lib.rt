@@ -29,7 +29,7 @@ pub use front::MOST_MEMBERS;
 pub use making::text_of;
 pub use multi::{MultiCall, MultiCallList, MultiClientList, MultiScript, StopsList};
 pub use names::declared_fun;
-pub use numbers::{is_text, number_of_digits};
+pub use numbers::is_text;
 pub use reading::{read, read_multi};
 pub use script::{Arg, CallList, ClientList, MOST_CALLS, Script, ScriptCall, TurnList};
 pub use sg_script_parse::{Part, ScriptSyntax, Spelled, WrittenArg, parse};

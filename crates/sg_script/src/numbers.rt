@@ -1,11 +1,13 @@
 // What numbers and texts of a script stand for.
-ghost use Rattle.std.specs.Prelude.{◌≡◌, ◌+◌, ◌*◌, ◌-◌, nat_lt};
+ghost use Rattle.std.specs.Prelude.{◌≡◌, nat_lt};
 ghost use Rattle.std.specs.List.{list_all};
-ghost use Rattle.sg_script.specs.Numbers.{bounded, counts_as, is_known_client, is_text, number_of_digits, unquoted, value_of_digits};
+ghost use Rattle.sg_script.specs.Numbers.{counts_as, is_known_client, is_text, unquoted};
+ghost use Rattle.sg_script_parse.specs.sg_lex.Numbers.{value_of_digits};
 ghost use Rattle.sg_facts.specs.sg_base.Counts.{last_count};
 ghost use Rattle.sg_facts.specs.sg_base.Text.{is_text_byte};
 
 use sg_facts::{LAST_CLIENT, Text, is_text_byte};
+use sg_script_parse::number_of_digits;
 
 /// What digits count as: a number above the greatest of 64 bits counts as the greatest.
 pub fn counts_as(digits: &[u8]) -> u64
@@ -43,26 +45,6 @@ pub fn is_text(bytes: &[u8]) -> bool
     ensures { result ≡ is_text bytes.now }
 {
     bytes.len() <= Text::MOST && are_text_bytes(bytes)
-}
-
-/// What digits stand for; None where that is above the greatest number of 64 bits.
-pub fn number_of_digits(digits: &[u8]) -> Option<u64>
-    ensures { result ≡ number_of_digits digits.now }
-{
-    let mut value = 0;
-    'digits: for digit in digits {
-        value = with_digit(value, *digit)?;
-    }
-    Some(value)
-}
-
-// A number with one digit more after it; None where that is above the greatest of 64 bits.
-fn with_digit(value: u64, digit: u8) -> Option<u64>
-    ensures { result ≡ bounded (10 * value + (digit - 48)) }
-{
-    value
-        .checked_mul(10)?
-        .checked_add(u64::from(digit.saturating_sub(b'0')))
 }
 
 // Whether a text may have these bytes.

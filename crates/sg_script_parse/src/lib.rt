@@ -23,5 +23,5 @@ pub use args::WrittenArgList;
 pub use error::ScriptSyntax;
 pub use laws::{one_answer, one_list_of_parts};
 pub use parser::{parse, parse_multi};
-pub use sg_lex::{Spelled, SpelledList};
+pub use sg_lex::{Spelled, SpelledList, number_of_digits};
 pub use tree::{Part, PartList, WrittenArg, WrittenCall, WrittenCallList};

@@ -1,9 +1,9 @@
 -- What the digits that are left make of the value so far.
 use Rattle.std.proofs.Common.{◌≡◌, ◌≤◌, ◌+◌, ◌*◌, ◌-◌, drop}
 use Rattle.std.specs.List.{fold}
-use Rattle.sg_facts.specs.sg_base.Counts.{last_count}
-use Rattle.sg_script.specs.Numbers.{bounded, value_of_digits}
-use Rattle.sg_script.proofs.numbers.number_of_digits.Given as goal
+use Rattle.sg_base.specs.Counts.{last_count}
+use Rattle.sg_lex.specs.Numbers.{bounded, value_of_digits}
+use Rattle.sg_lex.proofs.numbers.number_of_digits.Given as goal
 
 abbrev pub invariant-digits : goal.invariant-digits
 invariant-digits l = record {

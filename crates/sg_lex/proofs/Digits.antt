@@ -3,8 +3,8 @@ use Rattle.std.proofs.Common.{◌≡◌, ℕ, ◌+◌, ◌*◌, ◌-◌, ◌<◌
 use Rattle.std.proofs.lemmas.Bool.Decides.{nat_tests}
 use Rattle.std.proofs.lemmas.List.{at_drop_more}
 use Rattle.std.specs.List.{fold}
-use Rattle.sg_facts.specs.sg_base.Counts.{last_count}
-use Rattle.sg_script.specs.Numbers.{bounded, value_of_digits}
+use Rattle.sg_base.specs.Counts.{last_count}
+use Rattle.sg_lex.specs.Numbers.{bounded, value_of_digits}
 
 abbrev pub after : ℕ → List ℕ → ℕ
 after a digits = fold (λ b d. 10 * b + (d - 48)) a digits
