@@ -23,9 +23,9 @@ use Rattle.sg_check_statements.specs.sg_parse.declared.tree.Statement.TheVariant
 use Rattle.sg_check_statements.specs.sg_parse.declared.tree.Tree.{Tree}
 use Rattle.sg_check_statements.specs.declared.fault.CheckKind.TheVariants.{NoCreation, NoWalk, UnknownFunction, Unreached, WrongFlag}
 use Rattle.sg_check_statements.specs.Faults.{IsFirstStatement, interface_of}
-use Rattle.sg_check_statements.specs.Inside.Pieces.{NoStatement, IsUnreached, fit_flags, names_two, unknown, wrong_flag, is_proto, is_two}
+use Rattle.sg_check_statements.specs.Inside.Pieces.{NoStatement, IsUnreached, fit_flags, unknown, wrong_flag, is_proto, is_two}
 use Rattle.sg_check_statements.specs.Flaws.{fit_leaves, leaves_another, HasNoWalk, IsProtoWhere, fun_of_name, is_declared}
-use Rattle.sg_check_statements.specs.Says.{has_proto, fun_number_from, fun_number, says, says_of}
+use Rattle.sg_check_statements.specs.Says.{fun_number, fun_number_from, has_proto, names_two, says, says_of}
 use Rattle.std.specs.Bool.{then_some}
 use Rattle.std.specs.Option.{option_or}
 use Rattle.sg_check_statements.specs.NameSet.{has_name}

@@ -10,8 +10,8 @@ use Rattle.sg_facts.specs.declared.shape.Effect.{Effect}
 use Rattle.sg_facts.specs.Facts.{Field, fun_at}
 use Rattle.sg_facts.specs.Fields.{number_of}
 use Rattle.sg_facts.specs.Interface.{Declared}
-use Rattle.sg_facts.specs.Walks.{IsReachable, FieldMark, Spot, made, marks_after, moved, restores, restores_fields, spot_from, unset}
-use Rattle.sg_facts.specs.Inside.Walking.{first_spot, may_begin, may_go_on, next_spot, none_set, restores_at, restores_field}
+use Rattle.sg_facts.specs.Walks.{FieldMark, IsReachable, Spot, first_spot, made, marks_after, moved, next_spot, restores, restores_fields, spot_from, unset}
+use Rattle.sg_facts.specs.Inside.Walking.{may_begin, may_go_on, none_set, restores_at, restores_field}
 use Rattle.sg_walk.specs.declared.place.Triple.{Triple}
 use Rattle.std.proofs.lemmas.Option.{slice_get-get_or}
 use Rattle.sg_walk.proofs.ReachedStates.Closure.{there}

@@ -15,8 +15,8 @@ use Rattle.sg_parse.specs.declared.tree.Param.{Param}
 use Rattle.sg_parse.specs.declared.tree.Ret.{Ret}
 use Rattle.sg_parse.specs.declared.tree.Statement.TheVariants.{Proto, Two}
 use Rattle.sg_check_statements.specs.Flaws.{duplicate}
-use Rattle.sg_check_statements.specs.Inside.Pieces.{names_two, unknown, is_proto}
-use Rattle.sg_check_statements.specs.Says.{has_proto}
+use Rattle.sg_check_statements.specs.Inside.Pieces.{unknown, is_proto}
+use Rattle.sg_check_statements.specs.Says.{has_proto, names_two}
 use Rattle.std.specs.Bool.{then_some}
 use Rattle.sg_check_statements.specs.NameSet.{AreOf, has_name}
 

@@ -8,6 +8,7 @@ use Rattle.sg_facts.specs.declared.shape.Kind.{Kind}
 use Rattle.sg_facts.specs.declared.shape.Kind.TheVariants.{Desc, Parent, Word, Text}
 use Rattle.sg_facts.specs.Facts.{Fun}
 use Rattle.sg_parse.specs.declared.tree.Param.{Param}
+use Rattle.sg_parse.specs.declared.tree.TypeName.{TypeName}
 use Rattle.sg_parse.specs.sg_lex.Lexeme.{Spelling as Named}
 
 -- whether a name, where there is one, is this word
@@ -21,6 +22,16 @@ is_of_kind p Desc = has_word p.form (codes "desc") && (p.ty.stars == 0)
 is_of_kind p Parent = has_word p.form (codes "parent_desc") && (p.ty.stars == 0)
 is_of_kind p Word = not (has_word p.form (codes "desc")) && not (has_word p.form (codes "parent_desc")) && (p.ty.stars == 0)
 is_of_kind p Text = not (has_word p.form (codes "desc")) && not (has_word p.form (codes "parent_desc")) && not (p.ty.stars == 0)
+
+-- a client type has no star, and its last name is one of these
+abbrev pub is_client_type : TypeName → Bool
+is_client_type ty =
+    let last = slice_get ty.names (length ty.names - 1) in
+    (ty.stars == 0) && (has_word last (codes "spdid_t") || has_word last (codes "componentid_t"))
+
+-- the first parameter is a client, and is neither descriptor nor parent, nor added to a field
+abbrev pub is_caller : Param → Bool
+is_caller p = is_client_type p.ty && not (has_word p.form (codes "desc") || has_word p.form (codes "parent_desc") || has_word p.form (codes "desc_data_add"))
 
 -- whether parameters are those of a function: the first is a client, whose type has no star and ends in one of two names, and is neither
 -- descriptor nor parent, nor added to a field; the later ones are of the kinds, one by one

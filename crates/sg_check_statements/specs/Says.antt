@@ -1,5 +1,5 @@
 -- What the statements of a text say of functions, by their names.
-use Rattle.std.specs.Prelude.{ℕ, ◌+◌, Bool, false, ◌&&◌, if◌then◌else◌, List, [], ◌∷◌, None, Some, find}
+use Rattle.std.specs.Prelude.{ℕ, ◌+◌, Bool, false, ◌&&◌, ◌||◌, not, if◌then◌else◌, List, [], ◌∷◌, None, Some, codes, find}
 use Rattle.std.specs.declared.option.Option.{Option}
 use Rattle.std.specs.List.{list_any}
 use Rattle.std.specs.Str.{bytes_eq}
@@ -33,3 +33,11 @@ fun_number funs name = fun_number_from 1 funs name
 -- the service of a name
 abbrev pub service_of : List Facts → List ℕ → Option Facts
 service_of services name = find (λ s. bytes_eq s.name name) services
+
+-- the second name that a statement says is a function's, too
+abbrev pub names_two : List ℕ → Bool
+names_two word = bytes_eq word (codes "sm_state") || bytes_eq word (codes "sm_transition") || bytes_eq word (codes "sm_recover")
+
+-- whether two tests are the same
+abbrev pub agree : Bool → Bool → Bool
+agree a b = if a then b else not b

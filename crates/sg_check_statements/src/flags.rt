@@ -2,9 +2,9 @@
 ghost use Rattle.std.specs.Prelude.{◌≡◌, Some, MatchOption, codes};
 ghost use Rattle.std.specs.List.{list_any};
 ghost use Rattle.sg_facts.specs.Facts.{facts_of, fun_of_shape};
-ghost use Rattle.sg_check_statements.specs.Says.{says};
+ghost use Rattle.sg_check_statements.specs.Says.{agree, says};
 ghost use Rattle.sg_check_statements.specs.Faults.{IsFirstStatement};
-ghost use Rattle.sg_check_statements.specs.Inside.Pieces.{NoStatement, wrong_flag, agree, fit_flags};
+ghost use Rattle.sg_check_statements.specs.Inside.Pieces.{NoStatement, wrong_flag, fit_flags};
 ghost use Rattle.sg_check_statements.specs.Flaws.{fit_leaves, leaves_another, leaves_some, is_declared};
 
 use crate::funs::fun_of_name;

@@ -3,8 +3,8 @@ ghost use Rattle.std.specs.Prelude.{◌≡◌, Some, MatchOption, codes};
 ghost use Rattle.sg_facts.specs.Facts.{facts_of, fun_of_shape};
 ghost use Rattle.std.specs.Cmp.Lexicographic.{pointwise};
 ghost use Rattle.sg_check_statements.specs.Faults.{IsFirstStatement};
-ghost use Rattle.sg_check_statements.specs.Inside.Pieces.{NoStatement, bad_params, is_caller, is_client_type};
-ghost use Rattle.sg_check_statements.specs.Params.{is_of_kind, fit_params, has_word};
+ghost use Rattle.sg_check_statements.specs.Inside.Pieces.{NoStatement, bad_params};
+ghost use Rattle.sg_check_statements.specs.Params.{fit_params, has_word, is_caller, is_client_type, is_of_kind};
 
 use crate::funs::fun_of_name;
 use crate::judge::{Judge, first_flaw};

@@ -1,10 +1,10 @@
 // Whether the functions that statements name are declared, and those that are declared the service's.
 ghost use Rattle.std.specs.Prelude.{◌≡◌, ◌&&◌, not, Some, IfOk, MatchOption, codes};
 ghost use Rattle.sg_check_statements.specs.Faults.{IsFirstStatement};
-ghost use Rattle.sg_check_statements.specs.Inside.Pieces.{NoStatement, names_two, unknown};
+ghost use Rattle.sg_check_statements.specs.Inside.Pieces.{NoStatement, unknown};
 ghost use Rattle.sg_facts.specs.Facts.{facts_of};
 ghost use Rattle.std.specs.Bool.{then_some};
-ghost use Rattle.sg_check_statements.specs.Says.{has_proto};
+ghost use Rattle.sg_check_statements.specs.Says.{has_proto, names_two};
 
 use crate::funs::fun_number;
 use crate::judge::{Judge, first_flaw};

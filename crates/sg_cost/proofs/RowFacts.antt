@@ -8,7 +8,8 @@ use Rattle.sg_cost.specs.Inside.Fronts.{AreFewRows, IsFront}
 use Rattle.sg_facts.specs.Facts.{Facts, fun_at}
 use Rattle.sg_facts.specs.Limits.{most_fields}
 use Rattle.sg_facts.specs.Object.{Object, after, empty_object, object_of}
-use Rattle.sg_facts.specs.Inside.Rows.{object_from, empty_field, row_after, track}
+use Rattle.sg_facts.specs.Inside.Rows.{object_from, row_after, track}
+use Rattle.sg_facts.specs.Fields.{empty_field}
 use Rattle.sg_facts.specs.Track.{ends_with, new_row, row_at}
 use Rattle.sg_facts.specs.declared.entry.Entry.{Entry}
 use Rattle.sg_facts.specs.declared.row.Row.{Row}

@@ -15,7 +15,7 @@ use Rattle.sg_facts.specs.declared.shape.Effect.{Effect}
 use Rattle.sg_facts.specs.Facts.{fun_at}
 use Rattle.sg_facts.specs.Legal.{Table}
 use Rattle.sg_facts.specs.Track.{row_at, word_of, effect_of, field_at}
-use Rattle.sg_facts.specs.Inside.Rows.{empty_field}
+use Rattle.sg_facts.specs.Fields.{empty_field}
 use Rattle.sg_described.specs.declared.description.Operand.{Operand}
 use Rattle.sg_described.specs.declared.description.Operand.TheVariants.{Number, Caller, State, Argument, Own}
 use Rattle.sg_described.specs.declared.description.Term.{Term}

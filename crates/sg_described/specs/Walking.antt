@@ -7,8 +7,7 @@ use Rattle.sg_facts.specs.declared.shape.Effect.TheVariants.{SetCaller, SetArg, 
 use Rattle.sg_facts.specs.Allowed.{implies}
 use Rattle.sg_facts.specs.Facts.{Fun, fun_at}
 use Rattle.sg_facts.specs.Limits.{last_client}
-use Rattle.sg_facts.specs.Walks.{FieldMark, Spot, unset, good, unknown}
-use Rattle.sg_facts.specs.Inside.Walking.{carries_arg, first_spot, next_spot, sets_caller}
+use Rattle.sg_facts.specs.Walks.{FieldMark, Spot, carries_arg, first_spot, good, next_spot, sets_caller, unknown, unset}
 use Rattle.sg_described.specs.declared.bounds.Bounds.{Bounds}
 use Rattle.sg_described.specs.Described.{Described, rules_at}
 use Rattle.sg_described.specs.Known.{Known, between, greatest, may_stop, word_most}

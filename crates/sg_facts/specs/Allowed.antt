@@ -10,10 +10,9 @@ use Rattle.sg_facts.specs.declared.shape.Parents.{Parents}
 use Rattle.sg_facts.specs.declared.shape.Parents.TheVariants.{Never, Same as SameClient, Cross}
 use Rattle.sg_facts.specs.declared.shape.Effect.{Effect}
 use Rattle.sg_facts.specs.declared.shape.Effect.TheVariants.{SetCaller, SetArg, AddArg, Clear}
-use Rattle.sg_facts.specs.Facts.{Facts, Field, Fun, fun_at, takes_desc, takes_parent}
+use Rattle.sg_facts.specs.Facts.{Facts, Field, Fun, fun_at, takes_desc, takes_parent, writes}
 use Rattle.sg_facts.specs.Counted.{takes_word}
-use Rattle.sg_facts.specs.Inside.Walking.{carries_arg, sets_caller}
-use Rattle.sg_facts.specs.Inside.Rows.{writes}
+use Rattle.sg_facts.specs.Walks.{carries_arg, sets_caller}
 
 -- whether no descriptor has a parent
 abbrev pub is_never : Parents → Bool

@@ -161,6 +161,14 @@ takes_desc f = list_any (λ kind. elim kind [ Desc ↦ true | _ ↦ false ]) f.k
 abbrev pub takes_parent : Fun → Bool
 takes_parent f = list_any (λ kind. elim kind [ Parent ↦ true | _ ↦ false ]) f.kinds
 
+-- whether a parameter is a text
+abbrev pub is_text_kind : Kind → Bool
+is_text_kind kind = elim kind [ Text ↦ true | _ ↦ false ]
+
+-- whether a function writes the file of its descriptor: it uses the file, and takes a text
+abbrev pub writes : Fun → Bool
+writes f = f.uses_file && list_any is_text_kind f.kinds
+
 -- whether an Ok of the function shows its bytes where it is printed: the function uses the file of its descriptor and takes no text
 abbrev pub shows_bytes : Fun → Bool
 shows_bytes f = f.uses_file && not (list_any (λ kind. elim kind [ Text ↦ true | _ ↦ false ]) f.kinds)

@@ -73,6 +73,20 @@ pub record Spot : Type 0 where
   pub state : ℕ
   pub marks : List FieldMark
 
+-- where a walk has come to after the creation that it begins with
+abbrev pub first_spot : Facts → ℕ → Spot
+first_spot facts fun = record {
+  state = state_after facts fun fun;
+  marks = marks_after (fun_at facts.funs fun).effects (map (λ f. unset) facts.fields);
+}
+
+-- where a walk has come to after one more function
+abbrev pub next_spot : Facts → ℕ → Spot → Spot
+next_spot facts fun s = record {
+  state = state_after facts fun s.state;
+  marks = marks_after (fun_at facts.funs fun).effects s.marks;
+}
+
 -- where the rest of a walk leads to: it goes on with declared recover steps that are neither terminal nor queries; None where it is no walk
 abbrev pub spot_from : Declared → Spot → List ℕ → Option Spot
 spot_from i s [] = Some s
@@ -125,6 +139,14 @@ pub record IsWalkOf (i : Declared) (walk : List ℕ) (by state : ℕ) (set : Lis
       → nat_lt (length walk) (length other) || ((length walk == length other) && no_later walk other) ≡ true
 
 -- ---- replayed calls
+
+-- whether an effect sets its field to the caller
+abbrev pub sets_caller : Effect → Bool
+sets_caller effect = elim effect [ SetCaller ↦ true | _ ↦ false ]
+
+-- whether an effect sets its field to the argument of a number, from 0, or adds that argument
+abbrev pub carries_arg : ℕ → Effect → Bool
+carries_arg k effect = elim effect [ SetArg j ↦ j == k | AddArg j ↦ j == k | _ ↦ false ]
 
 -- the caller of a replayed call: the field that the function sets to its caller, else the row's creator
 abbrev pub replay_caller : List (ℕ × Effect) → Row → ℕ

@@ -1,8 +1,8 @@
 // The finite facts of a service.
 ghost use Rattle.std.specs.Prelude.{◌≡◌, ◌||◌, ◌+◌, ◌<◌, ◌^◌, map};
 ghost use Rattle.std.specs.List.{list_any};
-ghost use Rattle.sg_facts.specs.Facts.{facts_of, fun_at, fun_of_shape, shows_bytes, takes_desc, takes_parent};
-ghost use Rattle.sg_facts.specs.Inside.Rows.{is_text_kind, left_by};
+ghost use Rattle.sg_facts.specs.Facts.{facts_of, fun_at, fun_of_shape, is_text_kind, shows_bytes, takes_desc, takes_parent};
+ghost use Rattle.sg_facts.specs.Inside.Rows.{left_by};
 
 use crate::interface::has_flag;
 

@@ -2,8 +2,7 @@
 ghost use Rattle.std.specs.Prelude.{◌≡◌, ◌<◌, ◌≤◌, ◌^◌, ◌++◌, IfOk, length, map, Some};
 ghost use Rattle.std.specs.Option.{option_copied};
 ghost use Rattle.sg_facts.specs.Facts.{fun_at};
-ghost use Rattle.sg_facts.specs.Walks.{replay_arg, replay_args, replay_caller, replayed_call};
-ghost use Rattle.sg_facts.specs.Inside.Walking.{carries_arg, sets_caller};
+ghost use Rattle.sg_facts.specs.Walks.{carries_arg, replay_arg, replay_args, replay_caller, replayed_call, sets_caller};
 ghost use Rattle.sg_facts.specs.Tables.{walk_of};
 ghost use Rattle.sg_facts.specs.Inside.Rows.{mask_of};
 ghost use Rattle.sg_facts.specs.Track.{field_at, word_of};

@@ -8,8 +8,7 @@ use Rattle.std.specs.declared.option.Option.{Option}
 use Rattle.sg_facts.specs.Allowed.{implies, is_replayed}
 use Rattle.sg_facts.specs.Counted.{is_counted}
 use Rattle.sg_facts.specs.Facts.{Fun, fun_at}
-use Rattle.sg_facts.specs.Inside.Walking.{next_spot}
-use Rattle.sg_facts.specs.Walks.{Spot}
+use Rattle.sg_facts.specs.Walks.{Spot, next_spot}
 use Rattle.sg_described.specs.Described.{Described, Rule, rules_at}
 use Rattle.sg_described.specs.Known.{is_wait, may_stop}
 use Rattle.sg_described.specs.NeverZero.{all_from}

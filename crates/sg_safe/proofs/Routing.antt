@@ -7,8 +7,7 @@ use Rattle.std.proofs.lemmas.List.Elements.{All-drop, All-push, All-weaker}
 use Rattle.sg_facts.specs.Facts.{Fun, fun_at, fun_of_shape, no_fun}
 use Rattle.sg_facts.specs.declared.shape.FunShape.{FunShape}
 use Rattle.sg_facts.specs.Interface.{has_pair}
-use Rattle.sg_facts.specs.Inside.Walking.{first_spot, next_spot}
-use Rattle.sg_facts.specs.Walks.{Spot}
+use Rattle.sg_facts.specs.Walks.{Spot, first_spot, next_spot}
 use Rattle.sg_described.specs.Described.{Described}
 use Rattle.sg_described.specs.Walking.{add_spot, add_spots, begins, is_lost, is_step, nexts, spots_of, spots_within}
 use Rattle.sg_described.proofs.Keeping.Basics.{both_true, or_true, own_test, same_of}

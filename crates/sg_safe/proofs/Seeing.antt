@@ -6,8 +6,7 @@ use Rattle.sg_facts.specs.declared.shape.Effect.TheVariants.{SetCaller, SetArg, 
 use Rattle.std.specs.Option.{option_or}
 use Rattle.std.specs.declared.option.Option.{Option}
 use Rattle.sg_facts.specs.Facts.{fun_at}
-use Rattle.sg_facts.specs.Inside.Walking.{next_spot}
-use Rattle.sg_facts.specs.Walks.{FieldMark, Spot as Place, effect_on}
+use Rattle.sg_facts.specs.Walks.{FieldMark, Spot as Place, effect_on, next_spot}
 use Rattle.sg_walk.specs.declared.spot.FieldState.{FieldState}
 use Rattle.sg_walk.specs.declared.spot.FieldState.TheVariants.{Unset, Good, Unknown}
 use Rattle.sg_walk.specs.Marks.{known_of}

@@ -7,9 +7,8 @@ use Rattle.std.specs.declared.option.Option.{Option}
 use Rattle.sg_facts.specs.Allowed.{is_replayed}
 use Rattle.sg_facts.specs.Counted.{is_counted}
 use Rattle.sg_facts.specs.Facts.{Fun, fun_at}
-use Rattle.sg_facts.specs.Inside.Walking.{first_spot, next_spot}
 use Rattle.sg_facts.specs.Interface.{has_pair}
-use Rattle.sg_facts.specs.Walks.{FieldMark, Spot, unset, good, unknown}
+use Rattle.sg_facts.specs.Walks.{FieldMark, Spot, first_spot, good, next_spot, unknown, unset}
 use Rattle.sg_walk.specs.declared.spot.FieldState.{FieldState}
 use Rattle.sg_walk.specs.declared.spot.FieldState.TheVariants.{Unset, Good, Unknown}
 use Rattle.sg_described.specs.Described.{Described, Rule, rules_at}

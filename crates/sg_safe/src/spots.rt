@@ -2,10 +2,9 @@
 ghost use Rattle.std.specs.Prelude.{◌≡◌, ◌+◌, ◌-◌, ◌<◌, ◌≤◌, ◌^◌, ◌==◌, ◌&&◌, ◌++◌, true, ◌∷◌, [], ℕ, All, IfOk, OnOk, drop, length, map, not};
 ghost use Rattle.std.specs.List.{flat_map, list_all, list_any};
 ghost use Rattle.sg_facts.specs.Facts.{fun_at, fun_of_shape};
-ghost use Rattle.sg_facts.specs.Inside.Walking.{first_spot, next_spot};
 ghost use Rattle.sg_facts.specs.Interface.{has_pair};
 ghost use Rattle.sg_facts.specs.Limits.{most_fields};
-ghost use Rattle.sg_facts.specs.Walks.{most_calls};
+ghost use Rattle.sg_facts.specs.Walks.{first_spot, most_calls, next_spot};
 ghost use Rattle.sg_described.specs.Described.{described_of};
 ghost use Rattle.sg_described.specs.NeverZero.{all_from};
 ghost use Rattle.sg_described.specs.Walking.{add_spots, begins, blank, brings_back, is_lost, is_step, is_stuck, is_unknown, nexts, same_mark, same_marks, same_spot, spots_of, spots_within};

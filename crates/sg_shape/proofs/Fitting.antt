@@ -18,10 +18,10 @@ use Rattle.sg_facts.specs.Words.{field_name}
 use Rattle.sg_check_statements.specs.Effects.{declared_effects, has_effect, same_effects}
 use Rattle.sg_check_statements.specs.Faults.{FirstOf, IsFirstStatement}
 use Rattle.sg_check_statements.specs.Flaws.{duplicate, fit_leaves, flaw_of, foreign, fun_of_name, is_declared, leaves_another, leaves_some, wrong_fact}
-use Rattle.sg_check_statements.specs.Inside.Pieces.{agree, fit_flags, is_caller, is_two, names_two}
+use Rattle.sg_check_statements.specs.Inside.Pieces.{fit_flags, is_two}
 use Rattle.sg_check_statements.specs.NameSet.{has_name}
-use Rattle.sg_check_statements.specs.Params.{fit_params, has_word, is_of_kind}
-use Rattle.sg_check_statements.specs.Says.{fun_number, has_proto, says, says_of, service_of}
+use Rattle.sg_check_statements.specs.Params.{fit_params, has_word, is_caller, is_of_kind}
+use Rattle.sg_check_statements.specs.Says.{agree, fun_number, has_proto, names_two, says, says_of, service_of}
 use Rattle.sg_check_statements.specs.Shapes.{all_differ}
 use Rattle.sg_check_statements.specs.declared.fault.CheckKind.{CheckKind}
 use Rattle.sg_check_statements.specs.declared.fault.CheckKind.TheVariants.{UnknownService, DuplicateName, UnknownFunction, BadParams, WrongFact, WrongFlag, WrongEffect, ForeignTransition, ForeignRecover, NoCreation, Unreached, NoWalk}

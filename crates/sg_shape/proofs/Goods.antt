@@ -10,10 +10,9 @@ use Rattle.sg_facts.specs.declared.shape.Kind.TheVariants.{Desc, Parent, Word, T
 use Rattle.sg_facts.specs.Allowed.{count_args, is_allowed, is_cross, takes_among}
 use Rattle.sg_facts.specs.Facts.{Fun}
 use Rattle.sg_facts.specs.Inside.Rows.{is_desc, is_parent}
-use Rattle.sg_facts.specs.Inside.Walking.{sets_caller}
+use Rattle.sg_facts.specs.Walks.{sets_caller}
 use Rattle.sg_check_statements.specs.Effects.{declared_effects}
-use Rattle.sg_check_statements.specs.Inside.Pieces.{is_caller}
-use Rattle.sg_check_statements.specs.Params.{has_word}
+use Rattle.sg_check_statements.specs.Params.{has_word, is_caller}
 use Rattle.sg_check_statements.specs.Shapes.{all_differ}
 use Rattle.sg_check_statements.specs.sg_parse.declared.tree.Param.{Param}
 use Rattle.sg_check_statements.specs.sg_parse.declared.tree.Tree.{Tree}

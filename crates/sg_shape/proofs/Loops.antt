@@ -10,7 +10,7 @@ use Rattle.std.proofs.lemmas.List.Elements.{filter_map-append}
 use Rattle.std.proofs.lemmas.List.Folds.{find-append}
 use Rattle.sg_facts.specs.declared.shape.Effect.{Effect}
 use Rattle.sg_facts.specs.Allowed.{each_arg}
-use Rattle.sg_facts.specs.Inside.Walking.{carries_arg}
+use Rattle.sg_facts.specs.Walks.{carries_arg}
 
 one_gathered : {Y : Type 0} (o : Option Y) → cons_option o [] ≡ option_to_list o
 one_gathered None = refl

@@ -12,7 +12,7 @@ use Rattle.sg_facts.specs.declared.shape.Effect.{Effect}
 use Rattle.sg_facts.specs.declared.shape.Effect.TheVariants.{SetCaller, SetArg, AddArg, SetRet, AddRet, Clear, SubOne, SubRet}
 use Rattle.sg_facts.specs.Allowed.{sets_once}
 use Rattle.sg_facts.specs.Facts.{Field}
-use Rattle.sg_facts.specs.Inside.Walking.{sets_caller}
+use Rattle.sg_facts.specs.Walks.{sets_caller}
 use Rattle.sg_facts.specs.Words.{field_name}
 use Rattle.sg_check_statements.specs.Effects.{has_effect, same_effect}
 use Rattle.sg_check_statements.specs.NameSet.{has_name}

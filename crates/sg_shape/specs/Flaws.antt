@@ -7,15 +7,13 @@ use Rattle.std.specs.Str.{bytes_eq}
 use Rattle.std.specs.declared.option.Option.{Option}
 use Rattle.sg_facts.specs.declared.shape.Effect.{Effect}
 use Rattle.sg_facts.specs.Allowed.{count_args, each_arg, has_no_parents, is_never, is_text_field, leaves_known, leaves_own}
-use Rattle.sg_facts.specs.Facts.{Facts, Field, Fun, takes_desc, takes_parent}
-use Rattle.sg_facts.specs.Inside.Rows.{writes}
+use Rattle.sg_facts.specs.Facts.{Facts, Field, Fun, takes_desc, takes_parent, writes}
 use Rattle.sg_facts.specs.Limits.{most_fields, most_funs}
 use Rattle.sg_check_statements.specs.Effects.{declared_effects, same_effect}
 use Rattle.sg_check_statements.specs.Flaws.{fun_of_name, leaves_another}
-use Rattle.sg_check_statements.specs.Inside.Pieces.{agree, is_caller, names_two}
 use Rattle.sg_check_statements.specs.NameSet.{has_name}
-use Rattle.sg_check_statements.specs.Params.{has_word}
-use Rattle.sg_check_statements.specs.Says.{fun_number, has_proto, says}
+use Rattle.sg_check_statements.specs.Params.{has_word, is_caller}
+use Rattle.sg_check_statements.specs.Says.{agree, fun_number, has_proto, names_two, says}
 use Rattle.sg_check_statements.specs.sg_parse.declared.tree.Param.{Param}
 use Rattle.sg_check_statements.specs.sg_parse.declared.tree.Statement.{Statement}
 use Rattle.sg_check_statements.specs.sg_parse.declared.tree.Statement.TheVariants.{One, Two, External, Answer}

@@ -2,9 +2,8 @@
 ghost use Rattle.std.specs.Prelude.{◌≡◌, ◌≤◌, ◌==◌, length, map, not, count_by};
 ghost use Rattle.std.specs.List.{list_all, list_any};
 ghost use Rattle.sg_facts.specs.Allowed.{count_args, each_arg, has_no_parents, is_never, is_text_field, leaves_known, leaves_own};
-ghost use Rattle.sg_facts.specs.Facts.{facts_of, fun_of_shape, takes_parent};
-ghost use Rattle.sg_facts.specs.Inside.Rows.{writes};
-ghost use Rattle.sg_facts.specs.Inside.Walking.{carries_arg};
+ghost use Rattle.sg_facts.specs.Facts.{facts_of, fun_of_shape, takes_parent, writes};
+ghost use Rattle.sg_facts.specs.Walks.{carries_arg};
 ghost use Rattle.sg_shape.specs.Flaws.{is_forbidden, replays};
 ghost use Rattle.sg_shape.specs.Inside.Parts.{fields_in};
 

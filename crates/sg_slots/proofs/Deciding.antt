@@ -9,9 +9,9 @@ use Rattle.sg_facts.specs.sg_base.declared.reply.Good.{Good}
 use Rattle.sg_facts.specs.sg_base.declared.reply.Reply.{Reply}
 use Rattle.sg_facts.specs.sg_base.declared.reply.Reply.TheVariants.{Ok, Refused}
 use Rattle.sg_facts.specs.declared.row.Row.{Row}
-use Rattle.sg_facts.specs.Facts.{Facts, fun_at}
+use Rattle.sg_facts.specs.Facts.{Facts, fun_at, writes}
 use Rattle.sg_facts.specs.Track.{row_at, new_row, ends_with, is_ancestor}
-use Rattle.sg_facts.specs.Inside.Rows.{row_after, patch_at, patched, writes}
+use Rattle.sg_facts.specs.Inside.Rows.{row_after, patch_at, patched}
 use Rattle.sg_facts.specs.Object.{Object, after, patch_of, path_of, place_of, first_text}
 use Rattle.sg_facts.specs.Legal.{Table}
 use Rattle.sg_slots.specs.declared.decision.Decision.{Decision}

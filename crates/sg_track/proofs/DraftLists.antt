@@ -9,7 +9,7 @@ use Rattle.sg_facts.specs.sg_base.declared.reply.Good.{Good}
 use Rattle.sg_facts.specs.declared.shape.Effect.{Effect}
 use Rattle.sg_facts.specs.declared.shape.FieldShape.{FieldShape}
 use Rattle.sg_facts.specs.Track.{effect_of, field_at}
-use Rattle.sg_facts.specs.Inside.Rows.{empty_field}
+use Rattle.sg_facts.specs.Fields.{empty_field}
 use Rattle.sg_facts.specs.sg_base.declared.value.Value.TheVariants.{Word, Text}
 use Rattle.sg_track.specs.declared.draft.Draft.{Draft}
 use Rattle.sg_track.specs.declared.draft.Draft.TheVariants.{Number, Blank}

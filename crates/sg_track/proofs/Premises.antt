@@ -16,7 +16,8 @@ use Rattle.sg_facts.specs.Allowed.{acts_on_one, each_replays_well, steps_make_no
 use Rattle.sg_facts.specs.Facts.{Facts, Field, Fun, fun_at, no_fun, takes_desc, takes_parent}
 use Rattle.sg_facts.specs.Sound.{AreFields, AreRows, IsOfField, IsRow}
 use Rattle.sg_facts.specs.Track.{effect_of, field_at, fields_after, new_row, row_at, rows_after}
-use Rattle.sg_facts.specs.Inside.Rows.{empty_field, row_after}
+use Rattle.sg_facts.specs.Inside.Rows.{row_after}
+use Rattle.sg_facts.specs.Fields.{empty_field}
 use Rattle.sg_track.specs.Drafts.{EachNew, IsDraftWord, IsValue}
 use Rattle.sg_track.specs.Tracked.{HasPlace, MayTrackOk, Tracked, changed_rows}
 use Rattle.sg_track.proofs.Ascending.{same_test}

@@ -10,7 +10,8 @@ use Rattle.sg_facts.specs.Allowed.{is_allowed}
 use Rattle.sg_facts.specs.Object.{Object}
 use Rattle.sg_facts.specs.Sound.{AreRows, IsSound}
 use Rattle.sg_facts.specs.Track.{is_ancestor, is_live, new_row, row_at, rows_after}
-use Rattle.sg_facts.specs.Inside.Rows.{empty_field, row_after}
+use Rattle.sg_facts.specs.Inside.Rows.{row_after}
+use Rattle.sg_facts.specs.Fields.{empty_field}
 use Rattle.sg_track.specs.Drafts.{EachNew, IsDraftWord, IsValue}
 
 -- the rows in ascending ids, how many ids were given, and for how many more rows there is room

@@ -2,7 +2,7 @@
 ghost use Rattle.std.specs.Prelude.{◌≡◌, ◌≤◌, length, map, take};
 ghost use Rattle.sg_facts.specs.Facts.{fun_at, fun_of_shape};
 ghost use Rattle.sg_facts.specs.Track.{fields_after, new_row};
-ghost use Rattle.sg_facts.specs.Inside.Rows.{empty_field};
+ghost use Rattle.sg_facts.specs.Fields.{empty_field};
 ghost use Rattle.sg_track.specs.Drafts.{EachNew, IsValue, blank_draft, empty_shape};
 ghost use Rattle.sg_track.specs.Kept.{HasRowRoom};
 

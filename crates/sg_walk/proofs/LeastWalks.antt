@@ -7,8 +7,8 @@ use Rattle.std.proofs.lemmas.Bool.{cases_Bool, cases_lt}
 use Rattle.std.proofs.lemmas.Bool.Decides.{nat_tests}
 use Rattle.sg_facts.specs.Fields.{number_of}
 use Rattle.sg_facts.specs.Interface.{Declared}
-use Rattle.sg_facts.specs.Walks.{Spot as Place, spot_of, spot_from, restores, begin_of, no_later, most_calls, IsWalkOf}
-use Rattle.sg_facts.specs.Inside.Walking.{may_begin, first_spot, no_worse}
+use Rattle.sg_facts.specs.Walks.{IsWalkOf, Spot as Place, begin_of, first_spot, most_calls, no_later, restores, spot_from, spot_of}
+use Rattle.sg_facts.specs.Inside.Walking.{may_begin, no_worse}
 use Rattle.sg_walk.specs.declared.spot.Goal.{Goal}
 use Rattle.sg_walk.specs.Inside.Spots.{is_goal_at, leads, reaches}
 use Rattle.sg_walk.specs.Inside.Search.{Extends, LeadsNowhere, IsLeast, NoWalkLeads}

@@ -5,8 +5,8 @@ use Rattle.std.proofs.lemmas.Bool.{cases_lt}
 use Rattle.std.proofs.lemmas.Nat.Bits.{bit_at_above}
 use Rattle.sg_facts.specs.Facts.{fun_at}
 use Rattle.sg_facts.specs.Interface.{Declared, declares, steps_on}
-use Rattle.sg_facts.specs.Walks.{Spot as Place, spot_from}
-use Rattle.sg_facts.specs.Inside.Walking.{may_go_on, next_spot}
+use Rattle.sg_facts.specs.Walks.{Spot as Place, next_spot, spot_from}
+use Rattle.sg_facts.specs.Inside.Walking.{may_go_on}
 use Rattle.sg_walk.specs.declared.spot.Goal.{Goal}
 use Rattle.sg_walk.specs.declared.ends.DeadEnd.{DeadEnd}
 use Rattle.sg_walk.specs.Inside.Spots.{shown, is_goal_at, leads}

@@ -1,8 +1,8 @@
 // The least walk that restores a state and a set of fields.
 ghost use Rattle.std.specs.Prelude.{◌≡◌, ◌≤◌, Bool, true, false, List, ℕ, length, IfOk, IfSome, IfNone};
 ghost use Rattle.sg_facts.specs.Fields.{number_of};
-ghost use Rattle.sg_facts.specs.Walks.{IsWalkOf, begin_of, restores, most_calls};
-ghost use Rattle.sg_facts.specs.Inside.Walking.{may_begin, first_spot};
+ghost use Rattle.sg_facts.specs.Walks.{IsWalkOf, begin_of, first_spot, most_calls, restores};
+ghost use Rattle.sg_facts.specs.Inside.Walking.{may_begin};
 ghost use Rattle.sg_facts.specs.Interface.{HasFewFields};
 ghost use Rattle.sg_walk.specs.Inside.Spots.{shown};
 ghost use Rattle.sg_walk.specs.Inside.Search.{IsLeast, NoWalkLeads};

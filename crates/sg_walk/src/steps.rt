@@ -1,8 +1,8 @@
 // How a walk begins and goes on.
 ghost use Rattle.std.specs.Prelude.{◌≡◌, true, false, length, map, MatchOption};
 ghost use Rattle.sg_facts.specs.Interface.{steps_on, HasFewFields};
-ghost use Rattle.sg_facts.specs.Walks.{unset};
-ghost use Rattle.sg_facts.specs.Inside.Walking.{may_begin, may_go_on, first_spot, next_spot};
+ghost use Rattle.sg_facts.specs.Walks.{first_spot, next_spot, unset};
+ghost use Rattle.sg_facts.specs.Inside.Walking.{may_begin, may_go_on};
 ghost use Rattle.sg_walk.specs.Inside.Spots.{shown, is_goal};
 ghost use Rattle.sg_walk.specs.Marks.{shown_marks};
 

@@ -9,11 +9,11 @@ use Rattle.sg_facts.specs.declared.tables.WalkLine.{WalkLine}
 use Rattle.sg_facts.specs.Facts.{fun_at, state_after}
 use Rattle.sg_facts.specs.Fields.{number_of}
 use Rattle.sg_facts.specs.Fits.{Fits, IsReached, move, needs_reach, step}
-use Rattle.sg_facts.specs.Inside.Walking.{LeavesDeclared, IsAscending, first_spot, may_go_on, next_spot, no_worse, restores_at}
+use Rattle.sg_facts.specs.Inside.Walking.{LeavesDeclared, IsAscending, may_go_on, no_worse, restores_at}
 use Rattle.sg_facts.specs.Interface.{Declared, declares, has_pair, moves_on, steps_on}
 use Rattle.sg_facts.specs.Laws.{whole}
 use Rattle.sg_facts.specs.Tables.{AreTables, walk_of}
-use Rattle.sg_facts.specs.Walks.{IsReachable, IsWalkOf, begin_of, made, may_lead, moved, most_calls, no_later, restores}
+use Rattle.sg_facts.specs.Walks.{IsReachable, IsWalkOf, begin_of, first_spot, made, may_lead, most_calls, moved, next_spot, no_later, restores}
 use Rattle.test_histories.specs.sg_lock.LockFacts.{lock_facts}
 use Rattle.sg_recovery_laws.proofs.Lists.{each_contains}
 use Rattle.test_recovery.specs.LockRuns.{lock_walks}

@@ -21,8 +21,8 @@ use Rattle.sg_parse.specs.sg_lex.Lexeme.{Spelling as Named}
 use Rattle.sg_parse.specs.sg_rules.Grammar.Plain.{plain_name}
 use Rattle.sg_parse.specs.Grammar.Plain.{plain_param, plain_ret, plain_statement, plain_type}
 use Rattle.sg_check_statements.specs.Effects.{arg_effects, declared_effects}
-use Rattle.sg_check_statements.specs.Inside.Pieces.{Named_effect, caller_effects, later_effects, ret_effects, statement_effects, is_caller, is_client_type}
-use Rattle.sg_check_statements.specs.Params.{is_of_kind, fit_params, has_word}
+use Rattle.sg_check_statements.specs.Inside.Pieces.{Named_effect, caller_effects, later_effects, ret_effects, statement_effects}
+use Rattle.sg_check_statements.specs.Params.{fit_params, has_word, is_caller, is_client_type, is_of_kind}
 
 -- ---- parameters
 

@@ -15,11 +15,11 @@ use Rattle.sg_parse.specs.sg_lex.Lexeme.{Spelling as Named}
 use Rattle.sg_parse.specs.sg_rules.Grammar.Plain.{plain_name}
 use Rattle.sg_parse.specs.Grammar.Plain.{plain_facts, plain_param, plain_ret, plain_statement}
 use Rattle.sg_check_statements.specs.Effects.{declared_effects, same_effects}
-use Rattle.sg_check_statements.specs.Inside.Pieces.{Named_effect, service_effects, agree, bad_params, fit_flags, names_two, no_creation, other_value, unknown, wrong_effect, wrong_flag}
+use Rattle.sg_check_statements.specs.Inside.Pieces.{Named_effect, service_effects, bad_params, fit_flags, no_creation, other_value, unknown, wrong_effect, wrong_flag}
 use Rattle.sg_check_statements.specs.Flaws.{fit_leaves, leaves_another, leaves_some, duplicate, foreign, fun_of_name, is_declared, wrong_fact}
 use Rattle.std.specs.Bool.{then_some}
 use Rattle.sg_check_statements.specs.Params.{fit_params}
-use Rattle.sg_check_statements.specs.Says.{has_proto, says, says_of}
+use Rattle.sg_check_statements.specs.Says.{agree, has_proto, names_two, says, says_of}
 use Rattle.sg_check_statements.proofs.Anywhere.Declaring.{declared_same, fit_same}
 use Rattle.sg_check_statements.proofs.Anywhere.Said.{any_same, proto_same, says_of_same, says_same}
 use Rattle.sg_check_statements.proofs.FirstFact.{by_turns}

@@ -5,9 +5,9 @@ use Rattle.sg_facts.specs.declared.shape.Leaves.{Leaves}
 use Rattle.sg_facts.specs.declared.shape.Leaves.TheVariants.{Own, Same, Of}
 use Rattle.sg_facts.specs.Facts.{fun_at}
 use Rattle.sg_facts.specs.Fits.{Fits, IsReached, step, move}
-use Rattle.sg_facts.specs.Inside.Walking.{LeavesDeclared, first_spot, may_begin, may_go_on, next_spot, restores_at}
+use Rattle.sg_facts.specs.Inside.Walking.{LeavesDeclared, may_begin, may_go_on, restores_at}
 use Rattle.sg_facts.specs.Interface.{Declared}
-use Rattle.sg_facts.specs.Walks.{IsReachable, Spot, made, moved, restores, spot_from, spot_of}
+use Rattle.sg_facts.specs.Walks.{IsReachable, Spot, first_spot, made, moved, next_spot, restores, spot_from, spot_of}
 use Rattle.sg_check_statements.specs.Flaws.{HasNoWalk}
 use Rattle.sg_check_statements.specs.Inside.Pieces.{IsUnreached}
 

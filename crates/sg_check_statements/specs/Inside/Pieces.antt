@@ -1,5 +1,5 @@
 -- The parts of the definitions, by themselves.
-use Rattle.std.specs.Prelude.{ℕ, ◌≡◌, ◌-◌, ◌==◌, Bool, true, false, ◌&&◌, ◌||◌, not, if◌then◌else◌, List, [], ◌∷◌, ◌++◌, None, Some, codes, length, map, slice_get}
+use Rattle.std.specs.Prelude.{ℕ, ◌≡◌, Bool, true, false, ◌&&◌, not, if◌then◌else◌, List, [], ◌∷◌, ◌++◌, None, Some, codes, map}
 use Rattle.std.specs.declared.option.Option.{Option}
 use Rattle.std.specs.Bool.{then_some}
 use Rattle.std.specs.List.{list_any}
@@ -17,13 +17,12 @@ use Rattle.sg_parse.specs.declared.tree.Ret.TheVariants.{Plain, Set, Add, Sub}
 use Rattle.sg_parse.specs.declared.tree.Statement.{Statement}
 use Rattle.sg_parse.specs.declared.tree.Statement.TheVariants.{One, Two, Proto}
 use Rattle.sg_parse.specs.declared.tree.Tree.{Tree}
-use Rattle.sg_parse.specs.declared.tree.TypeName.{TypeName}
 use Rattle.sg_parse.specs.sg_lex.Lexeme.{Spelling as Named}
 use Rattle.sg_parse.specs.declared.tree.Facts.{Facts as Head}
 use Rattle.sg_check_statements.specs.Effects.{arg_effects, declared_effects, same_effects}
 use Rattle.sg_check_statements.specs.Flaws.{fun_of_name, is_declared}
 use Rattle.sg_check_statements.specs.Params.{fit_params, has_word}
-use Rattle.sg_check_statements.specs.Says.{fun_number, has_proto, says, service_of}
+use Rattle.sg_check_statements.specs.Says.{agree, names_two, fun_number, has_proto, says, service_of}
 
 -- ---- what statements say
 
@@ -50,10 +49,6 @@ NoStatement Flaw statements =
 
 -- ---- names
 
--- the second name that a statement says is a function's, too
-abbrev pub names_two : List ℕ → Bool
-names_two word = bytes_eq word (codes "sm_state") || bytes_eq word (codes "sm_transition") || bytes_eq word (codes "sm_recover")
-
 -- a name of a function that has no prototype, or a prototype of a function that the service hasn't
 abbrev pub unknown : Facts → List Statement → Statement → Option ℕ
 unknown facts statements (One word fun) = then_some (not (has_proto statements fun.bytes)) fun.at
@@ -64,16 +59,6 @@ unknown facts statements (Proto ret name params) = then_some (is_none (fun_numbe
 unknown facts statements _ = None
 
 -- ---- parameters and facts
-
--- a client type has no star, and its last name is one of these
-abbrev pub is_client_type : TypeName → Bool
-is_client_type ty =
-    let last = slice_get ty.names (length ty.names - 1) in
-    (ty.stars == 0) && (has_word last (codes "spdid_t") || has_word last (codes "componentid_t"))
-
--- the first parameter is a client, and is neither descriptor nor parent, nor added to a field
-abbrev pub is_caller : Param → Bool
-is_caller p = is_client_type p.ty && not (has_word p.form (codes "desc") || has_word p.form (codes "parent_desc") || has_word p.form (codes "desc_data_add"))
 
 -- a prototype whose parameters aren't the function's
 abbrev pub bad_params : Facts → Statement → Option ℕ
@@ -95,10 +80,6 @@ first_other facts head =
     (other_value head.resc_data (flag_word facts.resc_data))))))
 
 -- ---- flags and states
-
--- whether two tests are the same
-abbrev pub agree : Bool → Bool → Bool
-agree a b = if a then b else not b
 
 -- whether each flag of a function is declared exactly where the service has it
 abbrev pub fit_flags : List Statement → List ℕ → Fun → Bool

@@ -21,7 +21,8 @@ use Rattle.sg_facts.specs.Limits.{last_client}
 use Rattle.sg_facts.specs.Object.{Object, after}
 use Rattle.sg_facts.specs.Sound.{AreRows}
 use Rattle.sg_facts.specs.Track.{effect_of, ends_with, field_at, fields_after, first_word, new_row, row_at, word_of}
-use Rattle.sg_facts.specs.Inside.Rows.{empty_field, row_after}
+use Rattle.sg_facts.specs.Inside.Rows.{row_after}
+use Rattle.sg_facts.specs.Fields.{empty_field}
 use Rattle.sg_described.specs.Described.{Described}
 use Rattle.sg_described.specs.DescribedSound.{IsDescribedRow, IsDescribedSound, are_up_to}
 use Rattle.sg_described.specs.Known.{greatest}

@@ -10,7 +10,7 @@ use Rattle.sg_facts.specs.sg_base.declared.call.Call.{Call}
 use Rattle.sg_facts.specs.sg_base.declared.reply.Good.{Good}
 use Rattle.sg_facts.specs.declared.shape.Effect.{Effect}
 use Rattle.sg_facts.specs.Facts.{Facts, Field}
-use Rattle.sg_facts.specs.Inside.Rows.{empty_field}
+use Rattle.sg_facts.specs.Fields.{empty_field}
 use Rattle.sg_facts.specs.Limits.{last_client}
 use Rattle.sg_facts.specs.Sound.{AreFields, IsOfField}
 use Rattle.sg_facts.specs.Track.{effect_of, field_at, word_of}

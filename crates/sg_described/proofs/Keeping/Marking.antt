@@ -18,11 +18,10 @@ use Rattle.sg_facts.specs.Allowed.{implies}
 use Rattle.sg_facts.specs.Facts.{Field, fun_at, is_id}
 use Rattle.sg_facts.specs.Held.{FieldHolds, FieldsHold}
 use Rattle.sg_facts.specs.Inside.Rows.{cleared}
-use Rattle.sg_facts.specs.Inside.Walking.{carries_arg, sets_caller}
 use Rattle.sg_facts.specs.Kinds.{kinds_fit}
 use Rattle.sg_facts.specs.Limits.{last_client}
 use Rattle.sg_facts.specs.Track.{arg_at, effect_of, field_at, first_word, word_of}
-use Rattle.sg_facts.specs.Walks.{FieldMark, good, unknown, unset, replay_arg, replay_args, replay_caller}
+use Rattle.sg_facts.specs.Walks.{FieldMark, carries_arg, good, replay_arg, replay_args, replay_caller, sets_caller, unknown, unset}
 use Rattle.sg_facts.proofs.Replaying.Marks.{IsFrom}
 use Rattle.sg_described.specs.Described.{Described}
 use Rattle.sg_described.specs.DescribedSound.{IsDescribedRow}

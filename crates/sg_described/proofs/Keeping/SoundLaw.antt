@@ -12,7 +12,7 @@ use Rattle.sg_facts.specs.declared.row.Row.{Row}
 use Rattle.sg_facts.specs.declared.shape.Effect.{Effect}
 use Rattle.sg_facts.specs.declared.shape.Effect.TheVariants.{SetCaller, SetArg, AddArg, SetRet, AddRet, Clear, SubOne, SubRet}
 use Rattle.sg_facts.specs.Allowed.{implies}
-use Rattle.sg_facts.specs.Facts.{Facts, Fun, fun_at, state_after, takes_desc, takes_parent}
+use Rattle.sg_facts.specs.Facts.{Facts, Fun, fun_at, is_text_kind, state_after, takes_desc, takes_parent, writes}
 use Rattle.sg_facts.specs.Interface.{has_pair}
 use Rattle.sg_facts.specs.Kinds.{may_be_root}
 use Rattle.sg_facts.specs.Laws.{AnswersAndKeeps, Passes}
@@ -21,7 +21,8 @@ use Rattle.sg_facts.specs.Object.{Object, after, path_of, place_of, first_text}
 use Rattle.sg_facts.specs.Sound.{AreFields, IsRow, IsSound, AreRows}
 use Rattle.sg_facts.specs.Track.{row_at, is_live, new_row, ends_with, effect_of, field_at, fields_after, first_word, word_of}
 use Rattle.sg_facts.specs.Walks.{effect_on}
-use Rattle.sg_facts.specs.Inside.Rows.{empty_field, is_text_kind, row_after, patch_at, patched, writes}
+use Rattle.sg_facts.specs.Inside.Rows.{row_after, patch_at, patched}
+use Rattle.sg_facts.specs.Fields.{empty_field}
 use Rattle.sg_facts.proofs.Replaying.Steps.{each_fun}
 use Rattle.sg_slots.proofs.RowLaws.{childless, sound_more, sound_changed, sound_left}
 use Rattle.sg_described.specs.Described.{Described, rules_at}

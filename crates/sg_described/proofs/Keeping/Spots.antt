@@ -7,9 +7,8 @@ use Rattle.std.proofs.lemmas.Bool.Decides.{eqb_tells}
 use Rattle.sg_facts.specs.declared.shape.Effect.{Effect}
 use Rattle.sg_facts.specs.declared.shape.Effect.TheVariants.{SetCaller, SetArg, AddArg, SetRet, AddRet, Clear, SubOne, SubRet}
 use Rattle.sg_facts.specs.Facts.{Fun, fun_at}
-use Rattle.sg_facts.specs.Inside.Walking.{first_spot, next_spot}
 use Rattle.sg_facts.specs.Interface.{has_pair}
-use Rattle.sg_facts.specs.Walks.{FieldMark, Spot, good, unknown, unset, mark_after, marks_after, restores_fields}
+use Rattle.sg_facts.specs.Walks.{FieldMark, Spot, first_spot, good, mark_after, marks_after, next_spot, restores_fields, unknown, unset}
 use Rattle.sg_described.specs.Described.{Described}
 use Rattle.sg_described.specs.NeverZero.{all_from}
 use Rattle.sg_described.specs.Walking.{add_spot, add_spots, begins, brings_back, is_lost, is_step, is_stuck, is_unknown, mark_at, most_more, nexts, same_mark, same_marks, same_spot, spots_of, spots_within}

@@ -24,9 +24,9 @@ use Rattle.sg_facts.specs.Limits.{last_client}
 use Rattle.sg_facts.specs.Object.{Object}
 use Rattle.sg_facts.specs.Sound.{AreFields, IsRow}
 use Rattle.sg_facts.specs.Track.{effect_of, field_at, fields_after, first_word, row_at, word_of}
-use Rattle.sg_facts.specs.Inside.Rows.{empty_field}
-use Rattle.sg_facts.specs.Walks.{Spot, effect_on, good, replay_args, replay_caller, spot_from, spot_of, unset}
-use Rattle.sg_facts.specs.Inside.Walking.{first_spot, may_begin, may_go_on, next_spot}
+use Rattle.sg_facts.specs.Fields.{empty_field}
+use Rattle.sg_facts.specs.Walks.{Spot, effect_on, first_spot, good, next_spot, replay_args, replay_caller, spot_from, spot_of, unset}
+use Rattle.sg_facts.specs.Inside.Walking.{may_begin, may_go_on}
 use Rattle.sg_facts.specs.Replaying.Replays.{AnswersCreations, AnswersReplays, AnswersSteps, IsAnsweredOk}
 use Rattle.sg_facts.proofs.Replaying.Carried.{are_from}
 use Rattle.sg_facts.proofs.Replaying.Found.{met}

@@ -18,9 +18,9 @@ use Rattle.sg_facts.specs.Laws.{WalkGoesOn, next_call}
 use Rattle.sg_facts.specs.Object.{Object}
 use Rattle.sg_facts.specs.Sound.{AreFields, IsRow}
 use Rattle.sg_facts.specs.Track.{field_at, fields_after, row_at, word_of}
-use Rattle.sg_facts.specs.Inside.Rows.{empty_field}
-use Rattle.sg_facts.specs.Walks.{restores_fields, FieldMark, Spot, good, unknown, unset}
-use Rattle.sg_facts.specs.Inside.Walking.{may_go_on, next_spot}
+use Rattle.sg_facts.specs.Fields.{empty_field}
+use Rattle.sg_facts.specs.Walks.{FieldMark, Spot, good, next_spot, restores_fields, unknown, unset}
+use Rattle.sg_facts.specs.Inside.Walking.{may_go_on}
 use Rattle.sg_event.specs.EventFacts.{event_facts}
 use Rattle.sg_event.specs.EventTable.{event_table}
 use Rattle.sg_event.specs.Inside.EventAnswer.{count_in, most_count, trigger_answer}

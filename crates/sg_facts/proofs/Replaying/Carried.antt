@@ -14,8 +14,7 @@ use Rattle.sg_facts.specs.declared.shape.Effect.{Effect}
 use Rattle.sg_facts.specs.declared.shape.Effect.TheVariants.{SetCaller, SetArg, AddArg, SetRet, AddRet, Clear, SubOne, SubRet}
 use Rattle.sg_facts.specs.Allowed.{count_args, each_arg, takes_among}
 use Rattle.sg_facts.specs.Track.{arg_at, field_at, word_of}
-use Rattle.sg_facts.specs.Walks.{replay_arg, replay_args, replay_caller}
-use Rattle.sg_facts.specs.Inside.Walking.{carries_arg, sets_caller}
+use Rattle.sg_facts.specs.Walks.{carries_arg, replay_arg, replay_args, replay_caller, sets_caller}
 use Rattle.sg_facts.proofs.Replaying.Found.{same_test}
 use Rattle.sg_facts.proofs.Replaying.Marks.{AreFrom, IsFrom}
 

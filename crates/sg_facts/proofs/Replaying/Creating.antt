@@ -19,9 +19,8 @@ use Rattle.sg_facts.specs.Legal.{Table}
 use Rattle.sg_facts.specs.Object.{Object, after, patch_of}
 use Rattle.sg_facts.specs.Sound.{AreFiles, AreRows, IsRow, IsSound}
 use Rattle.sg_facts.specs.Track.{is_live, new_row, row_at, rows_after}
-use Rattle.sg_facts.specs.Inside.Rows.{empty_field}
-use Rattle.sg_facts.specs.Walks.{IsWalkOf, spot_of, unset}
-use Rattle.sg_facts.specs.Inside.Walking.{first_spot}
+use Rattle.sg_facts.specs.Fields.{empty_field}
+use Rattle.sg_facts.specs.Walks.{IsWalkOf, first_spot, spot_of, unset}
 use Rattle.sg_facts.proofs.RowLists.{id_of_row, is_live-more, live_of_row, more, other, row_at-more}
 use Rattle.sg_facts.specs.Replaying.Replays.{IsAnsweredOk}
 use Rattle.sg_facts.proofs.Replaying.Above.{low_id, low_real, name_of_held}

@@ -15,7 +15,8 @@ use Rattle.sg_facts.specs.Allowed.{sets_once}
 use Rattle.sg_facts.specs.Held.{FieldHolds, FieldsHold, SameKind}
 use Rattle.sg_facts.specs.Sound.{AreFields, IsOfField}
 use Rattle.sg_facts.specs.Track.{arg_at, effect_of, field_at, fields_after, word_of}
-use Rattle.sg_facts.specs.Inside.Rows.{cleared, empty_field}
+use Rattle.sg_facts.specs.Inside.Rows.{cleared}
+use Rattle.sg_facts.specs.Fields.{empty_field}
 use Rattle.sg_facts.specs.Walks.{FieldMark, good, unknown, unset, mark_after, marks_after}
 
 -- ---- one field of several

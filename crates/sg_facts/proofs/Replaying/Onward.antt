@@ -20,8 +20,8 @@ use Rattle.sg_facts.specs.Object.{Object, after, patch_of}
 use Rattle.sg_facts.specs.Sound.{AreRows, IsRow, IsSound}
 use Rattle.sg_facts.specs.Track.{is_live, row_at, rows_after}
 use Rattle.sg_facts.specs.Inside.Rows.{row_after}
-use Rattle.sg_facts.specs.Walks.{IsWalkOf, spot_of}
-use Rattle.sg_facts.specs.Inside.Walking.{may_go_on, next_spot}
+use Rattle.sg_facts.specs.Walks.{IsWalkOf, next_spot, spot_of}
+use Rattle.sg_facts.specs.Inside.Walking.{may_go_on}
 use Rattle.sg_facts.proofs.RowLists.{changed, id_of_row, is_live-changed, live_of_row}
 use Rattle.sg_facts.specs.Replaying.Replays.{IsAnsweredOk}
 use Rattle.sg_facts.proofs.Replaying.Above.{name_of_held, one_row}

@@ -1,5 +1,5 @@
 -- The steps by which rows and files are tracked, one by one, as the proofs name them.
-use Rattle.std.specs.Prelude.{ℕ, ◌+◌, ◌==◌, Bool, ◌&&◌, if◌then◌else◌, List, [], ◌∷◌, None, Some, map, true, false}
+use Rattle.std.specs.Prelude.{ℕ, ◌+◌, ◌==◌, Bool, if◌then◌else◌, List, [], ◌∷◌, None, Some, map, true, false}
 use Rattle.std.specs.Option.{option_map_or}
 use Rattle.std.specs.declared.option.Option.{Option}
 use Rattle.std.specs.List.{list_any, fold}
@@ -14,13 +14,13 @@ use Rattle.sg_facts.specs.declared.shape.Effect.{Effect}
 use Rattle.sg_facts.specs.declared.shape.Effect.TheVariants.{AddRet}
 use Rattle.sg_facts.specs.declared.entry.Entry.{Entry}
 use Rattle.sg_facts.specs.declared.outcome.Patch.{Patch}
-use Rattle.sg_facts.specs.declared.shape.Kind.TheVariants.{Desc, Parent, Text as IsText}
+use Rattle.sg_facts.specs.declared.shape.Kind.TheVariants.{Desc, Parent}
 use Rattle.sg_base.specs.declared.reply.Code.{Code}
 use Rattle.sg_facts.specs.declared.trace.BootLog.{BootLog}
 use Rattle.sg_facts.specs.declared.shape.Kind.{Kind}
 use Rattle.sg_facts.specs.declared.shape.Leaves.{Leaves}
 use Rattle.sg_facts.specs.declared.shape.Leaves.TheVariants.{Own, Same, Of}
-use Rattle.sg_facts.specs.Facts.{Facts, Field, Fun, fun_at, state_after}
+use Rattle.sg_facts.specs.Facts.{Facts, fun_at, state_after}
 use Rattle.sg_facts.specs.Track.{fields_after, rows_after}
 use Rattle.sg_facts.specs.Object.{Object, after, file_at, first_text, over, set_file}
 use Rattle.sg_facts.specs.Trace.{Boot}
@@ -35,14 +35,6 @@ is_desc kind = elim kind [ Desc ↦ true | _ ↦ false ]
 -- whether a parameter is the parent of the descriptor that its function makes
 abbrev pub is_parent : Kind → Bool
 is_parent kind = elim kind [ Parent ↦ true | _ ↦ false ]
-
--- whether a parameter is a text
-abbrev pub is_text_kind : Kind → Bool
-is_text_kind kind = elim kind [ IsText ↦ true | _ ↦ false ]
-
--- whether a function writes the file of its descriptor: it uses the file, and takes a text
-abbrev pub writes : Fun → Bool
-writes f = f.uses_file && list_any is_text_kind f.kinds
 
 -- whether an effect adds the returned word
 abbrev pub adds_word : Effect → Bool
@@ -69,10 +61,6 @@ mask_of fields = number_of (map is_set fields)
 -- 0, or the empty text
 abbrev pub cleared : Value → Value
 cleared value = elim value [ Word n ↦ Word 0 | Text bytes ↦ Text [] ]
-
--- 0, or the empty text, as a field is when its row is made
-abbrev pub empty_field : Field → Value
-empty_field f = if f.text then Text [] else Word 0
 
 -- a row after a call on it of a function that neither makes nor ends it
 abbrev pub row_after : Facts → Call → Good → Row → Row

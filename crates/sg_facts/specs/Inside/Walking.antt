@@ -2,9 +2,7 @@
 use Rattle.std.specs.Prelude.{ℕ, ◌≡◌, ◌==◌, Bool, true, false, ◌&&◌, ◌||◌, not, nat_lt, List, length, map}
 use Rattle.std.specs.Option.{option_map_or}
 use Rattle.std.specs.declared.option.Option.{Option}
-use Rattle.sg_facts.specs.declared.shape.Effect.{Effect}
-use Rattle.sg_facts.specs.declared.shape.Effect.TheVariants.{SetCaller, SetArg, AddArg}
-use Rattle.sg_facts.specs.Facts.{Facts, Field, fun_at, state_after}
+use Rattle.sg_facts.specs.Facts.{Field, fun_at}
 use Rattle.sg_facts.specs.Interface.{Declared, declares, steps_on}
 use Rattle.std.specs.declared.cmp.Ordering.TheVariants.{Less}
 use Rattle.std.specs.Ordering.{nat_cmp, ordering_then}
@@ -13,25 +11,11 @@ use Rattle.sg_facts.specs.declared.tables.WalkLine.{WalkLine}
 use Rattle.sg_facts.specs.declared.shape.Leaves.{Leaves}
 use Rattle.sg_facts.specs.declared.shape.Leaves.TheVariants.{Of}
 use Rattle.std.specs.declared.cmp.Ordering.{Ordering}
-use Rattle.sg_facts.specs.Walks.{FieldMark, Spot, good, marks_after, no_later, restores, restores_fields, unknown, unset}
+use Rattle.sg_facts.specs.Walks.{FieldMark, Spot, good, no_later, restores, restores_fields, unknown, unset}
 
 -- no field is set
 abbrev pub none_set : List Field → List Bool
 none_set fields = map (λ f. false) fields
-
--- where a walk has come to after the creation that it begins with
-abbrev pub first_spot : Facts → ℕ → Spot
-first_spot facts fun = record {
-  state = state_after facts fun fun;
-  marks = marks_after (fun_at facts.funs fun).effects (map (λ f. unset) facts.fields);
-}
-
--- where a walk has come to after one more function
-abbrev pub next_spot : Facts → ℕ → Spot → Spot
-next_spot facts fun s = record {
-  state = state_after facts fun s.state;
-  marks = marks_after (fun_at facts.funs fun).effects s.marks;
-}
 
 -- whether a walk may begin with a function: a declared creation that is neither terminal nor a query
 abbrev pub may_begin : Declared → ℕ → Bool
@@ -58,14 +42,6 @@ Restores i walk state set = restores i walk state set ≡ true
 -- whether a walk goes before another, or is it: it is shorter, or as long and no later
 abbrev pub no_worse : List ℕ → List ℕ → Bool
 no_worse a b = nat_lt (length a) (length b) || ((length a == length b) && no_later a b)
-
--- whether an effect sets its field to the caller
-abbrev pub sets_caller : Effect → Bool
-sets_caller effect = elim effect [ SetCaller ↦ true | _ ↦ false ]
-
--- whether an effect sets its field to the argument of a number, from 0, or adds that argument
-abbrev pub carries_arg : ℕ → Effect → Bool
-carries_arg k effect = elim effect [ SetArg j ↦ j == k | AddArg j ↦ j == k | _ ↦ false ]
 
 -- whether a line is for a creation, a state and the number of a set of fields
 abbrev pub is_for : ℕ → ℕ → ℕ → WalkLine → Bool

@@ -18,7 +18,7 @@ use Rattle.sg_facts.specs.Limits.{end_of_counts, last_client}
 use Rattle.sg_facts.specs.Object.{Object}
 use Rattle.sg_facts.specs.Sound.{AreFields}
 use Rattle.sg_facts.specs.Track.{fields_after, row_at}
-use Rattle.sg_facts.specs.Inside.Rows.{empty_field}
+use Rattle.sg_facts.specs.Fields.{empty_field}
 use Rattle.sg_facts.specs.Walks.{IsWalkOf}
 use Rattle.sg_facts.specs.Inside.Walking.{may_go_on}
 

@@ -17,9 +17,9 @@ use Rattle.sg_facts.specs.Laws.{WalkGoesOn, next_call}
 use Rattle.sg_facts.specs.Object.{Object}
 use Rattle.sg_facts.specs.Sound.{AreFields, IsRow}
 use Rattle.sg_facts.specs.Track.{field_at, fields_after, word_of}
-use Rattle.sg_facts.specs.Inside.Rows.{empty_field}
-use Rattle.sg_facts.specs.Walks.{FieldMark, Spot, good, spot_of, unknown, unset}
-use Rattle.sg_facts.specs.Inside.Walking.{first_spot, may_go_on, next_spot}
+use Rattle.sg_facts.specs.Fields.{empty_field}
+use Rattle.sg_facts.specs.Walks.{FieldMark, Spot, first_spot, good, next_spot, spot_of, unknown, unset}
+use Rattle.sg_facts.specs.Inside.Walking.{may_go_on}
 use Rattle.sg_lock.specs.LockFacts.{lock_facts}
 use Rattle.sg_lock.specs.LockTable.{lock_table}
 use Rattle.sg_lock.specs.Inside.LockAnswer.{owner_in, take_answer}

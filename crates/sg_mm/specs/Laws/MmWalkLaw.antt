@@ -18,9 +18,9 @@ use Rattle.sg_facts.specs.Laws.{WalkGoesOn, next_call}
 use Rattle.sg_facts.specs.Object.{Object}
 use Rattle.sg_facts.specs.Sound.{AreFields, AreRows, IsRow}
 use Rattle.sg_facts.specs.Track.{field_at, row_at, word_of}
-use Rattle.sg_facts.specs.Inside.Rows.{empty_field}
-use Rattle.sg_facts.specs.Walks.{FieldMark, Spot, good, spot_of}
-use Rattle.sg_facts.specs.Inside.Walking.{first_spot, may_go_on}
+use Rattle.sg_facts.specs.Fields.{empty_field}
+use Rattle.sg_facts.specs.Walks.{FieldMark, Spot, first_spot, good, spot_of}
+use Rattle.sg_facts.specs.Inside.Walking.{may_go_on}
 use Rattle.sg_mm.specs.MmFacts.{mm_facts}
 use Rattle.sg_mm.specs.MmTable.{is_at, mm_table}
 use Rattle.sg_mm.specs.Inside.MmAnswer.{addr_of, space_of}

@@ -17,9 +17,9 @@ use Rattle.sg_facts.specs.declared.row.Row.{Row}
 use Rattle.sg_facts.specs.declared.trace.Item.{Item}
 use Rattle.sg_facts.specs.declared.trace.Tag.{Tag}
 use Rattle.sg_facts.specs.declared.trace.Tag.TheVariants.{Walk, Load, Client}
-use Rattle.sg_facts.specs.Facts.{Facts, fun_at}
+use Rattle.sg_facts.specs.Facts.{Facts, fun_at, writes}
 use Rattle.sg_facts.specs.Object.{Object, file_at, first_text, over, patch_of, path_of, place_of}
-use Rattle.sg_facts.specs.Inside.Rows.{patch_at, patched, writes, track}
+use Rattle.sg_facts.specs.Inside.Rows.{patch_at, patched, track}
 use Rattle.sg_facts.specs.Track.{is_live, new_row, row_at, rows_after}
 use Rattle.sg_facts.proofs.RowLists.{row_of_live}
 use Rattle.sg_plain.specs.sg_hist.Reading.{desc_in, id_given, is_made, is_ok}

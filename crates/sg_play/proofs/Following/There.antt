@@ -17,9 +17,8 @@ use Rattle.sg_facts.specs.declared.row.Row.{Row}
 use Rattle.sg_facts.specs.declared.trace.Item.{Item}
 use Rattle.sg_facts.specs.declared.trace.Tag.TheVariants.{Walk, Load, Client}
 use Rattle.sg_facts.specs.Alike.{SameFile}
-use Rattle.sg_facts.specs.Facts.{Facts, fun_at, is_visible}
+use Rattle.sg_facts.specs.Facts.{Facts, fun_at, is_visible, writes}
 use Rattle.sg_facts.specs.Object.{Object, file_at, first_text, object_of, patch_of, path_of}
-use Rattle.sg_facts.specs.Inside.Rows.{writes}
 use Rattle.sg_facts.specs.Track.{is_live, row_at}
 use Rattle.sg_facts.proofs.RowLists.{live_of_row}
 use Rattle.sg_plain.specs.sg_hist.Reading.{Position, id_given, is_by_guard, is_item_of, is_made, is_ok, is_tagged, item_of, names_at, object_before, service_call, stands_before, value_at}

@@ -18,7 +18,7 @@ use Rattle.sg_facts.specs.Limits.{most_file, most_path}
 use Rattle.sg_facts.specs.Object.{Object, first_text, path_of}
 use Rattle.sg_facts.specs.Sound.{AreFields, IsRow}
 use Rattle.sg_facts.specs.Track.{field_at, fields_after, row_at, word_of}
-use Rattle.sg_facts.specs.Inside.Rows.{empty_field}
+use Rattle.sg_facts.specs.Fields.{empty_field}
 use Rattle.sg_facts.specs.sg_base.declared.reply.Code.TheVariants.{BadName, TooBig}
 use Rattle.sg_ramfs.specs.RamfsFacts.{ramfs_facts}
 use Rattle.sg_ramfs.specs.RamfsTable.{is_bad_name, ramfs_table}

@@ -16,14 +16,14 @@ use Rattle.sg_facts.specs.declared.shape.Parents.{Parents}
 use Rattle.sg_facts.specs.declared.shape.Parents.TheVariants.{Never, Same, Cross}
 use Rattle.sg_facts.specs.declared.tables.WalkLine.{WalkLine}
 use Rattle.sg_facts.specs.Alike.{HasAlike, SameReply, Serves, named, under_names}
-use Rattle.sg_facts.specs.Facts.{Facts, fun_at, takes_desc, takes_parent}
+use Rattle.sg_facts.specs.Facts.{Facts, fun_at, is_text_kind, takes_desc, takes_parent, writes}
 use Rattle.sg_facts.specs.Inside.Guards.{is_own, is_there, may_be_parent}
 use Rattle.sg_facts.specs.Interface.{Declared}
 use Rattle.sg_facts.specs.Laws.{Passes, whole}
 use Rattle.sg_facts.specs.Legal.{Table}
 use Rattle.sg_facts.specs.Needs.{is_needed}
 use Rattle.sg_facts.specs.Object.{Object, after, file_at, first_text, over, patch_of, path_of, place_in, place_of}
-use Rattle.sg_facts.specs.Inside.Rows.{is_text_kind, object_from, patch_at, patched, writes, has_child}
+use Rattle.sg_facts.specs.Inside.Rows.{object_from, patch_at, patched, has_child}
 use Rattle.sg_facts.specs.Sound.{IsRow, IsSound}
 use Rattle.sg_facts.specs.Track.{is_ancestor, new_row, row_at}
 use Rattle.sg_facts.proofs.RowLists.{id_of_row, row_at-more, row_of_live}

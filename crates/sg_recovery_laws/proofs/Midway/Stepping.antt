@@ -11,14 +11,14 @@ use Rattle.sg_facts.specs.declared.row.Row.{Row}
 use Rattle.sg_facts.specs.declared.tables.WalkLine.{WalkLine}
 use Rattle.sg_facts.specs.Alike.{named}
 use Rattle.sg_facts.specs.Counted.{CountedBelow}
-use Rattle.sg_facts.specs.Facts.{fun_at}
+use Rattle.sg_facts.specs.Facts.{fun_at, writes}
 use Rattle.sg_facts.specs.Fits.{Fits}
 use Rattle.sg_facts.specs.Held.{AreReachable, HoldsPart, IsAt, ParentIsWhole, set_of}
 use Rattle.sg_facts.specs.Interface.{Declared}
 use Rattle.sg_facts.specs.Laws.{GoesOn, names_after, next_call}
 use Rattle.sg_facts.specs.Legal.{Table}
 use Rattle.sg_facts.specs.Object.{Object, after, file_at, first_text, patch_of, path_of, place_of}
-use Rattle.sg_facts.specs.Inside.Rows.{patch_at, patched, writes}
+use Rattle.sg_facts.specs.Inside.Rows.{patch_at, patched}
 use Rattle.sg_facts.specs.Sound.{IsSound}
 use Rattle.sg_facts.specs.Track.{new_row, row_at}
 use Rattle.sg_facts.specs.Walks.{IsWalkOf}

@@ -10,15 +10,14 @@ use Rattle.sg_facts.specs.sg_base.declared.value.Value.TheVariants.{Word, Text}
 use Rattle.sg_facts.specs.declared.row.Row.{Row}
 use Rattle.sg_facts.specs.Alike.{HasAlike, IsAlike}
 use Rattle.sg_facts.specs.Allowed.{implies, is_replayed}
-use Rattle.sg_facts.specs.Facts.{Facts, fun_at}
+use Rattle.sg_facts.specs.Facts.{Facts, fun_at, writes}
 use Rattle.sg_facts.specs.Fields.{is_set}
 use Rattle.sg_facts.specs.Fits.{Fits}
 use Rattle.sg_facts.specs.Held.{FieldHolds, FieldsHold, IsAt, IsPartOf, set_of}
 use Rattle.sg_facts.specs.Interface.{Declared, declares, has_pair, steps_on}
 use Rattle.sg_facts.specs.Object.{Object}
-use Rattle.sg_facts.specs.Inside.Rows.{writes}
-use Rattle.sg_facts.specs.Walks.{IsWalkOf, FieldMark, good, unknown, unset, Spot, restores_fields, spot_from, spot_of}
-use Rattle.sg_facts.specs.Inside.Walking.{may_begin, may_go_on, next_spot, first_spot, restores_at, restores_field}
+use Rattle.sg_facts.specs.Walks.{FieldMark, IsWalkOf, Spot, first_spot, good, next_spot, restores_fields, spot_from, spot_of, unknown, unset}
+use Rattle.sg_facts.specs.Inside.Walking.{may_begin, may_go_on, restores_at, restores_field}
 use Rattle.sg_recovery_laws.proofs.Objects.Guarded.{writes_none, both_true}
 use Rattle.sg_recovery_laws.proofs.Objects.Reachable.{none_not_more}
 

@@ -11,15 +11,15 @@ use Rattle.sg_facts.specs.declared.row.Row.{Row}
 use Rattle.sg_facts.specs.declared.shape.Parents.{Parents}
 use Rattle.sg_facts.specs.declared.shape.Parents.TheVariants.{Never, Same, Cross}
 use Rattle.sg_facts.specs.Allowed.{count_args, each_replays_well, has_no_parents, is_replayed, leaves_known, replays_well, steps_make_none, takes_among, acts_on_one, implies, is_allowed, is_cross, is_never, is_text_field, keeps_private, keeps_to, leaves_own, replays_all, sets_once}
-use Rattle.sg_facts.specs.Facts.{Facts, Fun, fun_at, takes_desc, takes_parent}
+use Rattle.sg_facts.specs.Facts.{Facts, Fun, fun_at, takes_desc, takes_parent, writes}
 use Rattle.sg_facts.specs.Guard.{guard}
 use Rattle.sg_facts.specs.Inside.Guards.{in_state, is_own, is_there, may_be_parent, may_use, refusal}
 use Rattle.sg_facts.specs.Limits.{most_live}
 use Rattle.sg_facts.specs.Interface.{Declared}
 use Rattle.sg_facts.specs.Object.{Object}
-use Rattle.sg_facts.specs.Inside.Rows.{writes, has_child}
+use Rattle.sg_facts.specs.Inside.Rows.{has_child}
 use Rattle.sg_facts.specs.Track.{row_at}
-use Rattle.sg_facts.specs.Inside.Walking.{sets_caller}
+use Rattle.sg_facts.specs.Walks.{sets_caller}
 use Rattle.sg_recovery_laws.proofs.Objects.Apart.{IsOwnRow}
 
 cond_none : (b : Bool) (x : Code) (rest : Option Code) → cond b (Some x) rest ≡ None → (b ≡ false) × (rest ≡ None)

@@ -13,7 +13,7 @@ use Rattle.sg_facts.specs.Kinds.{may_be_root}
 use Rattle.sg_facts.specs.Object.{Object}
 use Rattle.sg_facts.specs.Sound.{AreFields, AreFiles, AreRows, IsRow, IsSound}
 use Rattle.sg_facts.specs.Track.{is_live, new_row, row_at}
-use Rattle.sg_facts.specs.Inside.Rows.{empty_field}
+use Rattle.sg_facts.specs.Fields.{empty_field}
 use Rattle.sg_facts.proofs.RowLists.{id_of_row, is_live-more, live_of_row, more, other, row_at-more}
 use Rattle.sg_track.specs.Tracked.{HasLowerParent}
 use Rattle.sg_facts.proofs.Replaying.Names.{names_more, other_named, own_named}

@@ -15,11 +15,11 @@ use Rattle.sg_facts.specs.declared.shape.Effect.{Effect}
 use Rattle.sg_facts.specs.declared.shape.Effect.TheVariants.{SetCaller, SetArg, AddArg, SetRet, AddRet, Clear, SubOne, SubRet}
 use Rattle.sg_facts.specs.Allowed.{sets_once}
 use Rattle.sg_facts.specs.Facts.{Field, fun_at}
-use Rattle.sg_facts.specs.Fields.{is_set}
+use Rattle.sg_facts.specs.Fields.{empty_field, is_set}
 use Rattle.sg_facts.specs.Held.{set_of}
 use Rattle.sg_facts.specs.Interface.{Declared, declares, moves_on}
 use Rattle.sg_facts.specs.Track.{arg_at, effect_of, field_at, fields_after, first_word, new_row, word_of}
-use Rattle.sg_facts.specs.Inside.Rows.{empty_field, row_after}
+use Rattle.sg_facts.specs.Inside.Rows.{row_after}
 use Rattle.sg_facts.specs.Walks.{IsReachable, effect_on, made, may_lead, may_leave, moved}
 use Rattle.sg_facts.specs.Inside.Walking.{none_set}
 use Rattle.sg_track.proofs.Premises.{length_after, set_other, set_same, untouched}

@@ -8,11 +8,11 @@ use Rattle.sg_facts.specs.sg_base.declared.reply.Reply.{Reply}
 use Rattle.sg_facts.specs.sg_base.declared.reply.Reply.TheVariants.{Ok, Refused}
 use Rattle.sg_facts.specs.declared.entry.Entry.{Entry}
 use Rattle.sg_facts.specs.declared.row.Row.{Row}
-use Rattle.sg_facts.specs.Facts.{Facts, fun_at, is_visible, takes_desc}
+use Rattle.sg_facts.specs.Facts.{Facts, fun_at, is_text_kind, is_visible, takes_desc, writes}
 use Rattle.sg_facts.specs.Kinds.{IsCall}
 use Rattle.sg_facts.specs.Legal.{Table}
 use Rattle.sg_facts.specs.Object.{Object, after, first_text, patch_of, path_of, place_of}
-use Rattle.sg_facts.specs.Inside.Rows.{given_after, is_text_kind, object_from, patch_at, patched, writes}
+use Rattle.sg_facts.specs.Inside.Rows.{given_after, object_from, patch_at, patched}
 use Rattle.sg_facts.specs.Track.{row_at, rows_after}
 use Rattle.sg_recovery_laws.specs.Objects.Apart.{AreOwn, SameFor}
 use Rattle.sg_recovery_laws.specs.Objects.Serving.{HasTime, IsAnsweredAt, IsLegalObject, IsService}

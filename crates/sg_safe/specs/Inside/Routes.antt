@@ -3,8 +3,7 @@ use Rattle.std.specs.Prelude.{ℕ, ◌≡◌, ◌≤◌, Bool, not, if◌then◌
 use Rattle.std.specs.List.{list_all}
 use Rattle.sg_facts.specs.Interface.{has_pair}
 use Rattle.sg_facts.specs.Facts.{Fun}
-use Rattle.sg_facts.specs.Inside.Walking.{first_spot, next_spot}
-use Rattle.sg_facts.specs.Walks.{Spot}
+use Rattle.sg_facts.specs.Walks.{Spot, first_spot, next_spot}
 use Rattle.sg_described.specs.Described.{Described}
 use Rattle.sg_described.specs.Walking.{add_spot, is_lost, is_step}
 use Rattle.sg_safe.specs.declared.spots.Reached.{Reached}

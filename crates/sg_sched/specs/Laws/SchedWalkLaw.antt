@@ -16,7 +16,7 @@ use Rattle.sg_facts.specs.Laws.{WalkGoesOn, next_call}
 use Rattle.sg_facts.specs.Object.{Object}
 use Rattle.sg_facts.specs.Sound.{AreFields, IsRow}
 use Rattle.sg_facts.specs.Track.{field_at, fields_after, row_at, word_of}
-use Rattle.sg_facts.specs.Inside.Rows.{empty_field}
+use Rattle.sg_facts.specs.Fields.{empty_field}
 use Rattle.sg_sched.specs.SchedFacts.{sched_facts}
 use Rattle.sg_sched.specs.SchedTable.{next_rank, rank_of, sched_table}
 use Rattle.sg_sched.specs.SchedSound.{IsSchedSound}

@@ -21,9 +21,10 @@ use Rattle.sg_facts.specs.Laws.{WalkGoesOn, next_call}
 use Rattle.sg_facts.specs.Object.{Object}
 use Rattle.sg_facts.specs.Sound.{AreFields, AreRows, IsRow}
 use Rattle.sg_facts.specs.Track.{field_at, fields_after, row_at, word_of}
-use Rattle.sg_facts.specs.Inside.Rows.{cleared, empty_field}
-use Rattle.sg_facts.specs.Walks.{FieldMark, Spot, good, unknown, unset, mark_after, marks_after, restores_fields, spot_of}
-use Rattle.sg_facts.specs.Inside.Walking.{first_spot, may_begin, may_go_on, next_spot, restores_field}
+use Rattle.sg_facts.specs.Inside.Rows.{cleared}
+use Rattle.sg_facts.specs.Fields.{empty_field}
+use Rattle.sg_facts.specs.Walks.{FieldMark, Spot, first_spot, good, mark_after, marks_after, next_spot, restores_fields, spot_of, unknown, unset}
+use Rattle.sg_facts.specs.Inside.Walking.{may_begin, may_go_on, restores_field}
 use Rattle.sg_facts.specs.Replaying.Replays.{AnswersCreations, AnswersReplays, AnswersSteps, IsAnsweredOk, IsHalfway}
 use Rattle.sg_facts.proofs.Replaying.Above.{name_of_held}
 use Rattle.sg_facts.proofs.Replaying.Found.{above, all_found, held_at, met}

@@ -7,13 +7,13 @@ use Rattle.sg_facts.specs.sg_base.declared.call.Call.{Call}
 use Rattle.sg_facts.specs.sg_base.declared.reply.Good.{Good}
 use Rattle.sg_facts.specs.sg_base.declared.reply.Reply.TheVariants.{Ok}
 use Rattle.sg_facts.specs.Allowed.{acts_on_one, is_allowed, keeps_private, keeps_to, replays_all}
-use Rattle.sg_facts.specs.Facts.{Facts, fun_at}
+use Rattle.sg_facts.specs.Facts.{Facts, fun_at, writes}
 use Rattle.sg_facts.specs.Fields.{is_set}
 use Rattle.sg_facts.specs.Held.{set_of}
 use Rattle.sg_facts.specs.Invoke.{loaded}
 use Rattle.sg_facts.specs.Laws.{is_none, next_call}
 use Rattle.sg_facts.specs.Object.{Object, after, file_at, first_text, object_of, patch_of, path_of, place_of}
-use Rattle.sg_facts.specs.Inside.Rows.{patch_at, writes}
+use Rattle.sg_facts.specs.Inside.Rows.{patch_at}
 use Rattle.sg_facts.specs.Trace.{Boot}
 use Rattle.sg_facts.specs.Track.{row_at}
 use Rattle.sg_facts.specs.Walks.{replayed_call}

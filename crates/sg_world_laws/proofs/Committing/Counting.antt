@@ -14,7 +14,8 @@ use Rattle.sg_facts.specs.Facts.{Facts, fun_at}
 use Rattle.sg_facts.specs.Object.{Object, after}
 use Rattle.sg_facts.specs.Sound.{AreRows, IsRow, IsSound}
 use Rattle.sg_facts.specs.Track.{fields_after, is_live, new_row, row_at, rows_after}
-use Rattle.sg_facts.specs.Inside.Rows.{empty_field, row_after}
+use Rattle.sg_facts.specs.Inside.Rows.{row_after}
+use Rattle.sg_facts.specs.Fields.{empty_field}
 use Rattle.sg_facts.proofs.RowLists.{id_of_row}
 use Rattle.sg_recovery_laws.specs.Midway.Numbers.{left_of, sum_told}
 use Rattle.sg_recovery_laws.specs.Midway.Progress.{Told, begun, complete, fresh}

@@ -11,12 +11,12 @@ use Rattle.sg_world_laws.specs.Committing.Serving.{IsServedCall}
 use Rattle.sg_world_laws.proofs.Committing.Later.{answered_it, patch_it}
 use Rattle.sg_facts.specs.declared.outcome.Patch.{Patch}
 use Rattle.sg_facts.specs.declared.trace.Item.{Item}
-use Rattle.sg_facts.specs.Facts.{Facts, fun_at, is_visible}
+use Rattle.sg_facts.specs.Facts.{Facts, fun_at, is_text_kind, is_visible, writes}
 use Rattle.sg_facts.specs.Laws.{whole}
 use Rattle.sg_facts.specs.Legal.{Table}
 use Rattle.sg_facts.specs.Needs.{needs}
 use Rattle.sg_facts.specs.Object.{Object, after, first_text, object_of, patch_of, path_of, place_of}
-use Rattle.sg_facts.specs.Inside.Rows.{is_text_kind, patch_at, writes}
+use Rattle.sg_facts.specs.Inside.Rows.{patch_at}
 use Rattle.sg_facts.specs.Sound.{AreRows, IsRow}
 use Rattle.sg_facts.specs.Trace.{Boot}
 use Rattle.sg_facts.specs.Track.{is_live, row_at, rows_after}

@@ -2,7 +2,8 @@
 use Rattle.std.proofs.Common.{◌≡◌, ◌∙◌, ap, subst, sym, cond, map}
 use Rattle.std.specs.Prelude.{if◌then◌else◌}
 use Rattle.sg_facts.specs.Facts.{fun_at, fun_of_shape, takes_parent}
-use Rattle.sg_facts.specs.Inside.Rows.{left_by, empty_field}
+use Rattle.sg_facts.specs.Inside.Rows.{left_by}
+use Rattle.sg_facts.specs.Fields.{empty_field}
 use Rattle.sg_facts.specs.Track.{fields_after}
 use Rattle.sg_track.specs.Drafts.{EachNew, IsValue, empty_shape}
 use Rattle.sg_track.proofs.DraftLists.{empty_fields}

@@ -2,8 +2,7 @@
 use Rattle.std.proofs.Common.{◌∙◌, ap, not, sym}
 use Rattle.std.specs.Prelude.{◌&&◌}
 use Rattle.std.specs.List.{list_any}
-use Rattle.sg_facts.specs.Facts.{fun_of_shape}
-use Rattle.sg_facts.specs.Inside.Rows.{is_text_kind}
+use Rattle.sg_facts.specs.Facts.{fun_of_shape, is_text_kind}
 use Rattle.sg_facts.proofs.shape.FunShape.shows_bytes.Goals as goal
 
 pub returns-then-uses_file : goal.returns-then-uses_file
