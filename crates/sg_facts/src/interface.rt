@@ -16,7 +16,7 @@ pub struct Interface {
     pub shape: Shape,
     /// The declared functions: bit f - 1 for function f.
     pub declared: u32,
-    /// The version of the language in which it is written: 1 or 2.
+    /// The version of the language in which it is written: 1, 2 or 3.
     pub version: u8,
     /// Whether every live descriptor is rebuilt after a boot before any call is served; else each is when a call needs it.
     pub eager: bool,
