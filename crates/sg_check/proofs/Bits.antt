@@ -2,8 +2,8 @@
 use Rattle.std.proofs.Common.{◌≡◌, ℕ, zero, suc, ◌-◌, ◌<◌, Bool, true, false, List, [], ◌∷◌, map, length, get_or, refl, sym, ◌∙◌, arith}
 use Rattle.std.specs.Prelude.{nat_le}
 use Rattle.std.proofs.lemmas.Bool.Decides.{nat_tests}
-use Rattle.sg_facts.specs.Facts.{Facts, Fun, fun_at}
-use Rattle.sg_facts.specs.Interface.{declares}
+use Rattle.sg_check_statements.specs.sg_facts.Facts.{Facts, Fun, fun_at}
+use Rattle.sg_check_statements.specs.sg_facts.Interface.{declares}
 use Rattle.sg_check_statements.specs.sg_parse.declared.tree.Tree.{Tree}
 use Rattle.sg_check_statements.specs.Faults.{interface_of}
 use Rattle.sg_check_statements.specs.Says.{has_proto}

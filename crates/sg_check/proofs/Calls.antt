@@ -5,10 +5,10 @@ use Rattle.std.specs.Cmp.Derive.{both_true}
 use Rattle.std.specs.List.{list_any}
 use Rattle.std.proofs.lemmas.Bool.{and_parts, cases_Bool}
 use Rattle.std.proofs.lemmas.Bool.Decides.{eqb_tells}
-use Rattle.sg_facts.specs.Fields.{number_of}
-use Rattle.sg_facts.specs.Fits.{IsReached, move, needs_reach, step}
-use Rattle.sg_facts.specs.Interface.{Declared, has_pair}
-use Rattle.sg_facts.specs.Walks.{IsReachable}
+use Rattle.sg_check_statements.specs.sg_facts.Fields.{number_of}
+use Rattle.sg_check_statements.specs.sg_facts.Fits.{IsReached, move, needs_reach, step}
+use Rattle.sg_check_statements.specs.sg_facts.Interface.{Declared, has_pair}
+use Rattle.sg_check_statements.specs.sg_facts.Walks.{IsReachable}
 use Rattle.sg_walk.specs.declared.place.Triple.{Triple}
 use Rattle.sg_check_statements.specs.Inside.Pieces.{IsUnreached}
 use Rattle.sg_check.specs.Inside.Numbers.{GainsNumber, has_number}

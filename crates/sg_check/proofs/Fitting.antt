@@ -7,14 +7,14 @@ use Rattle.std.specs.Str.{bytes_eq}
 use Rattle.std.proofs.lemmas.Bool.{and_parts, cases_Bool}
 use Rattle.std.proofs.lemmas.Bool.Decides.{nat_tests}
 use Rattle.std.proofs.lemmas.Slice.Eq.{bytes_eq-Decides}
-use Rattle.sg_facts.specs.declared.shape.Leaves.{Leaves}
-use Rattle.sg_facts.specs.declared.shape.Leaves.TheVariants.{Own, Same, Of}
-use Rattle.sg_facts.specs.Facts.{Facts, Fun, fun_at}
-use Rattle.sg_facts.specs.Inside.Rows.{left_by}
-use Rattle.sg_facts.specs.Fits.{Fits, needs_reach}
-use Rattle.sg_facts.specs.Inside.Walking.{LeavesDeclared}
-use Rattle.sg_facts.specs.Interface.{Declared, declares, has_pair, moves_on, steps_on}
-use Rattle.sg_facts.specs.Walks.{IsReachable, made, moved}
+use Rattle.sg_check_statements.specs.sg_facts.declared.shape.Leaves.{Leaves}
+use Rattle.sg_check_statements.specs.sg_facts.declared.shape.Leaves.TheVariants.{Own, Same, Of}
+use Rattle.sg_check_statements.specs.sg_facts.Facts.{Facts, Fun, fun_at}
+use Rattle.sg_check_statements.specs.sg_facts.Inside.Rows.{left_by}
+use Rattle.sg_check_statements.specs.sg_facts.Fits.{Fits, needs_reach}
+use Rattle.sg_check_statements.specs.sg_facts.Inside.Walking.{LeavesDeclared}
+use Rattle.sg_check_statements.specs.sg_facts.Interface.{Declared, declares, has_pair, moves_on, steps_on}
+use Rattle.sg_check_statements.specs.sg_facts.Walks.{IsReachable, made, moved}
 use Rattle.sg_check_statements.specs.sg_parse.sg_lex.Lexeme.{Spelling as Named}
 use Rattle.sg_check_statements.specs.sg_parse.declared.tree.Param.{Param}
 use Rattle.sg_check_statements.specs.sg_parse.declared.tree.Ret.{Ret}

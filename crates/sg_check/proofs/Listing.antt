@@ -2,10 +2,10 @@
 use Rattle.std.proofs.Common.{◌≡◌, ℕ, ◌+◌, ◌<◌, Bool, true, false, cond, List, [], ◌∷◌, ◌++◌, length, map, take, get_or, sym, ◌∙◌, ap, append-nil}
 use Rattle.std.specs.Prelude.{filter, codes}
 use Rattle.std.proofs.lemmas.List.Elements.{filter_more}
-use Rattle.sg_facts.specs.declared.shape.Shape.{Shape}
-use Rattle.sg_facts.specs.Facts.{facts_of, fun_at, fun_of_shape}
-use Rattle.sg_facts.specs.Fields.{number_of}
-use Rattle.sg_facts.specs.Interface.{Declared}
+use Rattle.sg_check_statements.specs.sg_facts.declared.shape.Shape.{Shape}
+use Rattle.sg_check_statements.specs.sg_facts.Facts.{facts_of, fun_at, fun_of_shape}
+use Rattle.sg_check_statements.specs.sg_facts.Fields.{number_of}
+use Rattle.sg_check_statements.specs.sg_facts.Interface.{Declared}
 use Rattle.sg_check_statements.specs.sg_parse.declared.tree.Statement.{Statement}
 use Rattle.sg_check_statements.specs.sg_parse.declared.tree.Tree.{Tree}
 use Rattle.sg_check_statements.specs.Faults.{interface_of}

@@ -6,12 +6,12 @@ use Rattle.std.proofs.Math.ListN.{set}
 use Rattle.std.proofs.lemmas.Bool.{and_parts, cases_Bool}
 use Rattle.std.proofs.lemmas.List.{length-set, take_all, take_more}
 use Rattle.std.proofs.lemmas.List.Elements.{Contains-append_cases, Contains-append_left, Contains-append_right}
-use Rattle.sg_facts.specs.declared.shape.Effect.{Effect}
-use Rattle.sg_facts.specs.Facts.{Field, fun_at}
-use Rattle.sg_facts.specs.Fields.{number_of}
-use Rattle.sg_facts.specs.Interface.{Declared}
-use Rattle.sg_facts.specs.Walks.{FieldMark, IsReachable, Spot, first_spot, made, marks_after, moved, next_spot, restores, restores_fields, spot_from, unset}
-use Rattle.sg_facts.specs.Inside.Walking.{may_begin, may_go_on, none_set, restores_at, restores_field}
+use Rattle.sg_check_statements.specs.sg_facts.declared.shape.Effect.{Effect}
+use Rattle.sg_check_statements.specs.sg_facts.Facts.{Field, fun_at}
+use Rattle.sg_check_statements.specs.sg_facts.Fields.{number_of}
+use Rattle.sg_check_statements.specs.sg_facts.Interface.{Declared}
+use Rattle.sg_check_statements.specs.sg_facts.Walks.{FieldMark, IsReachable, Spot, first_spot, made, marks_after, moved, next_spot, restores, restores_fields, spot_from, unset}
+use Rattle.sg_check_statements.specs.sg_facts.Inside.Walking.{may_begin, may_go_on, none_set, restores_at, restores_field}
 use Rattle.sg_walk.specs.declared.place.Triple.{Triple}
 use Rattle.std.proofs.lemmas.Option.{slice_get-get_or}
 use Rattle.sg_walk.proofs.ReachedStates.Closure.{there}

@@ -9,10 +9,10 @@ use Rattle.std.specs.Str.{bytes_eq}
 use Rattle.std.proofs.lemmas.Bool.{and_parts}
 use Rattle.std.proofs.lemmas.Bool.Decides.{nat_tests}
 use Rattle.std.proofs.lemmas.List.{length-map}
-use Rattle.sg_facts.specs.declared.shape.Shape.{Shape}
-use Rattle.sg_facts.specs.Facts.{Facts, facts_of, fun_of_shape}
-use Rattle.sg_facts.specs.Interface.{Declared}
-use Rattle.sg_facts.specs.Fits.{Fits}
+use Rattle.sg_check_statements.specs.sg_facts.declared.shape.Shape.{Shape}
+use Rattle.sg_check_statements.specs.sg_facts.Facts.{Facts, facts_of, fun_of_shape}
+use Rattle.sg_check_statements.specs.sg_facts.Interface.{Declared}
+use Rattle.sg_check_statements.specs.sg_facts.Fits.{Fits}
 use Rattle.sg_check_statements.specs.sg_parse.declared.tree.Statement.{Statement}
 use Rattle.sg_check_statements.specs.sg_parse.declared.tree.Tree.{Tree}
 use Rattle.sg_walk.specs.declared.place.Triple.{Triple}

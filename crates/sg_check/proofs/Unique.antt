@@ -4,7 +4,7 @@ use Rattle.std.specs.declared.option.Option.{Option}
 use Rattle.std.specs.Prelude.{codes}
 use Rattle.std.proofs.lemmas.Bool.{cases_lt}
 use Rattle.std.proofs.lemmas.Bool.Decides.{eqb_tells}
-use Rattle.sg_facts.specs.Facts.{Facts}
+use Rattle.sg_check_statements.specs.sg_facts.Facts.{Facts}
 use Rattle.sg_check_statements.specs.sg_parse.declared.tree.Statement.{Statement}
 use Rattle.sg_check_statements.specs.sg_parse.declared.tree.Statement.TheVariants.{Proto}
 use Rattle.sg_check_statements.specs.sg_parse.declared.tree.Tree.{Tree}

@@ -1,5 +1,5 @@
 // An interface that is accepted.
-use sg_facts::Interface;
+use sg_check_statements::Interface;
 use std::marker::Model;
 
 /// An accepted interface: one that fits, so that every descriptor can be recovered in every state that it can come to. The
@@ -11,8 +11,8 @@ pub struct Accepted {
 }
 
 impl Model for Accepted {
-    ghost use Rattle.sg_facts.specs.Fits.{Fits};
-    ghost use Rattle.sg_facts.specs.Interface.{Declared};
+    ghost use Rattle.sg_check_statements.specs.sg_facts.Fits.{Fits};
+    ghost use Rattle.sg_check_statements.specs.sg_facts.Interface.{Declared};
     ghost use Rattle.sg_check_statements.specs.Shapes.{IsSmall};
 
     ghost Value = { Declared };
@@ -24,7 +24,7 @@ impl Model for Accepted {
 
 impl Accepted {
     ghost use Rattle.std.specs.Prelude.{◌≡◌};
-    ghost use Rattle.sg_facts.specs.Fits.{Fits};
+    ghost use Rattle.sg_check_statements.specs.sg_facts.Fits.{Fits};
     ghost use Rattle.sg_check_statements.specs.Shapes.{IsSmall};
 
     /// An interface that fits, of a shape within the limits.

@@ -1,5 +1,5 @@
 // What a text declares of a shape, before it is accepted.
-use sg_facts::{Interface, Shape};
+use sg_check_statements::{Interface, Shape};
 use sg_walk::TripleList;
 
 /// The shape of a text, the interface that the text declares of it, and all that descriptors can come to.

@@ -1,8 +1,8 @@
 // Whether a text is accepted.
 ghost use Rattle.std.specs.Prelude.{◌≡◌, ℕ, true, map, OnOk};
 ghost use Rattle.std.specs.Result.{MatchResult};
-ghost use Rattle.sg_facts.specs.Facts.{facts_of};
-ghost use Rattle.sg_facts.specs.Interface.{HasFewFields};
+ghost use Rattle.sg_check_statements.specs.sg_facts.Facts.{facts_of};
+ghost use Rattle.sg_check_statements.specs.sg_facts.Interface.{HasFewFields};
 ghost use Rattle.sg_check_statements.specs.Faults.{IsAccepted, IsFault};
 ghost use Rattle.sg_check_statements.specs.Stages.{IsFirstFault};
 ghost use Rattle.sg_check_statements.specs.declared.fault.CheckKind.{CheckKind as Kind};
@@ -18,7 +18,7 @@ use crate::protos::first_proto_in;
 use crate::reached::unreached_of;
 use crate::stuck::stuck_of;
 use sg_check_statements::{CheckError, CheckKind, Tree, fit_one_by_one, unless};
-use sg_facts::Shape;
+use sg_check_statements::Shape;
 use sg_walk::reachable;
 use std::alloc::Global;
 

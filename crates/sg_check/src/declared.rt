@@ -1,13 +1,13 @@
 // The interface that a text declares.
 ghost use Rattle.std.specs.Prelude.{◌≡◌, ◌≤◌, ◌<◌, ◌^◌, length, map, filter, IfOk, codes};
-ghost use Rattle.sg_facts.specs.Facts.{facts_of, fun_at, fun_of_shape};
-ghost use Rattle.sg_facts.specs.Fields.{number_of};
-ghost use Rattle.sg_facts.specs.Limits.{most_funs};
+ghost use Rattle.sg_check_statements.specs.sg_facts.Facts.{facts_of, fun_at, fun_of_shape};
+ghost use Rattle.sg_check_statements.specs.sg_facts.Fields.{number_of};
+ghost use Rattle.sg_check_statements.specs.sg_facts.Limits.{most_funs};
 ghost use Rattle.sg_check_statements.specs.Faults.{interface_of};
 ghost use Rattle.sg_check_statements.specs.Says.{has_proto, says_of};
 
 use sg_check_statements::{Protos, Statement, Tree, says_of};
-use sg_facts::{FunShape, Interface, NoMemory, PairList, Shape};
+use sg_check_statements::{FunShape, Interface, NoMemory, PairList, Shape};
 use std::alloc::Global;
 
 /// The interface that a text declares of a shape, whether the text is accepted or not: the functions that have a prototype, the

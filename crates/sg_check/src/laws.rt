@@ -1,6 +1,6 @@
 // Laws of the definitions.
 ghost use Rattle.std.specs.Prelude.{◌≡◌, ℕ, List};
-ghost use Rattle.sg_facts.specs.Facts.{Facts};
+ghost use Rattle.sg_check_statements.specs.sg_facts.Facts.{Facts};
 ghost use Rattle.sg_check_statements.specs.sg_parse.declared.tree.Tree.{Tree};
 ghost use Rattle.sg_check_statements.specs.Faults.{IsFault};
 ghost use Rattle.sg_check_statements.specs.declared.fault.CheckKind.{CheckKind};

@@ -26,5 +26,8 @@ pub use accepted::Accepted;
 pub use checking::check;
 pub use declared::interface_of;
 pub use laws::one_fault;
-pub use sg_check_statements::{CheckError, CheckFault, CheckKind, parse};
+pub use sg_check_statements::{
+    CheckError, CheckFault, CheckKind, END_OF_FUNS, Interface, NoMemory, Protos, Statement, Tables,
+    Tree, TryCopy, WalkLine, WalkList, fun_number, parse, says_of,
+};
 pub use sg_walk::{Triple, reachable, restores, set_count, shortest};

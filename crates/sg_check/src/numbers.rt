@@ -2,7 +2,7 @@
 ghost use Rattle.std.specs.Prelude.{◌≡◌, [], OnOk, OnErr};
 ghost use Rattle.sg_check.specs.Inside.Numbers.{GainsNumber, has_number};
 
-use sg_facts::NoMemory;
+use sg_check_statements::NoMemory;
 use std::alloc::Global;
 use std::collections::HashSet;
 use std::marker::Model;

@@ -1,13 +1,13 @@
 // The first prototype of one of some functions.
 ghost use Rattle.std.specs.Prelude.{◌≡◌, Some, MatchOption};
-ghost use Rattle.sg_facts.specs.Facts.{facts_of};
+ghost use Rattle.sg_check_statements.specs.sg_facts.Facts.{facts_of};
 ghost use Rattle.sg_check_statements.specs.Faults.{IsFirstStatement};
 ghost use Rattle.sg_check_statements.specs.Inside.Pieces.{NoStatement};
 ghost use Rattle.sg_check.specs.Inside.Numbers.{marked};
 
 use crate::numbers::Numbers;
 use sg_check_statements::{Judge, Statement, first_flaw, fun_number};
-use sg_facts::Shape;
+use sg_check_statements::Shape;
 
 /// Looks for prototypes of functions whose numbers are in a set.
 #[derive(Clone, Copy)]

@@ -1,12 +1,12 @@
 // The functions that can't be reached.
 ghost use Rattle.std.specs.Prelude.{◌≡◌, ◌↔◌, ◌<◌, ◌&&◌, ◌==◌, ℕ, true, IfOk};
 ghost use Rattle.std.specs.List.{list_any};
-ghost use Rattle.sg_facts.specs.Fits.{needs_reach};
+ghost use Rattle.sg_check_statements.specs.sg_facts.Fits.{needs_reach};
 ghost use Rattle.sg_check.specs.Inside.Numbers.{has_number};
 ghost use Rattle.sg_check.specs.Inside.Reached.{AreStates, AreTriples, AreUnreached, is_reached, is_unreached};
 
 use crate::numbers::Numbers;
-use sg_facts::{END_OF_FUNS, Interface, NoMemory};
+use sg_check_statements::{END_OF_FUNS, Interface, NoMemory};
 use sg_walk::Triple;
 use std::alloc::Global;
 

@@ -1,11 +1,11 @@
 // The states that have no walk.
 ghost use Rattle.std.specs.Prelude.{◌≡◌, ◌≤◌, length, IfOk};
-ghost use Rattle.sg_facts.specs.Interface.{HasFewFields};
+ghost use Rattle.sg_check_statements.specs.sg_facts.Interface.{HasFewFields};
 ghost use Rattle.sg_check.specs.Inside.Reached.{AreTriples};
 ghost use Rattle.sg_check.specs.Inside.Stuck.{AreStuck, TellsWalk};
 
 use crate::numbers::Numbers;
-use sg_facts::{Interface, NoMemory};
+use sg_check_statements::{Interface, NoMemory};
 use sg_walk::{Triple, shortest};
 use std::alloc::Global;
 

@@ -5,3 +5,4 @@ pub mod Judged
 pub mod Sets
 pub mod Anywhere
 pub mod Bits
+pub use Rattle.sg_facts.proofs as sg_facts

@@ -5,7 +5,7 @@ use Rattle.std.proofs.lemmas.Bool.{cases_order}
 use Rattle.std.specs.declared.option.Option.{Option}
 use Rattle.std.specs.declared.result.Result.{Result}
 use Rattle.std.specs.Result.{MatchResult}
-use Rattle.sg_check_statements.specs.sg_parse.declared.tree.Tree.{Tree}
+use Rattle.sg_shape.specs.sg_check_statements.sg_parse.declared.tree.Tree.{Tree}
 use Rattle.sg_describe.specs.declared.fault.AnswerError.{AnswerError}
 use Rattle.sg_describe.specs.declared.fault.AnswerError.TheVariants.{Fault}
 use Rattle.sg_describe.specs.declared.fault.AnswerFaultKind.{AnswerFaultKind}

@@ -3,9 +3,9 @@ use Rattle.std.proofs.Common.{◌≡◌, ◌≤◌, List, [], ◌∷◌, map, dr
 use Rattle.std.specs.Prelude.{All}
 use Rattle.std.proofs.lemmas.List.{length-map}
 use Rattle.std.proofs.lemmas.Option.{slice_get-get_or}
-use Rattle.sg_facts.specs.Facts.{Facts, Fun}
-use Rattle.sg_check_statements.specs.sg_parse.declared.tree.Param.{Param}
-use Rattle.sg_check_statements.specs.sg_parse.declared.tree.Tree.{Tree}
+use Rattle.sg_shape.specs.sg_facts.Facts.{Facts, Fun}
+use Rattle.sg_shape.specs.sg_check_statements.sg_parse.declared.tree.Param.{Param}
+use Rattle.sg_shape.specs.sg_check_statements.sg_parse.declared.tree.Tree.{Tree}
 use Rattle.sg_shape.specs.declared.fault.ShapeFaultKind.TheVariants.{Limit}
 use Rattle.sg_shape.specs.Faults.{HasNoShapeFlaw}
 use Rattle.sg_shape.specs.Fields.{field_at, first_uses, uses_of}

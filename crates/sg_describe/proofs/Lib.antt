@@ -1,4 +1,3 @@
-pub mod ByDigit
 pub mod Clear
 pub mod Few
 pub mod Mapped

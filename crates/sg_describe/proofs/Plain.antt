@@ -10,17 +10,17 @@ use Rattle.std.proofs.lemmas.Bool.{and_from, and_parts, eq-eqb, le-leb, or_parts
 use Rattle.std.proofs.lemmas.List.{length-map}
 use Rattle.std.proofs.lemmas.List.Folds.{list_all-map}
 use Rattle.std.proofs.lemmas.Option.{slice_get-map}
-use Rattle.sg_facts.specs.Allowed.{implies, is_never, is_replayed, wants_word}
-use Rattle.sg_facts.specs.Facts.{Facts, Field, Fun}
-use Rattle.sg_facts.specs.Limits.{most_fields, most_funs}
-use Rattle.sg_facts.specs.sg_base.Counts.{last_count}
-use Rattle.sg_check_statements.specs.Says.{says}
-use Rattle.sg_check_statements.specs.Shapes.{all_differ, are_funs, is_fun, leaves_fun}
-use Rattle.sg_check_statements.specs.sg_parse.declared.tree.Statement.{Statement}
-use Rattle.sg_check_statements.specs.sg_parse.declared.tree.Statement.TheVariants.{One, Two, Proto, External, Most, Unique, Answer}
-use Rattle.sg_check_statements.specs.sg_parse.declared.tree.Tree.{Tree}
-use Rattle.sg_check_statements.specs.sg_parse.sg_lex.Lexeme.{Spelling}
-use Rattle.sg_describe.specs.Digits.{bounded, number_of_digits, value_of_digits}
+use Rattle.sg_shape.specs.sg_facts.Allowed.{implies, is_never, is_replayed, wants_word}
+use Rattle.sg_shape.specs.sg_facts.Facts.{Facts, Field, Fun}
+use Rattle.sg_shape.specs.sg_facts.Limits.{most_fields, most_funs}
+use Rattle.sg_shape.specs.sg_facts.sg_base.Counts.{last_count}
+use Rattle.sg_shape.specs.sg_check_statements.Says.{says}
+use Rattle.sg_shape.specs.sg_check_statements.Shapes.{all_differ, are_funs, is_fun, leaves_fun}
+use Rattle.sg_shape.specs.sg_check_statements.sg_parse.declared.tree.Statement.{Statement}
+use Rattle.sg_shape.specs.sg_check_statements.sg_parse.declared.tree.Statement.TheVariants.{One, Two, Proto, External, Most, Unique, Answer}
+use Rattle.sg_shape.specs.sg_check_statements.sg_parse.declared.tree.Tree.{Tree}
+use Rattle.sg_shape.specs.sg_check_statements.sg_parse.sg_lex.Lexeme.{Spelling}
+use Rattle.sg_shape.specs.sg_check_statements.sg_parse.sg_lex.Numbers.{bounded, number_of_digits, value_of_digits}
 use Rattle.sg_shape.specs.Faults.{HasNoShapeFlaw}
 use Rattle.sg_shape.specs.Fields.{fields_of_text}
 use Rattle.sg_shape.specs.Prototypes.{Prototype, protos_of}

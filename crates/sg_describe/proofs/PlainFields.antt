@@ -7,14 +7,14 @@ use Rattle.std.specs.Option.{option_map}
 use Rattle.std.specs.Str.{bytes_eq}
 use Rattle.std.proofs.lemmas.Bool.{and_from, and_parts, lt-ltb}
 use Rattle.std.proofs.lemmas.List.Folds.{list_all-append, list_all-map}
-use Rattle.sg_facts.specs.declared.shape.Effect.{Effect}
-use Rattle.sg_facts.specs.Facts.{Field}
-use Rattle.sg_check_statements.specs.Params.{has_word}
-use Rattle.sg_check_statements.specs.sg_parse.declared.tree.Param.{Param}
-use Rattle.sg_check_statements.specs.sg_parse.declared.tree.Ret.{Ret}
-use Rattle.sg_check_statements.specs.sg_parse.declared.tree.Ret.TheVariants.{Plain, Set, Add, Sub}
-use Rattle.sg_check_statements.specs.sg_parse.declared.tree.Statement.{Statement}
-use Rattle.sg_check_statements.specs.sg_parse.declared.tree.Statement.TheVariants.{One, Two, Proto, External, Most, Unique, Answer}
+use Rattle.sg_shape.specs.sg_facts.declared.shape.Effect.{Effect}
+use Rattle.sg_shape.specs.sg_facts.Facts.{Field}
+use Rattle.sg_shape.specs.sg_check_statements.Params.{has_word}
+use Rattle.sg_shape.specs.sg_check_statements.sg_parse.declared.tree.Param.{Param}
+use Rattle.sg_shape.specs.sg_check_statements.sg_parse.declared.tree.Ret.{Ret}
+use Rattle.sg_shape.specs.sg_check_statements.sg_parse.declared.tree.Ret.TheVariants.{Plain, Set, Add, Sub}
+use Rattle.sg_shape.specs.sg_check_statements.sg_parse.declared.tree.Statement.{Statement}
+use Rattle.sg_shape.specs.sg_check_statements.sg_parse.declared.tree.Statement.TheVariants.{One, Two, Proto, External, Most, Unique, Answer}
 use Rattle.sg_shape.specs.Fields.{Use, field_at, fields_of_text, first_uses, is_of_another, param_use, ret_use, uses_of, word_use}
 use Rattle.sg_shape.specs.Prototypes.{Prototype, protos_of}
 use Rattle.sg_shape.specs.ShapeOfText.{effect_on_name, numbered}

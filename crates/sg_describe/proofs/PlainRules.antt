@@ -6,13 +6,13 @@ use Rattle.std.specs.List.{list_all, list_any}
 use Rattle.std.specs.Option.{option_map_or}
 use Rattle.std.proofs.lemmas.Bool.Decides.{nat_tests}
 use Rattle.std.proofs.lemmas.Bool.{and_from, and_parts, or_left, or_right}
-use Rattle.sg_facts.specs.Facts.{Facts, Fun}
-use Rattle.sg_facts.specs.Guard.{is_guards}
-use Rattle.sg_facts.specs.sg_base.declared.reply.Code.{Code}
-use Rattle.sg_facts.specs.sg_base.declared.reply.Code.TheVariants.{NotFound}
-use Rattle.sg_check_statements.specs.sg_parse.sg_rules.declared.tree.Rule.{Rule as TextRule}
-use Rattle.sg_check_statements.specs.sg_parse.sg_rules.declared.tree.Rule.TheVariants.{Refuse, Wait, Give, GiveRow, GiveFirst}
-use Rattle.sg_check_statements.specs.sg_parse.sg_rules.declared.tree.Test.{Test as TextTest}
+use Rattle.sg_shape.specs.sg_facts.Facts.{Facts, Fun}
+use Rattle.sg_shape.specs.sg_facts.Guard.{is_guards}
+use Rattle.sg_shape.specs.sg_facts.sg_base.declared.reply.Code.{Code}
+use Rattle.sg_shape.specs.sg_facts.sg_base.declared.reply.Code.TheVariants.{NotFound}
+use Rattle.sg_shape.specs.sg_check_statements.sg_parse.sg_rules.declared.tree.Rule.{Rule as TextRule}
+use Rattle.sg_shape.specs.sg_check_statements.sg_parse.sg_rules.declared.tree.Rule.TheVariants.{Refuse, Wait, Give, GiveRow, GiveFirst}
+use Rattle.sg_shape.specs.sg_check_statements.sg_parse.sg_rules.declared.tree.Test.{Test as TextTest}
 use Rattle.sg_described.specs.Described.{Rule}
 use Rattle.sg_described.specs.Known.{is_give}
 use Rattle.sg_described.specs.Safe.{always_gives, is_plain_rule}

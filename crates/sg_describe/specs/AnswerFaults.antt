@@ -3,8 +3,8 @@ use Rattle.std.specs.Prelude.{ℕ, ◌≡◌, ◌<◌, List, [], ◌∷◌, None
 use Rattle.std.specs.List.{position_or_len}
 use Rattle.std.specs.Option.{option_or}
 use Rattle.std.specs.declared.option.Option.{Option}
-use Rattle.sg_facts.specs.Facts.{Facts}
-use Rattle.sg_check_statements.specs.sg_parse.declared.tree.Tree.{Tree}
+use Rattle.sg_shape.specs.sg_facts.Facts.{Facts}
+use Rattle.sg_shape.specs.sg_check_statements.sg_parse.declared.tree.Tree.{Tree}
 use Rattle.sg_shape.specs.ShapeOfText.{shape_of_text}
 use Rattle.sg_describe.specs.declared.fault.AnswerError.{AnswerError}
 use Rattle.sg_describe.specs.declared.fault.AnswerError.TheVariants.{NoMemory, Fault}

@@ -5,24 +5,24 @@ use Rattle.std.specs.List.{list_all, list_any}
 use Rattle.std.specs.Option.{option_map, option_map_or, option_or}
 use Rattle.std.specs.Str.{bytes_eq}
 use Rattle.std.specs.declared.option.Option.{Option}
-use Rattle.sg_facts.specs.Allowed.{is_never, is_replayed, wants_word}
-use Rattle.sg_facts.specs.Facts.{Facts, Fun}
-use Rattle.sg_facts.specs.Guard.{is_guards}
-use Rattle.sg_check_statements.specs.Flaws.{fun_of_name}
-use Rattle.sg_check_statements.specs.Params.{has_word}
-use Rattle.sg_check_statements.specs.sg_parse.declared.tree.Param.{Param}
-use Rattle.sg_check_statements.specs.sg_parse.declared.tree.Statement.{Statement}
-use Rattle.sg_check_statements.specs.sg_parse.declared.tree.Statement.TheVariants.{One, Proto, External, Most, Unique, Answer}
-use Rattle.sg_check_statements.specs.sg_parse.declared.tree.Tree.{Tree}
-use Rattle.sg_check_statements.specs.sg_parse.sg_lex.Lexeme.{Spelling}
-use Rattle.sg_describe.specs.Digits.{number_of_digits}
-use Rattle.sg_check_statements.specs.sg_parse.sg_rules.declared.tree.Operand.{Operand}
-use Rattle.sg_check_statements.specs.sg_parse.sg_rules.declared.tree.Operand.TheVariants.{Number, Argument, GreatestOf, Named}
-use Rattle.sg_check_statements.specs.sg_parse.sg_rules.declared.tree.Rule.{Rule}
-use Rattle.sg_check_statements.specs.sg_parse.sg_rules.declared.tree.Rule.TheVariants.{Refuse, Wait, Give, GiveRow, GiveFirst}
-use Rattle.sg_check_statements.specs.sg_parse.sg_rules.declared.tree.Term.{Term}
-use Rattle.sg_check_statements.specs.sg_parse.sg_rules.declared.tree.Test.{Test}
-use Rattle.sg_check_statements.specs.sg_parse.sg_rules.declared.tree.Tests.{Tests}
+use Rattle.sg_shape.specs.sg_facts.Allowed.{is_never, is_replayed, wants_word}
+use Rattle.sg_shape.specs.sg_facts.Facts.{Facts, Fun}
+use Rattle.sg_shape.specs.sg_facts.Guard.{is_guards}
+use Rattle.sg_shape.specs.sg_check_statements.Flaws.{fun_of_name}
+use Rattle.sg_shape.specs.sg_check_statements.Params.{has_word}
+use Rattle.sg_shape.specs.sg_check_statements.sg_parse.declared.tree.Param.{Param}
+use Rattle.sg_shape.specs.sg_check_statements.sg_parse.declared.tree.Statement.{Statement}
+use Rattle.sg_shape.specs.sg_check_statements.sg_parse.declared.tree.Statement.TheVariants.{One, Proto, External, Most, Unique, Answer}
+use Rattle.sg_shape.specs.sg_check_statements.sg_parse.declared.tree.Tree.{Tree}
+use Rattle.sg_shape.specs.sg_check_statements.sg_parse.sg_lex.Lexeme.{Spelling}
+use Rattle.sg_shape.specs.sg_check_statements.sg_parse.sg_lex.Numbers.{number_of_digits}
+use Rattle.sg_shape.specs.sg_check_statements.sg_parse.sg_rules.declared.tree.Operand.{Operand}
+use Rattle.sg_shape.specs.sg_check_statements.sg_parse.sg_rules.declared.tree.Operand.TheVariants.{Number, Argument, GreatestOf, Named}
+use Rattle.sg_shape.specs.sg_check_statements.sg_parse.sg_rules.declared.tree.Rule.{Rule}
+use Rattle.sg_shape.specs.sg_check_statements.sg_parse.sg_rules.declared.tree.Rule.TheVariants.{Refuse, Wait, Give, GiveRow, GiveFirst}
+use Rattle.sg_shape.specs.sg_check_statements.sg_parse.sg_rules.declared.tree.Term.{Term}
+use Rattle.sg_shape.specs.sg_check_statements.sg_parse.sg_rules.declared.tree.Test.{Test}
+use Rattle.sg_shape.specs.sg_check_statements.sg_parse.sg_rules.declared.tree.Tests.{Tests}
 use Rattle.sg_described.specs.Safe.{is_plain_kind}
 use Rattle.sg_describe.specs.declared.fault.AnswerFaultKind.{AnswerFaultKind}
 use Rattle.sg_describe.specs.declared.fault.AnswerFaultKind.TheVariants.{NotYet, UnknownField, UnknownCode, GuardsCode, NoArgument, TooBig, TwoAnswers, TwoLimits, MayNotBlock, NoWord, EndsWithWord, NotExternal}

@@ -1,21 +1,21 @@
 -- What the text of an interface describes: its shape, the greatest number of each field, and how each function answers.
 use Rattle.std.specs.Prelude.{ℕ, List, [], None, Some, map, unwrap_or}
 use Rattle.std.specs.Option.{option_and_then}
-use Rattle.sg_facts.specs.Facts.{Facts, Fun}
-use Rattle.sg_facts.specs.sg_base.declared.reply.Code.TheVariants.{NotFound}
-use Rattle.sg_check_statements.specs.sg_parse.declared.tree.Statement.{Statement}
-use Rattle.sg_check_statements.specs.sg_parse.declared.tree.Tree.{Tree}
-use Rattle.sg_describe.specs.Digits.{number_of_digits}
-use Rattle.sg_check_statements.specs.sg_parse.sg_rules.declared.tree.Operand.{Operand as TextOperand}
-use Rattle.sg_check_statements.specs.sg_parse.sg_rules.declared.tree.Operand.TheVariants.{Number as TextNumber, Caller as TextCaller, State as TextState, Argument as TextArgument, GreatestOf, Named}
-use Rattle.sg_check_statements.specs.sg_parse.sg_rules.declared.tree.Operator.{Operator}
-use Rattle.sg_check_statements.specs.sg_parse.sg_rules.declared.tree.Operator.TheVariants.{Plus as PlusWord, Minus as MinusWord, Least as LeastWord, Greatest as GreatestWord}
-use Rattle.sg_check_statements.specs.sg_parse.sg_rules.declared.tree.Relation.{Relation as TextRelation}
-use Rattle.sg_check_statements.specs.sg_parse.sg_rules.declared.tree.Relation.TheVariants.{Is as IsWord, IsNot as IsNotWord, Below as BelowWord, Above as AboveWord}
-use Rattle.sg_check_statements.specs.sg_parse.sg_rules.declared.tree.Rule.{Rule as TextRule}
-use Rattle.sg_check_statements.specs.sg_parse.sg_rules.declared.tree.Rule.TheVariants.{Refuse as RefuseRule, Wait as WaitRule, Give as GiveRule, GiveRow, GiveFirst}
-use Rattle.sg_check_statements.specs.sg_parse.sg_rules.declared.tree.Term.{Term as TextTerm}
-use Rattle.sg_check_statements.specs.sg_parse.sg_rules.declared.tree.Test.{Test as TextTest}
+use Rattle.sg_shape.specs.sg_facts.Facts.{Facts, Fun}
+use Rattle.sg_shape.specs.sg_facts.sg_base.declared.reply.Code.TheVariants.{NotFound}
+use Rattle.sg_shape.specs.sg_check_statements.sg_parse.declared.tree.Statement.{Statement}
+use Rattle.sg_shape.specs.sg_check_statements.sg_parse.declared.tree.Tree.{Tree}
+use Rattle.sg_shape.specs.sg_check_statements.sg_parse.sg_lex.Numbers.{number_of_digits}
+use Rattle.sg_shape.specs.sg_check_statements.sg_parse.sg_rules.declared.tree.Operand.{Operand as TextOperand}
+use Rattle.sg_shape.specs.sg_check_statements.sg_parse.sg_rules.declared.tree.Operand.TheVariants.{Number as TextNumber, Caller as TextCaller, State as TextState, Argument as TextArgument, GreatestOf, Named}
+use Rattle.sg_shape.specs.sg_check_statements.sg_parse.sg_rules.declared.tree.Operator.{Operator}
+use Rattle.sg_shape.specs.sg_check_statements.sg_parse.sg_rules.declared.tree.Operator.TheVariants.{Plus as PlusWord, Minus as MinusWord, Least as LeastWord, Greatest as GreatestWord}
+use Rattle.sg_shape.specs.sg_check_statements.sg_parse.sg_rules.declared.tree.Relation.{Relation as TextRelation}
+use Rattle.sg_shape.specs.sg_check_statements.sg_parse.sg_rules.declared.tree.Relation.TheVariants.{Is as IsWord, IsNot as IsNotWord, Below as BelowWord, Above as AboveWord}
+use Rattle.sg_shape.specs.sg_check_statements.sg_parse.sg_rules.declared.tree.Rule.{Rule as TextRule}
+use Rattle.sg_shape.specs.sg_check_statements.sg_parse.sg_rules.declared.tree.Rule.TheVariants.{Refuse as RefuseRule, Wait as WaitRule, Give as GiveRule, GiveRow, GiveFirst}
+use Rattle.sg_shape.specs.sg_check_statements.sg_parse.sg_rules.declared.tree.Term.{Term as TextTerm}
+use Rattle.sg_shape.specs.sg_check_statements.sg_parse.sg_rules.declared.tree.Test.{Test as TextTest}
 use Rattle.sg_shape.specs.ShapeOfText.{shape_of_text}
 use Rattle.sg_described.specs.declared.description.Operand.{Operand}
 use Rattle.sg_described.specs.declared.description.Operand.TheVariants.{Number, Caller, State, Argument}

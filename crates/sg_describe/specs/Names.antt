@@ -3,15 +3,15 @@ use Rattle.std.specs.Prelude.{ℕ, ◌-◌, Bool, true, false, if◌then◌else�
 use Rattle.std.specs.Option.{option_and_then, option_map, option_map_or, option_or}
 use Rattle.std.specs.Str.{bytes_eq}
 use Rattle.std.specs.declared.option.Option.{Option}
-use Rattle.sg_facts.specs.Allowed.{count_args}
-use Rattle.sg_facts.specs.Facts.{Facts}
-use Rattle.sg_facts.specs.declared.shape.Kind.{Kind}
-use Rattle.sg_facts.specs.declared.shape.Kind.TheVariants.{Word}
-use Rattle.sg_facts.specs.sg_base.Codes.{code_name}
-use Rattle.sg_facts.specs.sg_base.declared.reply.Code.{Code}
-use Rattle.sg_facts.specs.sg_base.declared.reply.Code.TheVariants.{NoDesc, NoParent, BadState, HasChildren, Full, NotOwner, Held, Occupied, NotFound, Overflow, Gap, TooBig, BadName}
-use Rattle.sg_check_statements.specs.Says.{fun_number}
-use Rattle.sg_describe.specs.Digits.{number_of_digits}
+use Rattle.sg_shape.specs.sg_facts.Allowed.{count_args}
+use Rattle.sg_shape.specs.sg_facts.Facts.{Facts}
+use Rattle.sg_shape.specs.sg_facts.declared.shape.Kind.{Kind}
+use Rattle.sg_shape.specs.sg_facts.declared.shape.Kind.TheVariants.{Word}
+use Rattle.sg_shape.specs.sg_facts.sg_base.Codes.{code_name}
+use Rattle.sg_shape.specs.sg_facts.sg_base.declared.reply.Code.{Code}
+use Rattle.sg_shape.specs.sg_facts.sg_base.declared.reply.Code.TheVariants.{NoDesc, NoParent, BadState, HasChildren, Full, NotOwner, Held, Occupied, NotFound, Overflow, Gap, TooBig, BadName}
+use Rattle.sg_shape.specs.sg_check_statements.Says.{fun_number}
+use Rattle.sg_shape.specs.sg_check_statements.sg_parse.sg_lex.Numbers.{number_of_digits}
 use Rattle.sg_described.specs.declared.description.Operand.{Operand}
 use Rattle.sg_described.specs.declared.description.Operand.TheVariants.{Number, Own}
 

@@ -2,10 +2,10 @@
 use Rattle.std.specs.Prelude.{ℕ, if◌then◌else◌, List, [], None, Some, filter_map, slice_get, unwrap_or}
 use Rattle.std.specs.Str.{bytes_eq}
 use Rattle.std.specs.declared.option.Option.{Option}
-use Rattle.sg_check_statements.specs.sg_parse.declared.tree.Statement.{Statement}
-use Rattle.sg_check_statements.specs.sg_parse.declared.tree.Statement.TheVariants.{Proto, Most, Answer}
-use Rattle.sg_check_statements.specs.sg_parse.sg_lex.Lexeme.{Spelling}
-use Rattle.sg_check_statements.specs.sg_parse.sg_rules.declared.tree.Rule.{Rule}
+use Rattle.sg_shape.specs.sg_check_statements.sg_parse.declared.tree.Statement.{Statement}
+use Rattle.sg_shape.specs.sg_check_statements.sg_parse.declared.tree.Statement.TheVariants.{Proto, Most, Answer}
+use Rattle.sg_shape.specs.sg_check_statements.sg_parse.sg_lex.Lexeme.{Spelling}
+use Rattle.sg_shape.specs.sg_check_statements.sg_parse.sg_rules.declared.tree.Rule.{Rule}
 
 -- the first that is found in a list
 abbrev pub first_in : {A B : Type 0} → (A → Option B) → List A → Option B

@@ -1,7 +1,7 @@
 // What a text describes, or what is first wrong with what it says of answers.
 ghost use Rattle.std.specs.Prelude.{◌≡◌, ℕ, None, Some, true, IfErr, IfOk, OnOk};
 ghost use Rattle.std.specs.Result.{MatchResult};
-ghost use Rattle.sg_facts.specs.Facts.{facts_of};
+ghost use Rattle.sg_shape.specs.sg_facts.Facts.{facts_of};
 ghost use Rattle.sg_shape.specs.Faults.{HasNoShapeFlaw};
 ghost use Rattle.sg_shape.specs.ShapeOfText.{shape_of_text};
 ghost use Rattle.sg_described.specs.Described.{described_of};
@@ -14,9 +14,9 @@ ghost use Rattle.sg_describe.specs.Inside.Parts.{HasFewNames};
 use crate::fault::{AnswerError, AnswerFault, AnswerFaultKind};
 use crate::flaws::flaw_of;
 use crate::making::described;
-use sg_check_statements::Tree;
+use sg_shape::Tree;
 use sg_described::Description;
-use sg_facts::Shape;
+use sg_shape::Shape;
 use std::alloc::Global;
 
 // The kinds in the order in which they are looked for.

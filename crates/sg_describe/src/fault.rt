@@ -1,5 +1,5 @@
 // What can be wrong with what a text says of answers.
-use sg_facts::NoMemory;
+use sg_shape::NoMemory;
 use thiserror::Error;
 
 /// What can be wrong with what the text of an interface says of answers and numbers, in the order in which it is looked for.

@@ -1,6 +1,6 @@
 // Laws of the definitions.
 ghost use Rattle.std.specs.Prelude.{◌≡◌, ◌⊎◌, ℕ, true};
-ghost use Rattle.sg_check_statements.specs.sg_parse.declared.tree.Tree.{Tree};
+ghost use Rattle.sg_shape.specs.sg_check_statements.sg_parse.declared.tree.Tree.{Tree};
 ghost use Rattle.sg_shape.specs.Faults.{HasNoShapeFlaw};
 ghost use Rattle.sg_described.specs.Safe.{is_plain};
 ghost use Rattle.sg_describe.specs.declared.fault.AnswerFaultKind.{AnswerFaultKind as Kind};

@@ -5,12 +5,11 @@
 //! - `fault`: what is wrong, and where (`AnswerFaultKind`, `AnswerFault`, `AnswerError`)
 //! - `flaws`: the first place of each kind of flaw; `rule_flaws` looks for it in rules
 //! - `making`: the description of a text in which nothing is wrong, part by part
-//! - `digits`: what digits stand for; `names`: what names and numbers in rules stand for; `said`: what statements say of fields and functions
+//! - `names`: what names and numbers in rules stand for; `said`: what statements say of fields and functions
 //! - `laws`: laws of the definitions (`one_verdict`, `flawless_texts_are_plain`)
 #![tactic(auto)]
 
 mod describing;
-mod digits;
 mod fault;
 mod flaws;
 mod laws;
@@ -24,6 +23,5 @@ pub use fault::{AnswerError, AnswerFault, AnswerFaultKind};
 pub use laws::{flawless_texts_are_plain, one_verdict};
 pub use making::MOST_UNSAID;
 pub use said::{most_said, proto_place, rules_said};
-pub use sg_check_statements::{Rule, Statement, Tree};
+pub use sg_shape::{NoMemory, Rule, Shape, ShapeError, ShapeFaultKind, Statement, Tree, shape_of};
 pub use sg_described::{Bounds, Description};
-pub use sg_shape::{ShapeError, ShapeFaultKind, shape_of};

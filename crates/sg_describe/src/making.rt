@@ -1,20 +1,20 @@
 // The description that a text gives of its service.
 ghost use Rattle.std.specs.Prelude.{◌≡◌, ◌≤◌, length, map, All, IfOk};
-ghost use Rattle.sg_facts.specs.Facts.{facts_of, fun_of_shape};
-ghost use Rattle.sg_facts.specs.Limits.{most_fields, most_funs};
+ghost use Rattle.sg_shape.specs.sg_facts.Facts.{facts_of, fun_of_shape};
+ghost use Rattle.sg_shape.specs.sg_facts.Limits.{most_fields, most_funs};
 ghost use Rattle.sg_described.specs.Described.{described_of, rule_of as rule_in, rules_of};
 ghost use Rattle.sg_describe.specs.DescribedText.{answer_of, described_with, most_of, operand_of, operated, relation_of, rule_of, term_of, test_of, tests_in, verdict_of};
 ghost use Rattle.sg_describe.specs.Inside.Parts.{HasFewNames, HasFewParams};
 
-use crate::digits::number_of_digits;
+use sg_shape::number_of_digits;
 use crate::names::{argument_named, code_named, named};
 use crate::said::{most_said, rules_said};
-use sg_check_statements::{
+use sg_shape::{
     Operand as TextOperand, Operator, Relation as TextRelation, Rule, Statement, Term as TextTerm,
     Test as TextTest,
 };
 use sg_described::{AnswerShape, Description, Operand, Relation, RuleShape, Term, Test, Verdict};
-use sg_facts::{Code, FieldShape, FunShape, NoMemory, Shape};
+use sg_shape::{Code, FieldShape, FunShape, NoMemory, Shape};
 use sg_shape::kept;
 use std::alloc::Global;
 

@@ -1,14 +1,14 @@
 // What names and numbers in rules stand for.
 ghost use Rattle.std.specs.Prelude.{◌≡◌, ◌≤◌, is_some, length, position};
 ghost use Rattle.std.specs.Str.{bytes_eq};
-ghost use Rattle.sg_facts.specs.Facts.{facts_of};
-ghost use Rattle.sg_facts.specs.Limits.{most_fields, most_funs};
+ghost use Rattle.sg_shape.specs.sg_facts.Facts.{facts_of};
+ghost use Rattle.sg_shape.specs.sg_facts.Limits.{most_fields, most_funs};
 ghost use Rattle.sg_describe.specs.Names.{argument_at, argument_named, code_named, field_number, named, param_place};
 
-use crate::digits::number_of_digits;
-use sg_check_statements::fun_number;
+use sg_shape::number_of_digits;
+use sg_shape::fun_number;
 use sg_described::Operand;
-use sg_facts::{Code, FieldShape, Kind, Shape};
+use sg_shape::{Code, FieldShape, Kind, Shape};
 use sg_shape::count_args;
 
 /// Every code.

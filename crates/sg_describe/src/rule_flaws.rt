@@ -2,17 +2,17 @@
 ghost use Rattle.std.specs.Prelude.{◌≡◌, false, is_none};
 ghost use Rattle.std.specs.Bool.{then_some};
 ghost use Rattle.std.specs.Option.{option_map, option_map_or};
-ghost use Rattle.sg_facts.specs.Facts.{facts_of, fun_of_shape};
-ghost use Rattle.sg_facts.specs.Guard.{is_guards};
+ghost use Rattle.sg_shape.specs.sg_facts.Facts.{facts_of, fun_of_shape};
+ghost use Rattle.sg_shape.specs.sg_facts.Guard.{is_guards};
 ghost use Rattle.sg_describe.specs.AnswerFlaws.{operand_flaw, operands_flaw, own_flaw, rows_place, rule_flaw, term_flaw, test_flaw};
 ghost use Rattle.sg_describe.specs.Names.{code_named, named};
 ghost use Rattle.sg_describe.specs.Said.{first_in};
 
-use crate::digits::number_of_digits;
+use sg_shape::number_of_digits;
 use crate::fault::AnswerFaultKind;
 use crate::names::{code_named, field_number, is_argument};
-use sg_check_statements::{Operand, RowTest, Rule, Spelled, Term, Test, fun_number};
-use sg_facts::{Code, FunShape, Shape};
+use sg_shape::{Operand, RowTest, Rule, Spelled, Term, Test, fun_number};
+use sg_shape::{Code, FunShape, Shape};
 
 /// What is looked for: a flaw of a kind in the rules of a function of a shape.
 #[derive(Clone, Copy)]

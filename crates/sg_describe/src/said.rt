@@ -4,7 +4,7 @@ ghost use Rattle.std.specs.Option.{option_copied};
 ghost use Rattle.sg_describe.specs.Said.{most_in, most_said, proto_in, proto_place, rules_in, rules_said};
 ghost use Rattle.sg_describe.specs.Said.{first_in};
 
-use sg_check_statements::{Rule, Spelled, Statement};
+use sg_shape::{Rule, Spelled, Statement};
 
 /// What the first statement that tells it says is the greatest number of the field of a name.
 pub fn most_said<'t, 'a>(statements: &'t [Statement<'a>], field: &[u8]) -> Option<&'t Spelled<'a>>

@@ -18,3 +18,7 @@ pub use description::{
     AnswerShape, Description, Operand, Relation, RuleShape, Term, Test, Verdict,
 };
 pub use laws::{never_zero_is_greatest, safe_services_keep_laws};
+pub use sg_facts::{
+    Code, Effect, FIRST_CLIENT, FieldShape, FunShape, Kind, LAST_CLIENT, Leaves, ListOf,
+    MOST_FIELDS, NoMemory, Parents, Shape, Walk,
+};

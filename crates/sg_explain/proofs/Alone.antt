@@ -1,15 +1,15 @@
 -- An input with which nothing is wrong isn't explained as refused.
 use Rattle.std.proofs.Common.{◌≡◌, ℕ, ◌≤◌, List, ◌++◌, get_or, length, sym, ◌∙◌, ap, subst, inl, inr, arith}
 use Rattle.std.specs.Prelude.{codes}
-use Rattle.sg_facts.specs.Facts.{Facts}
-use Rattle.sg_facts.specs.Interface.{Declared}
-use Rattle.sg_facts.specs.Words.{line_end}
+use Rattle.sg_input.specs.sg_facts.Facts.{Facts}
+use Rattle.sg_input.specs.sg_facts.Interface.{Declared}
+use Rattle.sg_input.specs.sg_facts.Words.{line_end}
 use Rattle.sg_input.proofs.OneInput.{never_ready, not_refused}
 use Rattle.sg_input.specs.Inputs.{IsInputOf, IsInterface, IsReady}
 use Rattle.sg_input.specs.Lines.{too_long_line}
 use Rattle.sg_input.specs.Verdicts.{IsVerdict}
 use Rattle.sg_input.specs.declared.read.Read.TheVariants.{Refused}
-use Rattle.sg_script.specs.declared.script.Script.{Script}
+use Rattle.sg_input.specs.sg_script.declared.script.Script.{Script}
 use Rattle.sg_explain.specs.Explained.{ExplainsGood, IsExplained, IsInterfaceText, IsUndivided}
 
 module _ (services : List Facts) (input : List ℕ) where

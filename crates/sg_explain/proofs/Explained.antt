@@ -5,19 +5,19 @@ use Rattle.std.specs.declared.result.Result.{Result}
 use Rattle.std.proofs.lemmas.Bool.{cases_lt}
 use Rattle.std.proofs.lemmas.Bool.Decides.{nat_tests}
 use Rattle.std.specs.List.{flat_map}
-use Rattle.sg_facts.specs.Facts.{Facts}
-use Rattle.sg_facts.specs.Interface.{Declared}
-use Rattle.sg_facts.specs.Tables.{AreTables}
-use Rattle.sg_facts.specs.declared.tables.WalkLine.{WalkLine}
+use Rattle.sg_input.specs.sg_facts.Facts.{Facts}
+use Rattle.sg_input.specs.sg_facts.Interface.{Declared}
+use Rattle.sg_input.specs.sg_facts.Tables.{AreTables}
+use Rattle.sg_input.specs.sg_facts.declared.tables.WalkLine.{WalkLine}
 use Rattle.sg_input.specs.Divider.{IsCut}
 use Rattle.sg_input.specs.Inputs.{AreTexts, IsInputOf, IsInterface, most_interface, most_script}
 use Rattle.sg_input.specs.Lines.{refused_line, script_kind_name, too_long_line}
 use Rattle.sg_input.specs.declared.read.Read.{Read}
 use Rattle.sg_input.specs.declared.read.Read.TheVariants.{Ready, Refused}
-use Rattle.sg_script.specs.Reads.{IsReadingOf}
-use Rattle.sg_script.specs.declared.fault.ScriptError.TheVariants.{Fault}
-use Rattle.sg_script.specs.declared.fault.ScriptFault.{ScriptFault}
-use Rattle.sg_script.specs.declared.script.Script.{Script}
+use Rattle.sg_input.specs.sg_script.Reads.{IsReadingOf}
+use Rattle.sg_input.specs.sg_script.declared.fault.ScriptError.TheVariants.{Fault}
+use Rattle.sg_input.specs.sg_script.declared.fault.ScriptFault.{ScriptFault}
+use Rattle.sg_input.specs.sg_script.declared.script.Script.{Script}
 use Rattle.sg_explain.specs.Explained.{IsExplained, IsInterfaceText, IsUndivided, why_at}
 use Rattle.sg_explain.specs.Rebuilt.{counts_line, rebuilt_line}
 use Rattle.sg_explain.specs.Words.{script_words}

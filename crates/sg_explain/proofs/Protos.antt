@@ -6,8 +6,8 @@ use Rattle.std.specs.List.{Contains}
 use Rattle.std.proofs.lemmas.Bool.Decides.{eqb_tells}
 use Rattle.std.proofs.lemmas.List.{take_all}
 use Rattle.std.proofs.lemmas.List.Elements.{Contains-append_right}
-use Rattle.sg_facts.specs.Facts.{Facts}
-use Rattle.sg_facts.specs.Interface.{Declared}
+use Rattle.sg_input.specs.sg_facts.Facts.{Facts}
+use Rattle.sg_input.specs.sg_facts.Interface.{Declared}
 use Rattle.sg_input.proofs.sg_walk.ReachedStates.Marks.{at_place}
 use Rattle.sg_input.specs.sg_check_statements.Faults.{FirstOf, IsFirstStatement, interface_of}
 use Rattle.sg_input.specs.sg_check_statements.Flaws.{HasNoWalk, IsProtoWhere}

@@ -2,7 +2,7 @@
 use Rattle.std.proofs.Common.{◌≡◌, ℕ, Bool, true, false, List, [], ◌++◌, None, Some, Ok, Err, refl, sym, ◌∙◌, ap, subst, append-nil, append_assoc}
 use Rattle.std.specs.Prelude.{codes, if◌then◌else◌, IfOk, OnOk}
 use Rattle.std.specs.declared.result.Result.{Result}
-use Rattle.sg_facts.specs.Facts.{Facts}
+use Rattle.sg_input.specs.sg_facts.Facts.{Facts}
 use Rattle.sg_input.specs.sg_check_statements.Faults.{IsFault}
 use Rattle.sg_input.specs.sg_check_statements.declared.fault.CheckKind.{CheckKind}
 use Rattle.sg_input.specs.sg_check_statements.declared.fault.CheckKind.TheVariants.{UnknownService, DuplicateName, UnknownFunction, BadParams, WrongFact, WrongFlag, WrongEffect, ForeignTransition, ForeignRecover, NoCreation, Unreached, NoWalk}

@@ -7,9 +7,9 @@ use Rattle.std.proofs.lemmas.Bool.{cases_Bool, cases_lt}
 use Rattle.std.proofs.lemmas.Bool.Decides.{nat_tests}
 use Rattle.std.proofs.lemmas.List.{take_all, take_more}
 use Rattle.std.proofs.lemmas.List.Elements.{Contains-append_cases}
-use Rattle.sg_facts.specs.Fields.{number_of}
-use Rattle.sg_facts.specs.Interface.{Declared}
-use Rattle.sg_facts.specs.Walks.{IsWalkOf, begin_of, most_calls, restores}
+use Rattle.sg_input.specs.sg_facts.Fields.{number_of}
+use Rattle.sg_input.specs.sg_facts.Interface.{Declared}
+use Rattle.sg_input.specs.sg_facts.Walks.{IsWalkOf, begin_of, most_calls, restores}
 use Rattle.sg_input.specs.sg_check.Inside.Reached.{AreTriples}
 use Rattle.sg_input.proofs.sg_check.Seeking.{walked_set}
 use Rattle.sg_input.proofs.sg_walk.ReachedStates.Marks.{only}

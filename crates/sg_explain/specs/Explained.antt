@@ -1,18 +1,18 @@
 -- What is explained of an input: the line that `check` or `sim` would print of it, and why.
 use Rattle.std.specs.Prelude.{ℕ, ◌≡◌, ◌<◌, ◌≤◌, ◌⊎◌, List, [], ◌∷◌, ◌++◌, Ok, Err, drop, length}
 use Rattle.std.specs.List.{concat, flat_map}
-use Rattle.sg_facts.specs.Facts.{Facts}
-use Rattle.sg_facts.specs.Interface.{Declared}
-use Rattle.sg_facts.specs.Tables.{AreTables}
-use Rattle.sg_facts.specs.Words.{line_end}
-use Rattle.sg_facts.specs.declared.tables.WalkLine.{WalkLine}
+use Rattle.sg_input.specs.sg_facts.Facts.{Facts}
+use Rattle.sg_input.specs.sg_facts.Interface.{Declared}
+use Rattle.sg_input.specs.sg_facts.Tables.{AreTables}
+use Rattle.sg_input.specs.sg_facts.Words.{line_end}
+use Rattle.sg_input.specs.sg_facts.declared.tables.WalkLine.{WalkLine}
 use Rattle.sg_input.specs.sg_parse.Grammar.Parses.{Parses}
 use Rattle.sg_input.specs.sg_parse.declared.tree.Tree.{Tree}
 use Rattle.sg_input.specs.sg_check_statements.declared.fault.CheckKind.TheVariants.{NoWalk}
-use Rattle.sg_script.specs.Reads.{IsReadingOf}
-use Rattle.sg_script.specs.declared.fault.ScriptError.TheVariants.{Fault}
-use Rattle.sg_script.specs.declared.fault.ScriptFault.{ScriptFault}
-use Rattle.sg_script.specs.declared.script.Script.{Script}
+use Rattle.sg_input.specs.sg_script.Reads.{IsReadingOf}
+use Rattle.sg_input.specs.sg_script.declared.fault.ScriptError.TheVariants.{Fault}
+use Rattle.sg_input.specs.sg_script.declared.fault.ScriptFault.{ScriptFault}
+use Rattle.sg_input.specs.sg_script.declared.script.Script.{Script}
 use Rattle.sg_input.specs.Divider.{Divides}
 use Rattle.sg_input.specs.Inputs.{AreTexts, IsInputOf, IsInterface, IsReady, most_interface, most_script}
 use Rattle.sg_input.specs.Lines.{too_long_line}

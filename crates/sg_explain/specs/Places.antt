@@ -1,8 +1,8 @@
 -- A place in a text as it is shown: the line that has it, and what stands there. Places are counted in bytes, from 0.
 use Rattle.std.specs.Prelude.{ℕ, ◌-◌, ◌==◌, if◌then◌else◌, List, [], ◌∷◌, codes, drop, length, map, slice_get, take, unwrap_or}
 use Rattle.std.specs.List.{after_last, before_first, concat, take_while}
-use Rattle.sg_facts.specs.Words.{line_end}
-use Rattle.sg_script.specs.sg_lex.Bytes.{is_in_word}
+use Rattle.sg_input.specs.sg_facts.Words.{line_end}
+use Rattle.sg_input.specs.sg_script.sg_lex.Bytes.{is_in_word}
 
 -- a line without a CR at the end
 abbrev pub without_return : List ℕ → List ℕ

@@ -2,10 +2,10 @@
 use Rattle.std.specs.Prelude.{ℕ, ◌+◌, ◌==◌, ◌&&◌, ◌||◌, Bool, not, if◌then◌else◌, List, [], ◌∷◌, ◌++◌, codes, count_by, length, sum_by}
 use Rattle.std.specs.Fmt.{decimal}
 use Rattle.std.specs.List.{concat, flat_map, list_any}
-use Rattle.sg_facts.specs.Facts.{Facts, fun_at}
-use Rattle.sg_facts.specs.Words.{line_end}
-use Rattle.sg_facts.specs.declared.tables.WalkLine.{WalkLine}
-use Rattle.sg_script.specs.declared.script.Script.{Script}
+use Rattle.sg_input.specs.sg_facts.Facts.{Facts, fun_at}
+use Rattle.sg_input.specs.sg_facts.Words.{line_end}
+use Rattle.sg_input.specs.sg_facts.declared.tables.WalkLine.{WalkLine}
+use Rattle.sg_input.specs.sg_script.declared.script.Script.{Script}
 use Rattle.sg_input.specs.sg_print.TablesText.{set_names, walk_names}
 
 -- what a descriptor can come to: the function that made it, its state, and the fields that aren't 0 or empty, by the number of their set

@@ -1,11 +1,11 @@
 -- What descriptors can come to and no walk restores, and the line that tells it.
 use Rattle.std.specs.Prelude.{ℕ, ◌≡◌, ◌<◌, ◌≤◌, ◌⊎◌, Bool, false, List, [], ◌∷◌, Some, codes, length}
 use Rattle.std.specs.List.{Contains, concat}
-use Rattle.sg_facts.specs.Facts.{Facts}
-use Rattle.sg_facts.specs.Fields.{number_of}
-use Rattle.sg_facts.specs.Interface.{Declared}
-use Rattle.sg_facts.specs.Walks.{IsReachable, begin_of, most_calls, restores}
-use Rattle.sg_facts.specs.Words.{line_end}
+use Rattle.sg_input.specs.sg_facts.Facts.{Facts}
+use Rattle.sg_input.specs.sg_facts.Fields.{number_of}
+use Rattle.sg_input.specs.sg_facts.Interface.{Declared}
+use Rattle.sg_input.specs.sg_facts.Walks.{IsReachable, begin_of, most_calls, restores}
+use Rattle.sg_input.specs.sg_facts.Words.{line_end}
 use Rattle.sg_input.specs.sg_walk.declared.place.Triple.{Triple}
 use Rattle.sg_input.specs.sg_check_statements.Faults.{interface_of}
 use Rattle.sg_input.specs.sg_check_statements.Flaws.{IsProtoWhere}

@@ -1,12 +1,12 @@
 -- What is said of each kind of fault, in words.
 use Rattle.std.specs.Prelude.{ℕ, List, ◌++◌, codes}
-use Rattle.sg_facts.specs.Words.{line_end}
+use Rattle.sg_input.specs.sg_facts.Words.{line_end}
 use Rattle.sg_input.specs.sg_check_statements.declared.fault.CheckKind.{CheckKind}
 use Rattle.sg_input.specs.sg_check_statements.declared.fault.CheckKind.TheVariants.{UnknownService, DuplicateName, UnknownFunction, BadParams, WrongFact, WrongFlag, WrongEffect, ForeignTransition, ForeignRecover, NoCreation, Unreached, NoWalk}
 use Rattle.sg_input.specs.declared.refusal.RefusalKind.{RefusalKind}
 use Rattle.sg_input.specs.declared.refusal.RefusalKind.TheVariants.{Lex, Syntax, Check}
-use Rattle.sg_script.specs.declared.fault.ScriptKind.{ScriptKind}
-use Rattle.sg_script.specs.declared.fault.ScriptKind.TheVariants.{Syntax as ScriptSyntax, UnknownFunction as ScriptFunction, UnknownService as ScriptService, BadArgs, BadClient, Twice, NotAscending, Blocking, Limit}
+use Rattle.sg_input.specs.sg_script.declared.fault.ScriptKind.{ScriptKind}
+use Rattle.sg_input.specs.sg_script.declared.fault.ScriptKind.TheVariants.{Syntax as ScriptSyntax, UnknownFunction as ScriptFunction, UnknownService as ScriptService, BadArgs, BadClient, Twice, NotAscending, Blocking, Limit}
 
 -- a sentence that says what is wrong, in two parts, between which stands what the input has at the place; and one that says what is
 -- usually meant

@@ -1,7 +1,7 @@
 // What is explained of an input.
 ghost use Rattle.std.specs.Prelude.{◌≡◌, ◌||◌, ◌++◌, ℕ, nat_lt, List, codes, length, true, map, IfOk};
 ghost use Rattle.std.specs.List.{flat_map};
-ghost use Rattle.sg_facts.specs.Facts.{Facts, facts_of};
+ghost use Rattle.sg_input.specs.sg_facts.Facts.{Facts, facts_of};
 ghost use Rattle.sg_input.specs.sg_check_statements.Shapes.{are_shapes};
 ghost use Rattle.sg_input.specs.Divider.{IsCut};
 ghost use Rattle.sg_input.specs.Inputs.{AreTexts, IsInterface, most_interface, most_script};
@@ -15,9 +15,9 @@ use crate::parts::put;
 use crate::reasons::{examine_with_reason, put_why};
 use crate::rebuilt::{put_counts, put_rebuilt};
 use crate::words::{TOO_LONG_EXPLAINED, script_words};
-use sg_facts::{Bytes, Interface, NoMemory, Shape, WalkLine};
+use sg_input::{Bytes, Interface, NoMemory, Shape, WalkLine};
 use sg_input::{Accepted, MOST_INTERFACE, MOST_SCRIPT, Read, compile, cut, script_line};
-use sg_script::{Script, ScriptError, ScriptFault, read};
+use sg_input::{Script, ScriptError, ScriptFault, read};
 use std::alloc::Global;
 
 /// What is explained of an input, where its interface may be of one of these shapes. The input is the text of an interface, as `verdict`

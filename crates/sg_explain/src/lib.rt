@@ -24,9 +24,9 @@ pub use parts::put;
 pub use reasons::put_why;
 pub use rebuilt::put_names;
 pub use sg_input::{
-    Accepted, Lexer, MOST_INTERFACE, ParseError, Read, RefusalKind, Rule, Statement, Tests, Tree,
-    accepted_line, compile, compiled, cut, interface_line, is_own, parse, print_tables, put_rule,
-    put_term, put_tests, refusal_line, refusal_name, upgraded, verdict,
+    Accepted, Bytes, Lexer, MOST_INTERFACE, NoMemory, ParseError, Read, RefusalKind, Rule, Shape,
+    Statement, Tests, Tree, accepted_line, compile, compiled, cut, interface_line, is_own, parse,
+    print_tables, put_rule, put_term, put_tests, refusal_line, refusal_name, upgraded, verdict,
 };
 pub use stuck::put_stuck;
 pub use words::{Sentences, TOO_LONG_EXPLAINED, check_words};

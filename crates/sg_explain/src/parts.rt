@@ -2,7 +2,7 @@
 ghost use Rattle.std.specs.Prelude.{◌≡◌, ◌++◌, OnOk};
 ghost use Rattle.std.specs.List.{flat_map};
 
-use sg_facts::{Bytes, NoMemory};
+use sg_input::{Bytes, NoMemory};
 
 /// Adds these parts at the end, one after the other.
 pub fn put(out: &mut Bytes, parts: &[&[u8]]) -> Result<(), NoMemory>

@@ -2,10 +2,10 @@
 ghost use Rattle.std.specs.Prelude.{◌≡◌, ◌≤◌, ◌==◌, ◌++◌, if◌then◌else◌, drop, length, map, not, take, OnOk};
 ghost use Rattle.std.specs.List.{after_last, before_first, prefix_len, suffix_len, take_while};
 ghost use Rattle.sg_explain.specs.Places.{place_lines, shown_front, without_return};
-ghost use Rattle.sg_script.specs.sg_lex.Bytes.{is_in_word};
+ghost use Rattle.sg_input.specs.sg_script.sg_lex.Bytes.{is_in_word};
 
 use crate::parts::put;
-use sg_facts::{Bytes, NoMemory};
+use sg_input::{Bytes, NoMemory};
 
 /// Adds the line of a place as it stands, and a line with a mark under the place. Places are counted in bytes, from 0.
 pub(crate) fn put_place(out: &mut Bytes, text: &[u8], at: usize) -> Result<(), NoMemory>

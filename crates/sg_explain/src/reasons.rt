@@ -1,6 +1,6 @@
 // Why the text of an interface is refused, and what is told of a place.
 ghost use Rattle.std.specs.Prelude.{◌≡◌, ◌++◌, List, Ok, Err as failed, codes, true, map, IfOk, OnOk};
-ghost use Rattle.sg_facts.specs.Facts.{Facts, facts_of};
+ghost use Rattle.sg_input.specs.sg_facts.Facts.{Facts, facts_of};
 ghost use Rattle.sg_input.specs.sg_check_statements.Shapes.{are_shapes};
 ghost use Rattle.sg_input.specs.sg_check_statements.Faults.{IsFault};
 ghost use Rattle.sg_input.specs.Lines.{refused_line};
@@ -14,7 +14,7 @@ use crate::parts::put;
 use crate::places::{put_place, put_shown};
 use crate::stuck::put_stuck;
 use crate::words::{Sentences, refusal_words};
-use sg_facts::{Bytes, NoMemory, Shape};
+use sg_input::{Bytes, NoMemory, Shape};
 use sg_input::{
     Accepted, CheckError, CheckFault, CheckKind, ParseError, Read, RefusalKind, Tree, check_for,
     parse, refusal_line,

@@ -3,12 +3,12 @@ ghost use Rattle.std.specs.Prelude.{◌≡◌, ◌≤◌, ◌<◌, ◌+◌, ◌*
 ghost use Rattle.std.specs.List.{flat_map, list_any};
 ghost use Rattle.sg_explain.specs.Rebuilt.{come_to_words, counts_line, rebuilt_line};
 ghost use Rattle.sg_explain.specs.Inside.Pieces.{clients_of, fields_words};
-ghost use Rattle.sg_facts.specs.Facts.{facts_of};
+ghost use Rattle.sg_input.specs.sg_facts.Facts.{facts_of};
 ghost use Rattle.sg_input.specs.sg_print.TablesText.{set_names, walk_names};
 
 use crate::parts::put;
-use sg_facts::{Bytes, FieldShape, NoMemory, Shape, WalkLine};
-use sg_script::{CallList, Script};
+use sg_input::{Bytes, FieldShape, NoMemory, Shape, WalkLine};
+use sg_input::{CallList, Script};
 use std::alloc::Global;
 
 /// Adds a line for each walk of tables.

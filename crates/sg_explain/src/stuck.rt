@@ -2,8 +2,8 @@
 ghost use Rattle.std.specs.Prelude.{◌≡◌, ◌==◌, ◌&&◌, ◌||◌, ◌++◌, nat_le, nat_lt, ℕ, List, true, map, Some, IfOk, OnOk};
 ghost use Rattle.std.specs.List.{Contains};
 ghost use Rattle.std.specs.Option.{option_copied, option_map};
-ghost use Rattle.sg_facts.specs.Facts.{facts_of};
-ghost use Rattle.sg_facts.specs.Interface.{HasFewFields};
+ghost use Rattle.sg_input.specs.sg_facts.Facts.{facts_of};
+ghost use Rattle.sg_input.specs.sg_facts.Interface.{HasFewFields};
 ghost use Rattle.sg_input.specs.sg_check.Inside.Reached.{AreTriples};
 ghost use Rattle.sg_input.specs.sg_check_statements.Shapes.{are_shapes};
 ghost use Rattle.sg_input.specs.sg_check_statements.Faults.{IsFault};
@@ -18,7 +18,7 @@ ghost use Rattle.sg_explain.specs.Inside.Search.{GoesOn, IsFoundAt, IsFoundIn, T
 
 use crate::parts::put;
 use crate::rebuilt::put_come_to;
-use sg_facts::{Bytes, Interface, NoMemory, Shape};
+use sg_input::{Bytes, Interface, NoMemory, Shape};
 use sg_input::{Statement, Tree, Triple, fun_number, interface_of, reachable, shortest};
 use std::alloc::Global;
 

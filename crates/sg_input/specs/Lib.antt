@@ -6,6 +6,7 @@ pub mod Inputs
 pub mod Lines
 pub mod MultiInputs
 pub mod Verdicts
+pub use Rattle.sg_facts.specs as sg_facts
 pub use Rattle.sg_entries.specs as sg_entries
 pub use Rattle.sg_print.specs as sg_print
 pub use Rattle.sg_print.specs.sg_parse

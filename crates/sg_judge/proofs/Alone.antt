@@ -1,6 +1,6 @@
 -- Nothing is explained as accepted and as refused.
 use Rattle.std.proofs.Common.{◌≡◌, inl, inr, ℕ, List, sym, subst}
-use Rattle.sg_facts.specs.Facts.{Facts}
+use Rattle.sg_explain.specs.sg_facts.Facts.{Facts}
 use Rattle.sg_explain.specs.sg_input.sg_print.sg_parse.declared.tree.Tree.{Tree}
 use Rattle.sg_explain.proofs.sg_input.OneInput.{one_tree}
 use Rattle.sg_explain.specs.sg_input.declared.read.Read.TheVariants.{Ready, Refused}

@@ -1,9 +1,9 @@
 -- One thing is said of a text.
 use Rattle.std.proofs.Common.{◌≡◌, ◌⊎◌, inl, inr, ℕ, List, refl, sym, ◌∙◌, ap, subst}
 use Rattle.std.specs.Prelude.{Ok, codes}
-use Rattle.sg_facts.specs.Facts.{Facts}
-use Rattle.sg_facts.specs.Interface.{Declared}
-use Rattle.sg_facts.specs.Tables.{AreTables}
+use Rattle.sg_explain.specs.sg_facts.Facts.{Facts}
+use Rattle.sg_explain.specs.sg_facts.Interface.{Declared}
+use Rattle.sg_explain.specs.sg_facts.Tables.{AreTables}
 use Rattle.sg_explain.specs.sg_input.sg_print.TablesText.{tables_text}
 use Rattle.sg_explain.specs.sg_input.sg_print.sg_parse.declared.tree.Tree.{Tree}
 use Rattle.sg_explain.proofs.sg_input.OneInput.{one_tree}

@@ -1,7 +1,7 @@
 -- How functions answer, in sentences.
 use Rattle.std.specs.Prelude.{ℕ, List, [], ◌∷◌, ◌++◌, None, Some, codes}
 use Rattle.std.specs.List.{concat, flat_map}
-use Rattle.sg_facts.specs.Words.{line_end}
+use Rattle.sg_explain.specs.sg_facts.Words.{line_end}
 use Rattle.sg_explain.specs.sg_input.sg_print.RulesText.{rule_text, term_text, tests_text}
 use Rattle.sg_explain.specs.sg_input.sg_print.sg_parse.declared.tree.Statement.{Statement}
 use Rattle.sg_explain.specs.sg_input.sg_print.sg_parse.declared.tree.Statement.TheVariants.{Answer}

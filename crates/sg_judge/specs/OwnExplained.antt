@@ -1,11 +1,11 @@
 -- What is explained of any input: of a text that describes a service of its own too.
 use Rattle.std.specs.Prelude.{ℕ, ◌≡◌, ◌≤◌, ◌⊎◌, List, [], ◌∷◌, ◌++◌, codes, length}
 use Rattle.std.specs.List.{concat, flat_map}
-use Rattle.sg_facts.specs.Facts.{Facts}
-use Rattle.sg_facts.specs.Interface.{Declared}
-use Rattle.sg_facts.specs.Tables.{AreTables}
-use Rattle.sg_facts.specs.Words.{line_end}
-use Rattle.sg_facts.specs.declared.tables.WalkLine.{WalkLine}
+use Rattle.sg_explain.specs.sg_facts.Facts.{Facts}
+use Rattle.sg_explain.specs.sg_facts.Interface.{Declared}
+use Rattle.sg_explain.specs.sg_facts.Tables.{AreTables}
+use Rattle.sg_explain.specs.sg_facts.Words.{line_end}
+use Rattle.sg_explain.specs.sg_facts.declared.tables.WalkLine.{WalkLine}
 use Rattle.sg_explain.specs.sg_input.sg_print.sg_parse.declared.tree.Tree.{Tree}
 use Rattle.sg_own.specs.sg_check_statements.Faults.{IsAccepted, IsFault}
 use Rattle.sg_own.specs.sg_check_statements.declared.fault.CheckKind.TheVariants.{NoWalk}

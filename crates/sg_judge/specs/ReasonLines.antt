@@ -3,8 +3,8 @@ use Rattle.std.specs.Prelude.{ℕ, suc, ◌==◌, if◌then◌else◌, List, [],
 use Rattle.std.specs.Fmt.{decimal}
 use Rattle.std.specs.List.{concat, flat_map}
 use Rattle.std.specs.Option.{option_map_or}
-use Rattle.sg_facts.specs.Facts.{Facts, fun_at}
-use Rattle.sg_facts.specs.Words.{line_end}
+use Rattle.sg_explain.specs.sg_facts.Facts.{Facts, fun_at}
+use Rattle.sg_explain.specs.sg_facts.Words.{line_end}
 use Rattle.sg_own.specs.sg_described.declared.bounds.Bounds.{Bounds}
 use Rattle.sg_own.specs.sg_safe.declared.reason.FailingCall.{FailingCall}
 use Rattle.sg_own.specs.sg_safe.declared.reason.KnownField.{KnownField}

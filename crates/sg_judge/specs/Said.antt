@@ -1,9 +1,9 @@
 -- What is said of the text of an interface, whatever its version.
 use Rattle.std.specs.Prelude.{ℕ, ◌≡◌, ◌⊎◌, true, List, ◌++◌, None, Some, Ok, Err, codes, slice_get}
-use Rattle.sg_facts.specs.Facts.{Facts}
-use Rattle.sg_facts.specs.Interface.{Declared}
-use Rattle.sg_facts.specs.Tables.{AreTables, Compiled}
-use Rattle.sg_facts.specs.Words.{line_end}
+use Rattle.sg_explain.specs.sg_facts.Facts.{Facts}
+use Rattle.sg_explain.specs.sg_facts.Interface.{Declared}
+use Rattle.sg_explain.specs.sg_facts.Tables.{AreTables, Compiled}
+use Rattle.sg_explain.specs.sg_facts.Words.{line_end}
 use Rattle.sg_explain.specs.sg_input.sg_print.TablesText.{tables_text}
 use Rattle.sg_explain.specs.sg_input.sg_print.sg_parse.declared.tree.Tree.{Tree}
 use Rattle.sg_explain.specs.sg_input.sg_print.sg_parse.Grammar.Parses.{Parses}

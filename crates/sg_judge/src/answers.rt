@@ -4,7 +4,7 @@ ghost use Rattle.std.specs.List.{flat_map};
 ghost use Rattle.sg_judge.specs.AnswerLines.{answer_lines, answers_in, rule_sentence, rule_words, where_words};
 
 use sg_explain::{Rule, Statement, Tests, put, put_rule, put_term, put_tests};
-use sg_facts::{Bytes, NoMemory};
+use sg_explain::{Bytes, NoMemory};
 
 /// Adds the sentences of all rules.
 pub(crate) fn put_answers(out: &mut Bytes, statements: &[Statement]) -> Result<(), NoMemory>

@@ -1,7 +1,7 @@
 // What is explained of any input.
 ghost use Rattle.std.specs.Prelude.{◌≡◌, ◌++◌, MatchOption, map, true, IfOk, OnOk};
 ghost use Rattle.std.specs.List.{flat_map};
-ghost use Rattle.sg_facts.specs.Facts.{facts_of};
+ghost use Rattle.sg_explain.specs.sg_facts.Facts.{facts_of};
 ghost use Rattle.sg_own.specs.sg_check_statements.Shapes.{are_shapes};
 ghost use Rattle.sg_own.specs.Faults.{IsOwnAccepted};
 ghost use Rattle.sg_own.specs.OwnErrors.{IsToldFault};
@@ -16,7 +16,7 @@ use crate::lines::own_line;
 use crate::reasons::put_more;
 use crate::words::own_words;
 use sg_explain::{Accepted, MOST_INTERFACE, Read, Tree, cut, put_why, told_of};
-use sg_facts::{Bytes, NoMemory, Shape};
+use sg_explain::{Bytes, NoMemory, Shape};
 use sg_own::{OwnError, OwnFault, check_own};
 use std::alloc::Global;
 

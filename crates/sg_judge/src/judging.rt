@@ -1,7 +1,7 @@
 // What is said of the text of an interface, whatever its version.
 ghost use Rattle.std.specs.Prelude.{◌≡◌, ℕ, Ok, List, MatchOption, codes, map, true, IfOk};
 ghost use Rattle.std.specs.Result.{MatchResult};
-ghost use Rattle.sg_facts.specs.Facts.{facts_of};
+ghost use Rattle.sg_explain.specs.sg_facts.Facts.{facts_of};
 ghost use Rattle.sg_explain.specs.sg_input.sg_check_statements.Shapes.{are_shapes};
 ghost use Rattle.sg_explain.specs.sg_input.declared.read.Read.{Read as AnyRead};
 ghost use Rattle.sg_own.specs.Faults.{IsOwnAccepted};
@@ -17,7 +17,7 @@ use sg_explain::{
     Accepted, Lexer, ParseError, Read, RefusalKind, Tree, accepted_line, compile, is_own, parse,
     print_tables, refusal_line,
 };
-use sg_facts::{Bytes, NoMemory, Shape};
+use sg_explain::{Bytes, NoMemory, Shape};
 use sg_own::{OwnError, check_own};
 use std::alloc::Global;
 

@@ -1,6 +1,6 @@
 // Laws of what is said of texts.
 ghost use Rattle.std.specs.Prelude.{◌≡◌, ℕ, List};
-ghost use Rattle.sg_facts.specs.Facts.{Facts};
+ghost use Rattle.sg_explain.specs.sg_facts.Facts.{Facts};
 ghost use Rattle.sg_explain.specs.sg_input.declared.read.Read.{Read};
 ghost use Rattle.sg_judge.specs.Said.{IsChecked};
 

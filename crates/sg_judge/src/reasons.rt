@@ -1,7 +1,7 @@
 // What is told besides of what is first wrong with a text.
 ghost use Rattle.std.specs.Prelude.{◌≡◌, ◌++◌, OnOk, IfOk, IfErr};
 ghost use Rattle.std.specs.List.{flat_map};
-ghost use Rattle.sg_facts.specs.Facts.{Facts, facts_of};
+ghost use Rattle.sg_explain.specs.sg_facts.Facts.{Facts, facts_of};
 ghost use Rattle.sg_own.specs.Faults.{IsDescription};
 ghost use Rattle.sg_own.specs.OwnErrors.{IsToldFault};
 ghost use Rattle.sg_own.specs.sg_shape.Faults.{HasNoShapeFlaw};
@@ -14,7 +14,7 @@ ghost use Rattle.sg_own.specs.sg_check_statements.declared.fault.CheckKind.TheVa
 ghost use Rattle.sg_own.specs.Faults.{IsOwnFault};
 
 use sg_explain::{Tree, put, put_names, put_stuck};
-use sg_facts::{Bytes, NoMemory, Shape};
+use sg_explain::{Bytes, NoMemory, Shape};
 use sg_own::{
     Bounds, CheckError, CheckKind, FailingCall, KnownField, Obstacle, OwnFault, OwnKind,
     ShapeError, Unsafe, check, shape_of,

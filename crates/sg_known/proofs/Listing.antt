@@ -1,7 +1,7 @@
 -- The states of a field among those of all.
 use Rattle.std.proofs.Common.{◌≡◌, ℕ, zero, suc, ◌+◌, ◌<◌, List, [], ◌∷◌, length, Some, ◌∙◌, ap, arith}
 use Rattle.std.specs.Prelude.{slice_get}
-use Rattle.sg_facts.specs.Facts.{Facts, Field}
+use Rattle.sg_described.specs.sg_facts.Facts.{Facts, Field}
 use Rattle.sg_described.specs.NeverZero.{never_zero}
 use Rattle.sg_known.specs.Surveys.{never_zero_from}
 

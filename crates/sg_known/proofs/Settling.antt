@@ -1,6 +1,6 @@
 -- States from which some go, until none goes any more.
 use Rattle.std.proofs.Common.{◌≡◌, ℕ, zero, suc, ◌<◌, ◌≤◌, List, [], ◌∷◌, length, filter, refl, sym, ◌∙◌, ap, arith}
-use Rattle.sg_facts.specs.Facts.{Facts, Fun}
+use Rattle.sg_described.specs.sg_facts.Facts.{Facts, Fun}
 use Rattle.sg_described.specs.NeverZero.{keeps_some, states_from, states_left}
 use Rattle.sg_described.proofs.Keeping.NeverZeros.{drops, none_goes, still}
 

@@ -1,7 +1,7 @@
 -- What the code holds of what is known, as the definitions see it.
 use Rattle.std.specs.Prelude.{ℕ, List, None, Some, map, slice_get, unwrap_or}
 use Rattle.std.specs.declared.option.Option.{Option}
-use Rattle.sg_facts.specs.declared.shape.Effect.{Effect}
+use Rattle.sg_described.specs.sg_facts.declared.shape.Effect.{Effect}
 use Rattle.sg_described.specs.declared.bounds.Bounds.{Bounds}
 use Rattle.sg_described.specs.Known.{Known, between}
 use Rattle.sg_described.specs.Meaning.{last_word, most_at}

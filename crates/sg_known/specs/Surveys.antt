@@ -1,9 +1,9 @@
 -- What is found of a description before it is checked.
 use Rattle.std.specs.Prelude.{ℕ, ◌≡◌, suc, ◌==◌, Bool, List, [], ◌∷◌}
 use Rattle.std.specs.List.{list_all}
-use Rattle.sg_facts.specs.declared.shape.Effect.{Effect}
-use Rattle.sg_facts.specs.Allowed.{implies}
-use Rattle.sg_facts.specs.Facts.{Facts, Field}
+use Rattle.sg_described.specs.sg_facts.declared.shape.Effect.{Effect}
+use Rattle.sg_described.specs.sg_facts.Allowed.{implies}
+use Rattle.sg_described.specs.sg_facts.Facts.{Facts, Field}
 use Rattle.sg_described.specs.Described.{Described, described_of}
 use Rattle.sg_described.specs.Known.{greatest, leaves_client}
 use Rattle.sg_described.specs.NeverZero.{never_zero}

@@ -4,11 +4,11 @@ ghost use Rattle.sg_described.specs.Described.{rule_of};
 ghost use Rattle.sg_described.specs.Known.{between, bounds_after, is_give, is_wait, may_stop, never, never_applies, never_stands, operand_in, surely, surely_apart, surely_applies, surely_same, surely_stands, surely_stops, term_in, word_by, word_most};
 ghost use Rattle.sg_described.specs.Meaning.{last_word};
 ghost use Rattle.sg_described.specs.Walking.{carrier};
-ghost use Rattle.sg_facts.specs.Walks.{carries_arg};
+ghost use Rattle.sg_described.specs.sg_facts.Walks.{carries_arg};
 ghost use Rattle.sg_known.specs.Seen.{args_in, fields_in, known_in, pairs_of, up_to};
 
 use sg_described::{Bounds, Operand, Relation, RuleShape, Term, Test, Verdict};
-use sg_facts::{Effect, FIRST_CLIENT, LAST_CLIENT};
+use sg_described::{Effect, FIRST_CLIENT, LAST_CLIENT};
 
 /// What is known of a call and its row.
 #[derive(Debug, Drop)]

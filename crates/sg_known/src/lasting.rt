@@ -7,7 +7,7 @@ ghost use Rattle.sg_known.specs.Seen.{pairs_of};
 
 use crate::known::waits;
 use sg_described::{Operand, Relation, RuleShape, Term, Test};
-use sg_facts::Effect;
+use sg_described::Effect;
 use sg_walk::effect_on;
 
 // Whether an effect is on a field.

@@ -1,11 +1,11 @@
 // In which states a field is never 0.
 ghost use Rattle.std.specs.Prelude.{◌≡◌, ℕ, ◌+◌, ◌≤◌, ◌<◌, ◌^◌, ◌++◌, IfOk, OnOk, filter, length, map};
 ghost use Rattle.std.specs.List.{list_all};
-ghost use Rattle.sg_facts.specs.Facts.{facts_of, fun_of_shape, state_after};
+ghost use Rattle.sg_described.specs.sg_facts.Facts.{facts_of, fun_of_shape, state_after};
 ghost use Rattle.sg_described.specs.NeverZero.{all_from, is_listed, keeps_some, leaves_some, makes_some, moves_some, never_zero, states_from, states_left, stays_listed};
 ghost use Rattle.sg_known.specs.Seen.{pairs_of};
 
-use sg_facts::{Effect, FunShape, ListOf, NoMemory, Shape};
+use sg_described::{Effect, FunShape, ListOf, NoMemory, Shape};
 use sg_walk::effect_on;
 use std::alloc::Global;
 

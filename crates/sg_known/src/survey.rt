@@ -1,7 +1,7 @@
 // What is found of a description before it is checked.
 ghost use Rattle.std.specs.Prelude.{◌≡◌, ◌+◌, ◌<◌, ◌^◌, ◌++◌, IfOk, OnOk, length, map};
 ghost use Rattle.std.specs.List.{list_all};
-ghost use Rattle.sg_facts.specs.Facts.{facts_of, fun_of_shape};
+ghost use Rattle.sg_described.specs.sg_facts.Facts.{facts_of, fun_of_shape};
 ghost use Rattle.sg_described.specs.Described.{described_of};
 ghost use Rattle.sg_described.specs.Known.{greatest_from, has_client, leaves_client};
 ghost use Rattle.sg_described.specs.NeverZero.{is_never_zero};
@@ -10,7 +10,7 @@ ghost use Rattle.sg_known.specs.Surveys.{IsSurvey, leaves_only_client, never_zer
 
 use crate::states::{StateList, has_state, never_zero_states};
 use sg_described::Description;
-use sg_facts::{Effect, FieldShape, FunShape, LAST_CLIENT, ListOf, NoMemory, Shape};
+use sg_described::{Effect, FieldShape, FunShape, LAST_CLIENT, ListOf, NoMemory, Shape};
 use std::alloc::Global;
 
 /// What is found of a description before it is checked: the greatest number that each field comes to, and the states in which it

@@ -1,6 +1,6 @@
 -- One thing is said of a text that describes a service of its own.
 use Rattle.std.proofs.Common.{◌≡◌, ◌⊎◌, inl, inr, ℕ, None, Some, sym, ◌∙◌, ap}
-use Rattle.sg_facts.specs.Interface.{Declared}
+use Rattle.sg_describe.specs.sg_facts.Interface.{Declared}
 use Rattle.sg_check.specs.sg_check_statements.Faults.{interface_of}
 use Rattle.sg_check.specs.sg_check_statements.declared.fault.CheckKind.{CheckKind}
 use Rattle.sg_check.specs.sg_check_statements.declared.fault.CheckKind.TheVariants.{NoCreation, NoWalk, Unreached}

@@ -1,8 +1,8 @@
 -- What is first wrong with a text that describes a service of its own, and when it is accepted.
 use Rattle.std.specs.Prelude.{ℕ, ◌≡◌, ◌⊎◌, List, [], ◌∷◌, None, Some}
 use Rattle.std.specs.declared.option.Option.{Option}
-use Rattle.sg_facts.specs.Facts.{Facts}
-use Rattle.sg_facts.specs.Interface.{Declared}
+use Rattle.sg_describe.specs.sg_facts.Facts.{Facts}
+use Rattle.sg_describe.specs.sg_facts.Interface.{Declared}
 use Rattle.sg_check.specs.sg_check_statements.Faults.{IsAccepted, IsFault}
 use Rattle.sg_check.specs.sg_check_statements.declared.fault.CheckKind.TheVariants.{NoWalk as no_walk}
 use Rattle.sg_check.specs.sg_check_statements.sg_parse.declared.tree.Statement.{Statement}

@@ -1,7 +1,7 @@
 -- Where in a text it stands why its service can't be recovered.
 use Rattle.std.specs.Prelude.{ℕ, ◌-◌, List, slice_get, unwrap_or}
 use Rattle.std.specs.Option.{option_map_or}
-use Rattle.sg_facts.specs.Facts.{Facts, fun_at}
+use Rattle.sg_describe.specs.sg_facts.Facts.{Facts, fun_at}
 use Rattle.sg_check.specs.sg_check_statements.sg_parse.declared.tree.Statement.{Statement}
 use Rattle.sg_check.specs.sg_check_statements.sg_parse.sg_rules.declared.tree.Rule.{Rule}
 use Rattle.sg_check.specs.sg_check_statements.sg_parse.sg_rules.declared.tree.Rule.TheVariants.{Refuse, Wait, Give, GiveRow, GiveFirst}

@@ -1,8 +1,8 @@
 // Whether a text that describes a service of its own is accepted.
 ghost use Rattle.std.specs.Prelude.{◌≡◌, ◌≤◌, None, Some, true, length, IfErr, IfOk, OnOk};
 ghost use Rattle.std.specs.Result.{MatchResult};
-ghost use Rattle.sg_facts.specs.Facts.{facts_of};
-ghost use Rattle.sg_facts.specs.Limits.{most_funs};
+ghost use Rattle.sg_describe.specs.sg_facts.Facts.{facts_of};
+ghost use Rattle.sg_describe.specs.sg_facts.Limits.{most_funs};
 ghost use Rattle.sg_check.specs.sg_check_statements.Faults.{IsAccepted};
 ghost use Rattle.sg_describe.specs.sg_described.Described.{described_of};
 ghost use Rattle.sg_describe.specs.sg_described.Safe.{IsSafe, is_plain};
@@ -20,7 +20,7 @@ use sg_check::{Accepted, CheckError, CheckFault, CheckKind, check};
 use sg_describe::{
     AnswerError, Description, ShapeError, Statement, Tree, describe, proto_place, shape_of,
 };
-use sg_facts::Shape;
+use sg_describe::Shape;
 use sg_safe::{SafeError, Unsafe, safe};
 use std::alloc::Global;
 

@@ -1,6 +1,6 @@
 // Laws of the definitions.
 ghost use Rattle.std.specs.Prelude.{◌≡◌, ◌⊎◌, ℕ};
-ghost use Rattle.sg_facts.specs.Interface.{Declared};
+ghost use Rattle.sg_describe.specs.sg_facts.Interface.{Declared};
 ghost use Rattle.sg_check.specs.sg_check_statements.declared.fault.CheckKind.{CheckKind};
 ghost use Rattle.sg_check.specs.sg_check_statements.declared.fault.CheckKind.TheVariants.{NoCreation, NoWalk, Unreached};
 ghost use Rattle.sg_check.specs.sg_check_statements.sg_parse.declared.tree.Tree.{Tree};

@@ -4,15 +4,15 @@ use Rattle.std.specs.Prelude.{None, Some, Ok, Err, codes, IfErr, IsErrAnd, Match
 use Rattle.std.specs.declared.option.Option.{Option}
 use Rattle.std.specs.declared.result.Result.{Result}
 use Rattle.std.specs.Cmp.Lexicographic.{pointwise}
-use Rattle.sg_lex.specs.declared.token.LexFault.{LexFault}
-use Rattle.sg_lex.specs.Lexeme.{Lexeme, Spelling as Named}
-use Rattle.sg_lex.specs.Tokens.{Answer}
+use Rattle.sg_rules.specs.sg_lex.declared.token.LexFault.{LexFault}
+use Rattle.sg_rules.specs.sg_lex.Lexeme.{Lexeme, Spelling as Named}
+use Rattle.sg_rules.specs.sg_lex.Tokens.{Answer}
 use Rattle.sg_rules.specs.declared.error.ParseError.{ParseError}
 use Rattle.sg_rules.specs.declared.error.ParseError.TheVariants.{Lex, Syntax}
 use Rattle.sg_parse.specs.Grammar.Inside.States.{State, dead, due, fork, want, want_number, versioned, names, stars, either, listed, fielded, statements, param, declared, type_of, with_statement, statement_after, kept_after, one_rest, two_rest, plain_rest, returned_rest, external_rest, most_rest, unique_rest, answer_rest, has_sort, fits, named_by, step, tree_at, trees}
-use Rattle.sg_lex.specs.Inside.Automata.{Reading, read, read_on}
+use Rattle.sg_rules.specs.sg_lex.Inside.Automata.{Reading, read, read_on}
 use Rattle.sg_parse.proofs.Grammar.Basics.{if_then, if_else, mark-has_sort}
-use Rattle.sg_lex.proofs.Automata.{read_failed, read_next, read_end, alike}
+use Rattle.sg_rules.proofs.sg_lex.Automata.{read_failed, read_next, read_end, alike}
 use Rattle.std.proofs.Math.Dec.{eqb-suc-zero}
 use Rattle.sg_parse.specs.declared.tree.Facts.{Facts}
 use Rattle.sg_parse.specs.declared.tree.Ret.TheVariants.{Set, Add, Sub}
@@ -23,13 +23,13 @@ use Rattle.sg_parse.specs.declared.words.Sort.{Sort}
 use Rattle.sg_parse.specs.declared.words.Sort.TheVariants.{Name, Form, One as one_word, Two as two_word}
 use Rattle.sg_parse.specs.Grammar.Inside.Forms.{star, comma, close_bracket}
 use Rattle.sg_parse.specs.Grammar.Words.{is_of}
-use Rattle.sg_lex.specs.declared.token.TokenKind.TheVariants.{Number, Mark}
-use Rattle.sg_lex.specs.Inside.Tests.{has_kind}
-use Rattle.sg_lex.proofs.SameKinds.{kind_is}
+use Rattle.sg_rules.specs.sg_lex.declared.token.TokenKind.TheVariants.{Number, Mark}
+use Rattle.sg_rules.specs.sg_lex.Inside.Tests.{has_kind}
+use Rattle.sg_rules.proofs.sg_lex.SameKinds.{kind_is}
 use Rattle.sg_rules.specs.declared.version.Newer.TheVariants.{Second, Third}
 use Rattle.sg_parse.specs.Grammar.Pieces.{Piece, word, version_number, kept}
 use Rattle.sg_parse.specs.Inside.{named_token, number_token}
-use Rattle.sg_lex.specs.Inside.Ahead.{Off, Came}
+use Rattle.sg_rules.specs.sg_lex.Inside.Ahead.{Off, Came}
 
 -- ---- no token comes
 

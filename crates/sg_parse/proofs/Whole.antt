@@ -2,13 +2,13 @@
 use Rattle.std.proofs.Common.{◌≡◌, ◌≢◌, ◌⊎◌, inl, inr, ℕ, List, length, refl, sym, subst, ◌∙◌}
 use Rattle.std.specs.Prelude.{Ok, Err}
 use Rattle.std.specs.declared.result.Result.{Result}
-use Rattle.sg_lex.specs.Tokens.{answers_of}
+use Rattle.sg_rules.specs.sg_lex.Tokens.{answers_of}
 use Rattle.sg_rules.specs.declared.error.ParseError.{ParseError}
 use Rattle.sg_rules.specs.declared.error.ParseError.TheVariants.{NoMemory, Lex, Syntax}
 use Rattle.sg_parse.specs.declared.tree.Tree.{Tree}
 use Rattle.sg_parse.specs.Grammar.Parses.{Parses}
 use Rattle.sg_parse.specs.Grammar.Inside.States.{start, trees}
-use Rattle.sg_lex.specs.Inside.Automata.{read, Answers}
+use Rattle.sg_rules.specs.sg_lex.Inside.Automata.{read, Answers}
 use Rattle.sg_parse.proofs.Grammar.Readings.{ParsesTo, may_answer, only_answer}
 
 pub may : (text : List ℕ) (answer : Result Tree ParseError) → Answers trees (read trees start (record { rest = answers_of text; end = length text })) answer → Parses text answer

@@ -1,8 +1,8 @@
 -- What the parser's own clauses cite beside the automaton of trees.
 use Rattle.std.specs.Prelude.{ℕ, Bool, true, false, None, Some}
 use Rattle.std.specs.declared.option.Option.{Option}
-use Rattle.sg_lex.specs.declared.token.TokenKind.TheVariants.{Word, Number}
-use Rattle.sg_lex.specs.Lexeme.{Lexeme, Spelling}
+use Rattle.sg_rules.specs.sg_lex.declared.token.TokenKind.TheVariants.{Word, Number}
+use Rattle.sg_rules.specs.sg_lex.Lexeme.{Lexeme, Spelling}
 use Rattle.sg_rules.specs.declared.version.Newer.{Newer}
 use Rattle.sg_rules.specs.declared.version.Newer.TheVariants.{Second, Third}
 use Rattle.sg_parse.specs.Grammar.Inside.States.{State}

@@ -1,16 +1,16 @@
 // The facts at the head of a text.
 ghost use Rattle.std.specs.Prelude.{◌≡◌, Bool, List, [], codes, true, false};
-ghost use Rattle.sg_lex.specs.Lexeme.{Spelling as Named};
+ghost use Rattle.sg_rules.specs.sg_lex.Lexeme.{Spelling as Named};
 ghost use Rattle.sg_parse.specs.Grammar.Pieces.{mark, word};
 ghost use Rattle.sg_parse.specs.Grammar.Inside.Forms.{comma, equals, open_brace, semicolon};
 ghost use Rattle.sg_parse.specs.Grammar.Inside.States.{State, due, fact, first_end, fork, head0, in_newer, newer_end, newer_rest, start, statements, trees, want};
 ghost use Rattle.sg_parse.specs.Inside.{number_of, version_of};
-ghost use Rattle.sg_lex.specs.Inside.Automata.{read, Leads};
+ghost use Rattle.sg_rules.specs.sg_lex.Inside.Automata.{read, Leads};
 
 use crate::reader::{fixed, forked, mark, version, word_of};
 use crate::tree::Facts;
 use crate::words::Sort;
-use sg_lex::Spelled;
+use sg_rules::Spelled;
 use sg_rules::{Newer, ParseError, Reader};
 
 /// The facts at the head of a text, of whichever version the text is.

@@ -1,7 +1,7 @@
 // Laws of sentences and of what a parser has to answer.
 ghost use Rattle.std.specs.Prelude.{◌≡◌, ◌≢◌, ℕ, List, Err as failed};
 ghost use Rattle.std.specs.declared.result.Result.{Result};
-ghost use Rattle.sg_lex.specs.Lexeme.{Lexeme};
+ghost use Rattle.sg_rules.specs.sg_lex.Lexeme.{Lexeme};
 ghost use Rattle.sg_rules.specs.declared.error.ParseError.{ParseError};
 ghost use Rattle.sg_rules.specs.declared.error.ParseError.TheVariants.{NoMemory as no_memory};
 ghost use Rattle.sg_parse.specs.declared.tree.Tree.{Tree};

@@ -21,10 +21,10 @@ mod words;
 
 pub use laws::{one_answer, one_tree};
 pub use parser::parse;
-pub use sg_lex::{LexFault, Lexer, Spelled, SpelledList, Token, TokenKind, first_token};
 pub use sg_rules::{
-    Keyword, Operand, Operator, ParseError, Pick, PickList, Relation, RowTest, Rule, RuleList,
-    Term, TermList, Test, TestList, Tests, What,
+    Keyword, LexFault, Lexer, Operand, Operator, ParseError, Pick, PickList, Relation, RowTest,
+    Rule, RuleList, Spelled, SpelledList, Term, TermList, Test, TestList, Tests, Token, TokenKind,
+    What, first_token, number_of_digits,
 };
 pub use tree::{Facts, Param, ParamList, Ret, Statement, StatementList, Tree, TypeName};
 pub use words::Sort;

@@ -2,17 +2,17 @@
 ghost use Rattle.std.specs.Prelude.{◌≡◌, ◌≤◌, List, [], ◌∷◌, ◌++◌, length, OnOk, Some as with_form, None as without};
 ghost use Rattle.sg_parse.specs.declared.tree.Param.{Param as Declared};
 ghost use Rattle.sg_parse.specs.declared.words.Sort.TheVariants.{Name as a_name};
-ghost use Rattle.sg_lex.specs.Lexeme.{Spelling as Named};
+ghost use Rattle.sg_rules.specs.sg_lex.Lexeme.{Spelling as Named};
 ghost use Rattle.sg_parse.specs.Grammar.Inside.Forms.{open_bracket, close_bracket};
 ghost use Rattle.sg_parse.specs.Grammar.Inside.States.{State, due, want, either, listed, declared, param, param_after, with_param, type_of, trees};
-ghost use Rattle.sg_lex.specs.Inside.Automata.{read, Leads};
+ghost use Rattle.sg_rules.specs.sg_lex.Inside.Automata.{read, Leads};
 ghost use Rattle.sg_parse.specs.Inside.{either_of};
 
 use crate::reader::{mark, take_mark, take_word, word_of};
 use crate::tree::{Param, ParamList};
 use crate::types::{SpelledType, declared, spelling};
 use crate::words::Sort;
-use sg_lex::Spelled;
+use sg_rules::Spelled;
 use sg_rules::{ParseError, Reader};
 use std::alloc::Global;
 

@@ -1,12 +1,12 @@
 // The whole of a text.
 ghost use Rattle.std.specs.Prelude.{◌≡◌, ◌≢◌, ◌⊎◌, length, Err as failed};
 ghost use Rattle.std.specs.declared.result.Result.{Result as Answered};
-ghost use Rattle.sg_lex.specs.Tokens.{answers_of};
+ghost use Rattle.sg_rules.specs.sg_lex.Tokens.{answers_of};
 ghost use Rattle.sg_rules.specs.declared.error.ParseError.{ParseError as Fault};
 ghost use Rattle.sg_parse.specs.declared.tree.Tree.{Tree as Whole};
 ghost use Rattle.sg_parse.specs.Grammar.Parses.{Parses};
 ghost use Rattle.sg_parse.specs.Grammar.Inside.States.{start, trees};
-ghost use Rattle.sg_lex.specs.Inside.Automata.{read, Answers};
+ghost use Rattle.sg_rules.specs.sg_lex.Inside.Automata.{read, Answers};
 
 use crate::head::facts;
 use crate::statements::statements;

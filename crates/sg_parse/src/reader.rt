@@ -1,17 +1,17 @@
 // What a tree is read by: the tokens of a text, and the errors where they don't come.
 ghost use Rattle.std.specs.Prelude.{◌≡◌, ◌≤◌, ◌<◌, [], ◌∷◌, length, true, IfOk, IfErr, OnOk, MatchOption, MatchBool, Ok as answered};
 ghost use Rattle.sg_parse.specs.Grammar.Words.{is_of};
-ghost use Rattle.sg_lex.specs.Lexeme.{Spelling as Named};
+ghost use Rattle.sg_rules.specs.sg_lex.Lexeme.{Spelling as Named};
 ghost use Rattle.sg_parse.specs.Grammar.Inside.States.{State, dead, due, fork, want, want_number, versioned, has_sort, fits, named_by, trees};
 ghost use Rattle.sg_parse.specs.Grammar.Pieces.{mark, word, version_number, kept, are_digit, are_of};
-ghost use Rattle.sg_lex.specs.Inside.Automata.{read, Leads};
-ghost use Rattle.sg_lex.specs.Inside.Ahead.{Off, Came};
-ghost use Rattle.sg_lex.specs.Inside.Tests.{has_kind};
-ghost use Rattle.sg_lex.specs.declared.token.TokenKind.TheVariants.{Number as a_number};
+ghost use Rattle.sg_rules.specs.sg_lex.Inside.Automata.{read, Leads};
+ghost use Rattle.sg_rules.specs.sg_lex.Inside.Ahead.{Off, Came};
+ghost use Rattle.sg_rules.specs.sg_lex.Inside.Tests.{has_kind};
+ghost use Rattle.sg_rules.specs.sg_lex.declared.token.TokenKind.TheVariants.{Number as a_number};
 ghost use Rattle.sg_parse.specs.Inside.{named_token, number_token, one_of, version_of};
 
 use crate::words::Sort;
-use sg_lex::{IsKind, IsMark, IsWord, LexFault, Spelled, Token, TokenKind, TokenTest};
+use sg_rules::{IsKind, IsMark, IsWord, LexFault, Spelled, Token, TokenKind, TokenTest};
 use sg_rules::{Newer, ParseError, Reader};
 
 /// Takes the next token; None at the end of the text. A byte that begins none is a `Lex` error.

@@ -6,16 +6,16 @@ ghost use Rattle.sg_parse.specs.declared.tree.Ret.{Ret as Returned};
 ghost use Rattle.sg_parse.specs.declared.tree.Statement.{Statement as Stated};
 ghost use Rattle.sg_parse.specs.declared.tree.TypeName.{TypeName as Typed};
 ghost use Rattle.sg_parse.specs.declared.words.Sort.TheVariants.{Name as a_name};
-ghost use Rattle.sg_lex.specs.Lexeme.{Spelling as Named};
+ghost use Rattle.sg_rules.specs.sg_lex.Lexeme.{Spelling as Named};
 ghost use Rattle.sg_parse.specs.Grammar.Inside.States.{State, want, statements, statement_after, one_rest, two_rest, proto_rest, plain_rest, returned_rest, kept_after, external_rest, most_rest, unique_rest, answer_rest, answering, fielded, trees};
-ghost use Rattle.sg_lex.specs.Inside.Automata.{read, Leads, Answers, read_on};
+ghost use Rattle.sg_rules.specs.sg_lex.Inside.Automata.{read, Leads, Answers, read_on};
 
 use crate::params::params;
 use crate::reader::{has_sort, is_kept, mark, name_of, next_token, number, take_mark, word_of};
 use crate::tree::{Facts, Ret, Statement, StatementList, Tree, TypeName};
 use crate::types::{declared, spelling};
 use crate::words::Sort;
-use sg_lex::{Spelled, SpelledList, Token, TokenKind};
+use sg_rules::{Spelled, SpelledList, Token, TokenKind};
 use sg_rules::{ParseError, Reader, RuleList, parse_rules};
 use std::alloc::Global;
 

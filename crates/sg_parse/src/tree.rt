@@ -1,6 +1,6 @@
 // The tree of a text of the interface language.
-use sg_base::ListOf;
-use sg_lex::{Spelled, SpelledList};
+use sg_rules::ListOf;
+use sg_rules::{Spelled, SpelledList};
 use sg_rules::RuleList;
 use std::marker::Model;
 

@@ -1,15 +1,15 @@
 // Types, and the names that are declared after them.
 ghost use Rattle.std.specs.Prelude.{◌≡◌, ◌≤◌, ◌<◌, ◌+◌, ℕ, List, [], ◌∷◌, ◌++◌, length, IfOk, OnOk};
 ghost use Rattle.sg_parse.specs.declared.tree.TypeName.{TypeName as Typed};
-ghost use Rattle.sg_lex.specs.Lexeme.{Spelling as Named};
+ghost use Rattle.sg_rules.specs.sg_lex.Lexeme.{Spelling as Named};
 ghost use Rattle.sg_parse.specs.Grammar.Inside.States.{State, names, stars, declared, type_of, trees};
-ghost use Rattle.sg_lex.specs.Inside.Automata.{read, Leads};
+ghost use Rattle.sg_rules.specs.sg_lex.Inside.Automata.{read, Leads};
 
 use crate::reader::{take_mark, take_word, unexpected, word_of};
 use crate::tree::TypeName;
 use crate::words::Sort;
-use sg_base::NoMemory;
-use sg_lex::{Spelled, SpelledList};
+use sg_rules::NoMemory;
+use sg_rules::{Spelled, SpelledList};
 use sg_rules::{ParseError, Reader};
 use std::alloc::Global;
 

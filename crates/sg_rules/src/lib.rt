@@ -33,3 +33,8 @@ pub use tree::{
 };
 pub use version::Newer;
 pub use words::Keyword;
+pub use sg_lex::{
+    IsKind, IsMark, IsWord, LexFault, Lexer, Spelled, SpelledList, Token, TokenKind, TokenTest,
+    first_token, number_of_digits,
+};
+pub use sg_base::{ListOf, NoMemory};

@@ -5,14 +5,14 @@ use Rattle.std.specs.List.{list_all}
 use Rattle.std.specs.declared.option.Option.{Option}
 use Rattle.std.proofs.lemmas.Bool.Decides.{nat_tests}
 use Rattle.std.proofs.lemmas.Option.{slice_get_within}
-use Rattle.sg_facts.specs.Allowed.{acts_on_one, each_replays_well, is_allowed, keeps_private, keeps_to, replays_all, steps_make_none}
-use Rattle.sg_facts.specs.Facts.{Facts, Fun, fun_at, no_fun}
-use Rattle.sg_described.specs.Described.{Described}
-use Rattle.sg_described.specs.Known.{greatest}
-use Rattle.sg_described.specs.Safe.{IsPlain}
-use Rattle.sg_described.proofs.Keeping.Answering.{plain_fun}
-use Rattle.sg_described.proofs.Keeping.Basics.{both_true}
-use Rattle.sg_described.proofs.Keeping.Fitting.{greatest_length}
+use Rattle.sg_known.specs.sg_facts.Allowed.{acts_on_one, each_replays_well, is_allowed, keeps_private, keeps_to, replays_all, steps_make_none}
+use Rattle.sg_known.specs.sg_facts.Facts.{Facts, Fun, fun_at, no_fun}
+use Rattle.sg_known.specs.sg_described.Described.{Described}
+use Rattle.sg_known.specs.sg_described.Known.{greatest}
+use Rattle.sg_known.specs.sg_described.Safe.{IsPlain}
+use Rattle.sg_known.proofs.sg_described.Keeping.Answering.{plain_fun}
+use Rattle.sg_known.proofs.sg_described.Keeping.Basics.{both_true}
+use Rattle.sg_known.proofs.sg_described.Keeping.Fitting.{greatest_length}
 
 few : (n : ℕ) → nat_le n 8 ≡ true → n ≤ 8
 few n is = grind (arith, nat_tests, is)

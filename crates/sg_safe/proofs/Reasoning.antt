@@ -5,16 +5,16 @@ use Rattle.std.specs.Bool.{then_some}
 use Rattle.std.specs.List.{list_all}
 use Rattle.std.specs.Option.{is_some, option_map, option_or}
 use Rattle.std.specs.declared.option.Option.{Option}
-use Rattle.sg_facts.specs.Allowed.{implies, is_replayed}
-use Rattle.sg_facts.specs.Counted.{is_counted}
-use Rattle.sg_facts.specs.Facts.{Fun, fun_at}
-use Rattle.sg_facts.specs.Walks.{Spot, next_spot}
-use Rattle.sg_described.specs.Described.{Described, Rule, rules_at}
-use Rattle.sg_described.specs.Known.{is_wait, may_stop}
-use Rattle.sg_described.specs.NeverZero.{all_from}
-use Rattle.sg_described.specs.Safe.{IsPlain, IsSafe, adds, counts_slowly, replays_slowly}
-use Rattle.sg_described.specs.Waiting.{leaves_waiting, rule_waits, waits_well}
-use Rattle.sg_described.specs.Walking.{begins_well, blank, caller_fits, effect_fits, is_lost, is_step, known_at, replays_well, spots_of, steps_well, walks_well}
+use Rattle.sg_known.specs.sg_facts.Allowed.{implies, is_replayed}
+use Rattle.sg_known.specs.sg_facts.Counted.{is_counted}
+use Rattle.sg_known.specs.sg_facts.Facts.{Fun, fun_at}
+use Rattle.sg_known.specs.sg_facts.Walks.{Spot, next_spot}
+use Rattle.sg_known.specs.sg_described.Described.{Described, Rule, rules_at}
+use Rattle.sg_known.specs.sg_described.Known.{is_wait, may_stop}
+use Rattle.sg_known.specs.sg_described.NeverZero.{all_from}
+use Rattle.sg_known.specs.sg_described.Safe.{IsPlain, IsSafe, adds, counts_slowly, replays_slowly}
+use Rattle.sg_known.specs.sg_described.Waiting.{leaves_waiting, rule_waits, waits_well}
+use Rattle.sg_known.specs.sg_described.Walking.{begins_well, blank, caller_fits, effect_fits, is_lost, is_step, known_at, replays_well, spots_of, steps_well, walks_well}
 use Rattle.sg_safe.specs.declared.reason.FailingCall.{FailingCall}
 use Rattle.sg_safe.specs.declared.reason.Obstacle.TheVariants.{ByRule, NoClient, PastMost}
 use Rattle.sg_safe.specs.declared.reason.Unsafe.{Unsafe}

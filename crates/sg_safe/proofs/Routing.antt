@@ -4,13 +4,13 @@ use Rattle.std.specs.Prelude.{◌==◌, ◌&&◌, ◌||◌, All, slice_get, unwr
 use Rattle.std.specs.List.{flat_map, list_all}
 use Rattle.std.proofs.lemmas.List.{take_all}
 use Rattle.std.proofs.lemmas.List.Elements.{All-drop, All-push, All-weaker}
-use Rattle.sg_facts.specs.Facts.{Fun, fun_at, fun_of_shape, no_fun}
-use Rattle.sg_facts.specs.declared.shape.FunShape.{FunShape}
-use Rattle.sg_facts.specs.Interface.{has_pair}
-use Rattle.sg_facts.specs.Walks.{Spot, first_spot, next_spot}
-use Rattle.sg_described.specs.Described.{Described}
-use Rattle.sg_described.specs.Walking.{add_spot, add_spots, begins, is_lost, is_step, nexts, spots_of, spots_within}
-use Rattle.sg_described.proofs.Keeping.Basics.{both_true, or_true, own_test, same_of}
+use Rattle.sg_known.specs.sg_facts.Facts.{Fun, fun_at, fun_of_shape, no_fun}
+use Rattle.sg_known.specs.sg_facts.declared.shape.FunShape.{FunShape}
+use Rattle.sg_known.specs.sg_facts.Interface.{has_pair}
+use Rattle.sg_known.specs.sg_facts.Walks.{Spot, first_spot, next_spot}
+use Rattle.sg_known.specs.sg_described.Described.{Described}
+use Rattle.sg_known.specs.sg_described.Walking.{add_spot, add_spots, begins, is_lost, is_step, nexts, spots_of, spots_within}
+use Rattle.sg_known.proofs.sg_described.Keeping.Basics.{both_true, or_true, own_test, same_of}
 use Rattle.sg_safe.specs.declared.spots.Reached.{Reached}
 use Rattle.sg_safe.specs.Inside.Routes.{IsReached, add_begin, add_step, add_unlost, are_steps, nexts_by, place_in}
 use Rattle.sg_safe.specs.Reasons.{goes_on, led_by, led_on}

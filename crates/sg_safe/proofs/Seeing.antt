@@ -1,22 +1,22 @@
 -- What the code holds is what is known.
 use Rattle.std.proofs.Common.{◌≡◌, ℕ, zero, suc, ◌+◌, Bool, false, cond, List, [], ◌∷◌, length, map, None, Some, refl, sym, ◌∙◌, ap, arith}
 use Rattle.std.proofs.Math.Path.{fun_ext}
-use Rattle.sg_facts.specs.declared.shape.Effect.{Effect}
-use Rattle.sg_facts.specs.declared.shape.Effect.TheVariants.{SetCaller, SetArg, AddArg, SetRet, AddRet, Clear, SubOne, SubRet}
+use Rattle.sg_known.specs.sg_facts.declared.shape.Effect.{Effect}
+use Rattle.sg_known.specs.sg_facts.declared.shape.Effect.TheVariants.{SetCaller, SetArg, AddArg, SetRet, AddRet, Clear, SubOne, SubRet}
 use Rattle.std.specs.Option.{option_or}
 use Rattle.std.specs.declared.option.Option.{Option}
-use Rattle.sg_facts.specs.Facts.{fun_at}
-use Rattle.sg_facts.specs.Walks.{FieldMark, Spot as Place, effect_on, next_spot}
-use Rattle.sg_walk.specs.declared.spot.FieldState.{FieldState}
-use Rattle.sg_walk.specs.declared.spot.FieldState.TheVariants.{Unset, Good, Unknown}
-use Rattle.sg_walk.specs.Marks.{known_of}
-use Rattle.sg_described.specs.declared.bounds.Bounds.{Bounds}
-use Rattle.sg_described.specs.Described.{Described, Rule, rules_at}
-use Rattle.sg_described.specs.Known.{Known, between, bounds_after, greatest, word_most}
-use Rattle.sg_described.specs.Meaning.{last_word, most_at}
-use Rattle.sg_described.specs.NeverZero.{is_never_zero}
-use Rattle.sg_described.specs.Waiting.{known_after, known_of_all}
-use Rattle.sg_described.specs.Walking.{arg_known, bounds_at, carrier, field_known, is_lost, known_at, mark_at}
+use Rattle.sg_known.specs.sg_facts.Facts.{fun_at}
+use Rattle.sg_known.specs.sg_facts.Walks.{FieldMark, Spot as Place, effect_on, next_spot}
+use Rattle.sg_known.specs.sg_walk.declared.spot.FieldState.{FieldState}
+use Rattle.sg_known.specs.sg_walk.declared.spot.FieldState.TheVariants.{Unset, Good, Unknown}
+use Rattle.sg_known.specs.sg_walk.Marks.{known_of}
+use Rattle.sg_known.specs.sg_described.declared.bounds.Bounds.{Bounds}
+use Rattle.sg_known.specs.sg_described.Described.{Described, Rule, rules_at}
+use Rattle.sg_known.specs.sg_described.Known.{Known, between, bounds_after, greatest, word_most}
+use Rattle.sg_known.specs.sg_described.Meaning.{last_word, most_at}
+use Rattle.sg_known.specs.sg_described.NeverZero.{is_never_zero}
+use Rattle.sg_known.specs.sg_described.Waiting.{known_after, known_of_all}
+use Rattle.sg_known.specs.sg_described.Walking.{arg_known, bounds_at, carrier, field_known, is_lost, known_at, mark_at}
 use Rattle.sg_known.specs.Seen.{carried_in, fields_in}
 use Rattle.sg_safe.specs.declared.reason.KnownField.{KnownField}
 use Rattle.sg_safe.specs.declared.reason.Obstacle.{Obstacle}

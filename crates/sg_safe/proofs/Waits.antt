@@ -3,8 +3,8 @@ use Rattle.std.proofs.Common.{◌≡◌, ℕ, zero, suc, ◌+◌, ◌<◌, Bool,
 use Rattle.std.specs.Prelude.{◌&&◌, ◌||◌}
 use Rattle.std.specs.Option.{option_or}
 use Rattle.std.specs.declared.option.Option.{Option}
-use Rattle.sg_described.specs.declared.description.RuleShape.{RuleShape}
-use Rattle.sg_described.specs.Described.{Rule, rule_of}
+use Rattle.sg_known.specs.sg_described.declared.description.RuleShape.{RuleShape}
+use Rattle.sg_known.specs.sg_described.Described.{Rule, rule_of}
 use Rattle.sg_safe.specs.Reasons.{first_from}
 
 -- none of five holds

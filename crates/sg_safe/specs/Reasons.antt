@@ -4,20 +4,20 @@ use Rattle.std.specs.Bool.{then_some}
 use Rattle.std.specs.List.{list_all}
 use Rattle.std.specs.Option.{option_map, option_or}
 use Rattle.std.specs.declared.option.Option.{Option}
-use Rattle.sg_facts.specs.Allowed.{is_replayed}
-use Rattle.sg_facts.specs.Counted.{is_counted}
-use Rattle.sg_facts.specs.Facts.{Fun, fun_at}
-use Rattle.sg_facts.specs.Interface.{has_pair}
-use Rattle.sg_facts.specs.Walks.{FieldMark, Spot, first_spot, good, next_spot, unknown, unset}
-use Rattle.sg_walk.specs.declared.spot.FieldState.{FieldState}
-use Rattle.sg_walk.specs.declared.spot.FieldState.TheVariants.{Unset, Good, Unknown}
-use Rattle.sg_described.specs.Described.{Described, Rule, rules_at}
-use Rattle.sg_described.specs.Known.{between, greatest, is_wait, may_stop}
-use Rattle.sg_described.specs.Meaning.{most_at}
-use Rattle.sg_described.specs.NeverZero.{all_from}
-use Rattle.sg_described.specs.Safe.{adds, counts_slowly, replays_slowly}
-use Rattle.sg_described.specs.Waiting.{leaves_waiting, waits_well}
-use Rattle.sg_described.specs.Walking.{begins_well, blank, caller_fits, effect_fits, field_known, is_lost, is_step, known_at, spots_of, walks_well}
+use Rattle.sg_known.specs.sg_facts.Allowed.{is_replayed}
+use Rattle.sg_known.specs.sg_facts.Counted.{is_counted}
+use Rattle.sg_known.specs.sg_facts.Facts.{Fun, fun_at}
+use Rattle.sg_known.specs.sg_facts.Interface.{has_pair}
+use Rattle.sg_known.specs.sg_facts.Walks.{FieldMark, Spot, first_spot, good, next_spot, unknown, unset}
+use Rattle.sg_known.specs.sg_walk.declared.spot.FieldState.{FieldState}
+use Rattle.sg_known.specs.sg_walk.declared.spot.FieldState.TheVariants.{Unset, Good, Unknown}
+use Rattle.sg_known.specs.sg_described.Described.{Described, Rule, rules_at}
+use Rattle.sg_known.specs.sg_described.Known.{between, greatest, is_wait, may_stop}
+use Rattle.sg_known.specs.sg_described.Meaning.{most_at}
+use Rattle.sg_known.specs.sg_described.NeverZero.{all_from}
+use Rattle.sg_known.specs.sg_described.Safe.{adds, counts_slowly, replays_slowly}
+use Rattle.sg_known.specs.sg_described.Waiting.{leaves_waiting, waits_well}
+use Rattle.sg_known.specs.sg_described.Walking.{begins_well, blank, caller_fits, effect_fits, field_known, is_lost, is_step, known_at, spots_of, walks_well}
 use Rattle.sg_safe.specs.declared.reason.FailingCall.{FailingCall}
 use Rattle.sg_safe.specs.declared.reason.KnownField.{KnownField}
 use Rattle.sg_safe.specs.declared.reason.KnownSpot.{KnownSpot}

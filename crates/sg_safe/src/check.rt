@@ -1,9 +1,9 @@
 // Whether a described service can be recovered, and if not, why.
 ghost use Rattle.std.specs.Prelude.{◌≡◌, ◌≤◌, true, None, IfErr, IfOk, OnOk, length};
 ghost use Rattle.std.specs.Option.{option_or};
-ghost use Rattle.sg_facts.specs.Limits.{most_funs};
-ghost use Rattle.sg_described.specs.Described.{described_of};
-ghost use Rattle.sg_described.specs.Safe.{IsPlain, IsSafe, is_plain};
+ghost use Rattle.sg_known.specs.sg_facts.Limits.{most_funs};
+ghost use Rattle.sg_known.specs.sg_described.Described.{described_of};
+ghost use Rattle.sg_known.specs.sg_described.Safe.{IsPlain, IsSafe, is_plain};
 ghost use Rattle.sg_known.specs.Surveys.{IsSurvey, subject_of};
 ghost use Rattle.sg_safe.specs.Inside.Stages.{IsFound};
 ghost use Rattle.sg_safe.specs.Reasons.{IsFirstError, counts_in, fails_in, unsafe_in, waits_in};
@@ -13,8 +13,8 @@ use crate::reason::{SafeError, Unsafe};
 use crate::replaying::{first_failure, next_failure};
 use crate::spots::all_spots;
 use crate::waiting::first_overtaken;
-use sg_described::Description;
-use sg_facts::{NoMemory, Walk};
+use sg_known::Description;
+use sg_known::{NoMemory, Walk};
 use sg_known::{Survey, surveyed};
 use std::alloc::Global;
 

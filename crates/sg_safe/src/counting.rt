@@ -2,18 +2,18 @@
 ghost use Rattle.std.specs.Prelude.{◌≡◌, ◌+◌, ◌<◌, ◌^◌, ◌==◌, ◌&&◌, length, map};
 ghost use Rattle.std.specs.Bool.{then_some};
 ghost use Rattle.std.specs.List.{list_any};
-ghost use Rattle.sg_facts.specs.Allowed.{is_replayed};
-ghost use Rattle.sg_facts.specs.Counted.{is_counted, raises_by_word};
-ghost use Rattle.sg_facts.specs.Facts.{facts_of, fun_of_shape};
-ghost use Rattle.sg_described.specs.Described.{described_of};
-ghost use Rattle.sg_described.specs.Safe.{adds};
+ghost use Rattle.sg_known.specs.sg_facts.Allowed.{is_replayed};
+ghost use Rattle.sg_known.specs.sg_facts.Counted.{is_counted, raises_by_word};
+ghost use Rattle.sg_known.specs.sg_facts.Facts.{facts_of, fun_of_shape};
+ghost use Rattle.sg_known.specs.sg_described.Described.{described_of};
+ghost use Rattle.sg_known.specs.sg_described.Safe.{adds};
 ghost use Rattle.sg_known.specs.Seen.{pairs_of};
 ghost use Rattle.sg_safe.specs.Inside.Seen.{pairs_in};
 ghost use Rattle.sg_safe.specs.Reasons.{counts_far, first_from, first_in, recounts};
 
 use crate::reason::Unsafe;
-use sg_described::Description;
-use sg_facts::{Effect, FunShape, Shape};
+use sg_known::Description;
+use sg_known::{Effect, FunShape, Shape};
 
 // A number that no word of a service comes near of.
 const SLOW: u64 = 1 << 34;

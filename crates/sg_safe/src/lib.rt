@@ -17,3 +17,7 @@ mod waiting;
 
 pub use check::safe;
 pub use reason::{FailingCall, KnownField, KnownSpot, Obstacle, SafeError, Unsafe};
+pub use sg_known::{
+    AnswerShape, Bounds, Code, Description, Effect, FieldShape, FieldState, FunShape, Kind, Leaves,
+    Operand, Parents, Relation, RuleShape, Shape, Term, Test, Verdict,
+};

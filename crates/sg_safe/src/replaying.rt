@@ -2,27 +2,27 @@
 ghost use Rattle.std.specs.Prelude.{◌≡◌, ◌+◌, ◌<◌, ◌≤◌, ◌^◌, ◌++◌, true, All, nat_le, nat_lt, IfOk, OnOk, length, map};
 ghost use Rattle.std.specs.List.{list_all};
 ghost use Rattle.std.specs.Option.{option_map};
-ghost use Rattle.sg_facts.specs.Facts.{fun_of_shape};
-ghost use Rattle.sg_described.specs.Described.{rule_of};
-ghost use Rattle.sg_described.specs.Safe.{IsPlain};
-ghost use Rattle.sg_described.specs.Walking.{bounds_at, caller_fits, field_known, known_at, left_most};
+ghost use Rattle.sg_known.specs.sg_facts.Facts.{fun_of_shape};
+ghost use Rattle.sg_known.specs.sg_described.Described.{rule_of};
+ghost use Rattle.sg_known.specs.sg_described.Safe.{IsPlain};
+ghost use Rattle.sg_known.specs.sg_described.Walking.{bounds_at, caller_fits, field_known, known_at, left_most};
 ghost use Rattle.sg_known.specs.Seen.{fields_in, known_in, pairs_of};
 ghost use Rattle.sg_known.specs.Surveys.{IsSurvey, subject_of};
 ghost use Rattle.sg_safe.specs.Inside.Replays.{IsLater, clients_at, fields_from, past_at, spots_from, stops_at};
 ghost use Rattle.sg_safe.specs.Inside.Routes.{IsReached, most_before, place_in};
 ghost use Rattle.sg_safe.specs.Inside.Seen.{HasFewFields, pairs_in, shown};
 ghost use Rattle.sg_safe.specs.Reasons.{but_walk, failing, fails_at, fails_by, fails_first, fails_on, first_from, first_in, known_spot, obstacle_at};
-ghost use Rattle.sg_walk.specs.Marks.{known_of};
+ghost use Rattle.sg_known.specs.sg_walk.Marks.{known_of};
 
 use crate::reason::{FailingCall, KnownField, KnownSpot, Obstacle, Unsafe};
 use crate::spots::{Reached, blank_spot, loses, marks_of, spot_after, steps_from};
-use sg_described::{Bounds, RuleShape};
-use sg_facts::{Effect, FunShape, LAST_CLIENT, ListOf, NoMemory};
+use sg_known::{Bounds, RuleShape};
+use sg_known::{Effect, FunShape, LAST_CLIENT, ListOf, NoMemory};
 use sg_known::{
     ANY, ArgsKnown, Seen, Survey, ZERO, bounds_up_to, field_bounds, greatest_word, is_some_in,
     stops,
 };
-use sg_walk::{FieldState, Spot};
+use sg_known::{FieldState, Spot};
 use std::alloc::Global;
 
 // ---- what is known at a spot

@@ -1,22 +1,22 @@
 // Where walks come to.
 ghost use Rattle.std.specs.Prelude.{◌≡◌, ◌+◌, ◌-◌, ◌<◌, ◌≤◌, ◌^◌, ◌==◌, ◌&&◌, ◌++◌, true, ◌∷◌, [], ℕ, All, IfOk, OnOk, drop, length, map, not};
 ghost use Rattle.std.specs.List.{flat_map, list_all, list_any};
-ghost use Rattle.sg_facts.specs.Facts.{fun_at, fun_of_shape};
-ghost use Rattle.sg_facts.specs.Interface.{has_pair};
-ghost use Rattle.sg_facts.specs.Limits.{most_fields};
-ghost use Rattle.sg_facts.specs.Walks.{first_spot, most_calls, next_spot};
-ghost use Rattle.sg_described.specs.Described.{described_of};
-ghost use Rattle.sg_described.specs.NeverZero.{all_from};
-ghost use Rattle.sg_described.specs.Walking.{add_spots, begins, blank, brings_back, is_lost, is_step, is_stuck, is_unknown, nexts, same_mark, same_marks, same_spot, spots_of, spots_within};
+ghost use Rattle.sg_known.specs.sg_facts.Facts.{fun_at, fun_of_shape};
+ghost use Rattle.sg_known.specs.sg_facts.Interface.{has_pair};
+ghost use Rattle.sg_known.specs.sg_facts.Limits.{most_fields};
+ghost use Rattle.sg_known.specs.sg_facts.Walks.{first_spot, most_calls, next_spot};
+ghost use Rattle.sg_known.specs.sg_described.Described.{described_of};
+ghost use Rattle.sg_known.specs.sg_described.NeverZero.{all_from};
+ghost use Rattle.sg_known.specs.sg_described.Walking.{add_spots, begins, blank, brings_back, is_lost, is_step, is_stuck, is_unknown, nexts, same_mark, same_marks, same_spot, spots_of, spots_within};
 ghost use Rattle.sg_known.specs.Seen.{pairs_of};
 ghost use Rattle.sg_safe.specs.Inside.Seen.{HasFewFields, pairs_in, shown, spot_in};
 ghost use Rattle.sg_safe.specs.Inside.Routes.{IsReached, add_begin, add_step, add_unlost, are_steps, most_before, nexts_by, place_in};
-ghost use Rattle.sg_walk.specs.Marks.{known_of};
+ghost use Rattle.sg_known.specs.sg_walk.Marks.{known_of};
 
-use sg_described::Description;
-use sg_facts::{Effect, FunShape, ListOf, MOST_FIELDS, NoMemory, Walk};
+use sg_known::Description;
+use sg_known::{Effect, FunShape, ListOf, MOST_FIELDS, NoMemory, Walk};
 use sg_known::state_left;
-use sg_walk::{FieldState, Spot, marked};
+use sg_known::{FieldState, Spot, marked};
 use std::alloc::Global;
 
 /// Where a walk has come to, and the walk.

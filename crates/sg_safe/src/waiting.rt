@@ -1,25 +1,25 @@
 // Whether who waits goes on to wait.
 ghost use Rattle.std.specs.Prelude.{◌≡◌, ◌+◌, ◌-◌, ◌<◌, ◌≤◌, ◌^◌, ◌==◌, ◌++◌, IfOk, OnOk, not, drop, length, map, take, vec_len};
 ghost use Rattle.std.specs.List.{list_all};
-ghost use Rattle.sg_facts.specs.Allowed.{implies};
-ghost use Rattle.sg_facts.specs.Facts.{fun_of_shape, state_after};
-ghost use Rattle.sg_facts.specs.Interface.{has_pair};
-ghost use Rattle.sg_described.specs.Described.{described_of, rule_of, rules_at};
-ghost use Rattle.sg_described.specs.Known.{between};
-ghost use Rattle.sg_described.specs.Waiting.{is_met_at, is_within, known_after, known_where, leaves_waiting, waits_on};
+ghost use Rattle.sg_known.specs.sg_facts.Allowed.{implies};
+ghost use Rattle.sg_known.specs.sg_facts.Facts.{fun_of_shape, state_after};
+ghost use Rattle.sg_known.specs.sg_facts.Interface.{has_pair};
+ghost use Rattle.sg_known.specs.sg_described.Described.{described_of, rule_of, rules_at};
+ghost use Rattle.sg_known.specs.sg_described.Known.{between};
+ghost use Rattle.sg_known.specs.sg_described.Waiting.{is_met_at, is_within, known_after, known_where, leaves_waiting, waits_on};
 ghost use Rattle.sg_known.specs.Seen.{known_in, pairs_of};
 ghost use Rattle.sg_safe.specs.Inside.Seen.{bounds_left};
 ghost use Rattle.sg_known.specs.Surveys.{IsSurvey, subject_of};
 ghost use Rattle.sg_safe.specs.Reasons.{first_from, overtaken, overtaken_at, overtaken_by};
 
 use crate::reason::Unsafe;
-use sg_described::{Bounds, Description, RuleShape};
-use sg_facts::{Effect, FunShape, NoMemory};
+use sg_known::{Bounds, Description, RuleShape};
+use sg_known::{Effect, FunShape, NoMemory};
 use sg_known::{
     ArgsKnown, Seen, Survey, all_keep_out, all_last, applies_surely, bounds_after, narrow_all,
     state_left, stop_surely, waits,
 };
-use sg_walk::effect_on;
+use sg_known::effect_on;
 use std::alloc::Global;
 
 /// A rule by which a caller may wait: its function, its number, the rules before it, and the rule.

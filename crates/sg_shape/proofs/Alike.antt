@@ -2,7 +2,7 @@
 use Rattle.std.proofs.Common.{◌≡◌, List, refl}
 use Rattle.std.specs.Prelude.{find, unwrap_or}
 use Rattle.std.specs.Option.{option_map}
-use Rattle.sg_facts.specs.Facts.{Facts}
+use Rattle.sg_check_statements.specs.sg_facts.Facts.{Facts}
 use Rattle.sg_check_statements.specs.Flaws.{fun_of_name}
 use Rattle.sg_check_statements.specs.Says.{fun_number}
 use Rattle.sg_check_statements.specs.sg_parse.declared.tree.Statement.{Statement}

@@ -4,9 +4,9 @@ use Rattle.std.specs.Prelude.{count_by, nat_le, slice_get, unwrap_or}
 use Rattle.std.specs.declared.option.Option.{Option}
 use Rattle.std.specs.List.{list_all, list_any}
 use Rattle.std.proofs.lemmas.Bool.{and_from, eq-eqb, le-leb, not-false}
-use Rattle.sg_facts.specs.Allowed.{acts_on_one, count_args, each_arg, each_replays_well, has_no_parents, implies, is_allowed, is_cross, is_never, is_replayed, is_text_field, keeps_private, keeps_to, leaves_known, leaves_own, replays_all, replays_well, sets_once, steps_make_none, takes_among}
-use Rattle.sg_facts.specs.Facts.{Facts, Fun, fun_at, no_fun, takes_desc, takes_parent, writes}
-use Rattle.sg_facts.specs.Walks.{sets_caller}
+use Rattle.sg_check_statements.specs.sg_facts.Allowed.{acts_on_one, count_args, each_arg, each_replays_well, has_no_parents, implies, is_allowed, is_cross, is_never, is_replayed, is_text_field, keeps_private, keeps_to, leaves_known, leaves_own, replays_all, replays_well, sets_once, steps_make_none, takes_among}
+use Rattle.sg_check_statements.specs.sg_facts.Facts.{Facts, Fun, fun_at, no_fun, takes_desc, takes_parent, writes}
+use Rattle.sg_check_statements.specs.sg_facts.Walks.{sets_caller}
 use Rattle.sg_shape.specs.declared.fault.ShapeFaultKind.{ShapeFaultKind}
 use Rattle.sg_shape.specs.declared.fault.ShapeFaultKind.TheVariants.{PrivateLooksAround, QueryTakes, FileWithoutDesc, TextChanged, BlocksOrMakes, StateOfOther, MakesOn, ActsOnNone, NoParents, ReplayWrites, ArgumentLost, ReplayUnknown, RecoverMakes}
 use Rattle.sg_shape.specs.Flaws.{is_forbidden}

@@ -3,14 +3,14 @@ use Rattle.std.proofs.Common.{◌≡◌, ℕ, Bool, List, [], ◌∷◌, map, dr
 use Rattle.std.specs.Prelude.{codes, nat_lt}
 use Rattle.std.specs.List.{list_any}
 use Rattle.std.specs.Str.{bytes_eq}
-use Rattle.sg_facts.specs.declared.shape.Effect.{Effect}
-use Rattle.sg_facts.specs.declared.shape.FunShape.{FunShape}
-use Rattle.sg_facts.specs.declared.shape.Kind.{Kind}
-use Rattle.sg_facts.specs.declared.shape.Leaves.{Leaves}
-use Rattle.sg_facts.specs.declared.shape.Parents.{Parents}
-use Rattle.sg_facts.specs.declared.shape.Shape.{Shape}
-use Rattle.sg_facts.specs.Facts.{Facts, Field, Fun, all_bit, block_bit, creation_bit, facts_of, fun_of_shape, has_flag, query_bit, terminal_bit, uses_file_bit, wakeup_bit}
-use Rattle.sg_facts.specs.Fields.{number_of}
+use Rattle.sg_check_statements.specs.sg_facts.declared.shape.Effect.{Effect}
+use Rattle.sg_check_statements.specs.sg_facts.declared.shape.FunShape.{FunShape}
+use Rattle.sg_check_statements.specs.sg_facts.declared.shape.Kind.{Kind}
+use Rattle.sg_check_statements.specs.sg_facts.declared.shape.Leaves.{Leaves}
+use Rattle.sg_check_statements.specs.sg_facts.declared.shape.Parents.{Parents}
+use Rattle.sg_check_statements.specs.sg_facts.declared.shape.Shape.{Shape}
+use Rattle.sg_check_statements.specs.sg_facts.Facts.{Facts, Field, Fun, all_bit, block_bit, creation_bit, facts_of, fun_of_shape, has_flag, query_bit, terminal_bit, uses_file_bit, wakeup_bit}
+use Rattle.sg_check_statements.specs.sg_facts.Fields.{number_of}
 use Rattle.sg_check_statements.specs.Effects.{declared_effects}
 use Rattle.sg_check_statements.specs.Says.{says}
 use Rattle.sg_check_statements.specs.sg_parse.declared.tree.Statement.{Statement}

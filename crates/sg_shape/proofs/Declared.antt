@@ -5,9 +5,9 @@ use Rattle.std.specs.List.{filter_map, flat_map, list_all}
 use Rattle.std.specs.Str.{bytes_eq}
 use Rattle.std.proofs.lemmas.Bool.{and_from, and_parts, lt-ltb}
 use Rattle.std.proofs.lemmas.List.Folds.{list_all-append}
-use Rattle.sg_facts.specs.declared.shape.Effect.TheVariants.{SetCaller, SetArg, AddArg, Clear, SubOne}
-use Rattle.sg_facts.specs.declared.shape.Kind.TheVariants.{Desc, Parent, Word, Text}
-use Rattle.sg_facts.specs.Allowed.{count_args, takes_among}
+use Rattle.sg_check_statements.specs.sg_facts.declared.shape.Effect.TheVariants.{SetCaller, SetArg, AddArg, Clear, SubOne}
+use Rattle.sg_check_statements.specs.sg_facts.declared.shape.Kind.TheVariants.{Desc, Parent, Word, Text}
+use Rattle.sg_check_statements.specs.sg_facts.Allowed.{count_args, takes_among}
 use Rattle.sg_check_statements.specs.Effects.{arg_effects, declared_effects}
 use Rattle.sg_check_statements.specs.Inside.Pieces.{caller_effects, later_effects, ret_effects, statement_effects}
 use Rattle.sg_check_statements.specs.NameSet.{has_name}

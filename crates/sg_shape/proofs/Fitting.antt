@@ -9,12 +9,12 @@ use Rattle.std.specs.Option.{is_none, option_map_or, option_or}
 use Rattle.std.specs.Str.{bytes_eq}
 use Rattle.std.proofs.lemmas.Bool.{and_from, and_parts, eq-eqb, leb-true, not-false, or_right}
 use Rattle.std.proofs.lemmas.List.Elements.{filter_map-append}
-use Rattle.sg_facts.specs.declared.shape.Kind.{Kind}
-use Rattle.sg_facts.specs.declared.shape.Kind.TheVariants.{Desc, Parent, Word, Text}
-use Rattle.sg_facts.specs.declared.shape.Leaves.TheVariants.{Own, Same, Of}
-use Rattle.sg_facts.specs.Facts.{Facts, fun_at, no_fun}
-use Rattle.sg_facts.specs.Interface.{has_pair}
-use Rattle.sg_facts.specs.Words.{field_name}
+use Rattle.sg_check_statements.specs.sg_facts.declared.shape.Kind.{Kind}
+use Rattle.sg_check_statements.specs.sg_facts.declared.shape.Kind.TheVariants.{Desc, Parent, Word, Text}
+use Rattle.sg_check_statements.specs.sg_facts.declared.shape.Leaves.TheVariants.{Own, Same, Of}
+use Rattle.sg_check_statements.specs.sg_facts.Facts.{Facts, fun_at, no_fun}
+use Rattle.sg_check_statements.specs.sg_facts.Interface.{has_pair}
+use Rattle.sg_check_statements.specs.sg_facts.Words.{field_name}
 use Rattle.sg_check_statements.specs.Effects.{declared_effects, has_effect, same_effects}
 use Rattle.sg_check_statements.specs.Faults.{FirstOf, IsFirstStatement}
 use Rattle.sg_check_statements.specs.Flaws.{duplicate, fit_leaves, flaw_of, foreign, fun_of_name, is_declared, leaves_another, leaves_some, wrong_fact}

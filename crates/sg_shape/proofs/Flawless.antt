@@ -7,9 +7,9 @@ use Rattle.std.specs.List.{filter_map}
 use Rattle.std.specs.Option.{option_map, option_or}
 use Rattle.std.proofs.lemmas.Bool.{ltb-false}
 use Rattle.std.proofs.lemmas.Option.{slice_get-get_or, slice_get-map}
-use Rattle.sg_facts.specs.Allowed.{is_cross}
-use Rattle.sg_facts.specs.Facts.{fun_at, no_fun}
-use Rattle.sg_facts.specs.Limits.{most_fields, most_funs}
+use Rattle.sg_check_statements.specs.sg_facts.Allowed.{is_cross}
+use Rattle.sg_check_statements.specs.sg_facts.Facts.{fun_at, no_fun}
+use Rattle.sg_check_statements.specs.sg_facts.Limits.{most_fields, most_funs}
 use Rattle.sg_check_statements.specs.Flaws.{fun_of_name}
 use Rattle.sg_check_statements.specs.Says.{fun_number}
 use Rattle.sg_check_statements.specs.Shapes.{all_differ}

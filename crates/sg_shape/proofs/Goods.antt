@@ -6,11 +6,11 @@ use Rattle.std.specs.List.{list_any, list_all}
 use Rattle.std.proofs.lemmas.Bool.{and_parts, le-leb, leb-true, not-false, or_left, or_right}
 use Rattle.std.proofs.lemmas.List.{length-map}
 use Rattle.std.proofs.lemmas.List.Sums.{sum_by-cons}
-use Rattle.sg_facts.specs.declared.shape.Kind.TheVariants.{Desc, Parent, Word, Text}
-use Rattle.sg_facts.specs.Allowed.{count_args, is_allowed, is_cross, takes_among}
-use Rattle.sg_facts.specs.Facts.{Fun}
-use Rattle.sg_facts.specs.Inside.Rows.{is_desc, is_parent}
-use Rattle.sg_facts.specs.Walks.{sets_caller}
+use Rattle.sg_check_statements.specs.sg_facts.declared.shape.Kind.TheVariants.{Desc, Parent, Word, Text}
+use Rattle.sg_check_statements.specs.sg_facts.Allowed.{count_args, is_allowed, is_cross, takes_among}
+use Rattle.sg_check_statements.specs.sg_facts.Facts.{Fun}
+use Rattle.sg_check_statements.specs.sg_facts.Inside.Rows.{is_desc, is_parent}
+use Rattle.sg_check_statements.specs.sg_facts.Walks.{sets_caller}
 use Rattle.sg_check_statements.specs.Effects.{declared_effects}
 use Rattle.sg_check_statements.specs.Params.{has_word, is_caller}
 use Rattle.sg_check_statements.specs.Shapes.{all_differ}

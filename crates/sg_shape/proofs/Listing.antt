@@ -4,7 +4,7 @@ use Rattle.std.specs.Prelude.{filter, nat_le}
 use Rattle.std.specs.List.{flat_map, list_all, list_any, range_with_len}
 use Rattle.std.proofs.lemmas.Bool.{and_from, and_parts, eqb-false, eqb-true, le-leb, or_left, or_right}
 use Rattle.std.proofs.lemmas.List.Folds.{list_all-append}
-use Rattle.sg_facts.specs.Interface.{has_pair}
+use Rattle.sg_check_statements.specs.sg_facts.Interface.{has_pair}
 use Rattle.sg_check_statements.specs.Shapes.{are_funs, is_fun}
 use Rattle.sg_check_statements.proofs.Judged.{any_flat_map, any_map}
 use Rattle.sg_shape.specs.ShapeOfText.{in_order, pairs_to}

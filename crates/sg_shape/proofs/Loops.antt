@@ -8,9 +8,9 @@ use Rattle.std.proofs.lemmas.List.{append-nil, take_more, take-append-drop}
 use Rattle.std.proofs.lemmas.List.Concat.{flat_map-append}
 use Rattle.std.proofs.lemmas.List.Elements.{filter_map-append}
 use Rattle.std.proofs.lemmas.List.Folds.{find-append}
-use Rattle.sg_facts.specs.declared.shape.Effect.{Effect}
-use Rattle.sg_facts.specs.Allowed.{each_arg}
-use Rattle.sg_facts.specs.Walks.{carries_arg}
+use Rattle.sg_check_statements.specs.sg_facts.declared.shape.Effect.{Effect}
+use Rattle.sg_check_statements.specs.sg_facts.Allowed.{each_arg}
+use Rattle.sg_check_statements.specs.sg_facts.Walks.{carries_arg}
 
 one_gathered : {Y : Type 0} (o : Option Y) → cons_option o [] ≡ option_to_list o
 one_gathered None = refl

@@ -7,7 +7,7 @@ use Rattle.std.proofs.lemmas.Bool.{and_parts, not-true, or_parts, or_right}
 use Rattle.std.proofs.lemmas.Bool.Decides.{same_from_decides}
 use Rattle.std.proofs.lemmas.List.Folds.{list_any-append}
 use Rattle.std.proofs.lemmas.Slice.Eq.{bytes_eq-Decides}
-use Rattle.sg_facts.specs.Facts.{Fun}
+use Rattle.sg_check_statements.specs.sg_facts.Facts.{Fun}
 use Rattle.sg_check_statements.specs.NameSet.{has_name}
 use Rattle.sg_check_statements.specs.Says.{fun_number_from, has_proto}
 use Rattle.sg_check_statements.specs.Shapes.{all_differ}

@@ -8,12 +8,12 @@ use Rattle.std.specs.Str.{bytes_eq}
 use Rattle.std.proofs.lemmas.Bool.{and_from, and_parts, not-true, or_from, or_parts, or_right}
 use Rattle.std.proofs.lemmas.Bool.Decides.{nat_tests}
 use Rattle.std.proofs.lemmas.List.Sums.{sum_by-cons}
-use Rattle.sg_facts.specs.declared.shape.Effect.{Effect}
-use Rattle.sg_facts.specs.declared.shape.Effect.TheVariants.{SetCaller, SetArg, AddArg, SetRet, AddRet, Clear, SubOne, SubRet}
-use Rattle.sg_facts.specs.Allowed.{sets_once}
-use Rattle.sg_facts.specs.Facts.{Field}
-use Rattle.sg_facts.specs.Walks.{sets_caller}
-use Rattle.sg_facts.specs.Words.{field_name}
+use Rattle.sg_check_statements.specs.sg_facts.declared.shape.Effect.{Effect}
+use Rattle.sg_check_statements.specs.sg_facts.declared.shape.Effect.TheVariants.{SetCaller, SetArg, AddArg, SetRet, AddRet, Clear, SubOne, SubRet}
+use Rattle.sg_check_statements.specs.sg_facts.Allowed.{sets_once}
+use Rattle.sg_check_statements.specs.sg_facts.Facts.{Field}
+use Rattle.sg_check_statements.specs.sg_facts.Walks.{sets_caller}
+use Rattle.sg_check_statements.specs.sg_facts.Words.{field_name}
 use Rattle.sg_check_statements.specs.Effects.{has_effect, same_effect}
 use Rattle.sg_check_statements.specs.NameSet.{has_name}
 use Rattle.sg_check_statements.specs.Shapes.{all_differ}

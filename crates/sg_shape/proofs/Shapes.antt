@@ -10,8 +10,8 @@ use Rattle.std.proofs.lemmas.Bool.{and_from, le-leb}
 use Rattle.std.proofs.lemmas.List.{length-map}
 use Rattle.std.proofs.lemmas.List.Folds.{list_all-map}
 use Rattle.std.proofs.lemmas.Option.{slice_get_within}
-use Rattle.sg_facts.specs.declared.shape.Leaves.TheVariants.{Own, Same, Of}
-use Rattle.sg_facts.specs.Limits.{most_fields, most_funs}
+use Rattle.sg_check_statements.specs.sg_facts.declared.shape.Leaves.TheVariants.{Own, Same, Of}
+use Rattle.sg_check_statements.specs.sg_facts.Limits.{most_fields, most_funs}
 use Rattle.sg_check_statements.specs.NameSet.{has_name}
 use Rattle.sg_check_statements.specs.Says.{has_proto, names_two, says}
 use Rattle.sg_check_statements.specs.Shapes.{all_differ, are_funs, is_fun, is_shape, leaves_fun}

@@ -8,10 +8,10 @@ use Rattle.std.proofs.lemmas.List.{append-nil, drop_more, map-append, take_more}
 use Rattle.std.proofs.lemmas.List.Concat.{flat_map-append}
 use Rattle.std.proofs.lemmas.List.Elements.{filter-append}
 use Rattle.std.proofs.lemmas.List.FromFn.{filter_of_map_range_with_len_more}
-use Rattle.sg_facts.specs.declared.shape.Effect.{Effect}
-use Rattle.sg_facts.specs.declared.shape.Effect.TheVariants.{SetArg, AddArg}
-use Rattle.sg_facts.specs.declared.shape.FieldShape.{FieldShape}
-use Rattle.sg_facts.specs.Interface.{has_pair}
+use Rattle.sg_check_statements.specs.sg_facts.declared.shape.Effect.{Effect}
+use Rattle.sg_check_statements.specs.sg_facts.declared.shape.Effect.TheVariants.{SetArg, AddArg}
+use Rattle.sg_check_statements.specs.sg_facts.declared.shape.FieldShape.{FieldShape}
+use Rattle.sg_check_statements.specs.sg_facts.Interface.{has_pair}
 use Rattle.sg_check_statements.specs.Effects.{arg_effects}
 use Rattle.sg_check_statements.specs.NameSet.{has_name}
 use Rattle.sg_check_statements.specs.Params.{has_word}

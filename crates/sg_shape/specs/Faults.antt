@@ -4,7 +4,7 @@ use Rattle.std.specs.Bool.{then_some}
 use Rattle.std.specs.List.{position_or_len}
 use Rattle.std.specs.Option.{option_or}
 use Rattle.std.specs.declared.option.Option.{Option}
-use Rattle.sg_facts.specs.Allowed.{is_cross}
+use Rattle.sg_check_statements.specs.sg_facts.Allowed.{is_cross}
 use Rattle.sg_check_statements.specs.Flaws.{wrong_fact}
 use Rattle.sg_check_statements.specs.sg_parse.declared.tree.Tree.{Tree}
 use Rattle.sg_shape.specs.declared.fault.ShapeError.{ShapeError}

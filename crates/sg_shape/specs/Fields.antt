@@ -3,7 +3,7 @@ use Rattle.std.specs.Prelude.{◌==◌, Bool, false, ◌||◌, not, if◌then◌
 use Rattle.std.specs.List.{filter_map, flat_map}
 use Rattle.std.specs.Str.{bytes_eq}
 use Rattle.std.specs.declared.option.Option.{Option}
-use Rattle.sg_facts.specs.Facts.{Field}
+use Rattle.sg_check_statements.specs.sg_facts.Facts.{Field}
 use Rattle.sg_check_statements.specs.Params.{has_word}
 use Rattle.sg_check_statements.specs.sg_parse.declared.tree.Param.{Param}
 use Rattle.sg_check_statements.specs.sg_parse.declared.tree.Ret.{Ret}

@@ -5,10 +5,10 @@ use Rattle.std.specs.List.{filter_map, list_all, list_any}
 use Rattle.std.specs.Option.{option_map, option_map_or, option_or}
 use Rattle.std.specs.Str.{bytes_eq}
 use Rattle.std.specs.declared.option.Option.{Option}
-use Rattle.sg_facts.specs.declared.shape.Effect.{Effect}
-use Rattle.sg_facts.specs.Allowed.{count_args, each_arg, has_no_parents, is_never, is_text_field, leaves_known, leaves_own}
-use Rattle.sg_facts.specs.Facts.{Facts, Field, Fun, takes_desc, takes_parent, writes}
-use Rattle.sg_facts.specs.Limits.{most_fields, most_funs}
+use Rattle.sg_check_statements.specs.sg_facts.declared.shape.Effect.{Effect}
+use Rattle.sg_check_statements.specs.sg_facts.Allowed.{count_args, each_arg, has_no_parents, is_never, is_text_field, leaves_known, leaves_own}
+use Rattle.sg_check_statements.specs.sg_facts.Facts.{Facts, Field, Fun, takes_desc, takes_parent, writes}
+use Rattle.sg_check_statements.specs.sg_facts.Limits.{most_fields, most_funs}
 use Rattle.sg_check_statements.specs.Effects.{declared_effects, same_effect}
 use Rattle.sg_check_statements.specs.Flaws.{fun_of_name, leaves_another}
 use Rattle.sg_check_statements.specs.NameSet.{has_name}

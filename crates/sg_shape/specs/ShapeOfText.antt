@@ -4,15 +4,15 @@ use Rattle.std.specs.List.{cons_option, filter_map, flat_map, list_any, range_wi
 use Rattle.std.specs.Option.{option_map, option_map_or, option_or}
 use Rattle.std.specs.Str.{bytes_eq}
 use Rattle.std.specs.declared.option.Option.{Option}
-use Rattle.sg_facts.specs.declared.shape.Effect.{Effect}
-use Rattle.sg_facts.specs.declared.shape.Kind.{Kind}
-use Rattle.sg_facts.specs.declared.shape.Kind.TheVariants.{Desc, Parent, Word, Text}
-use Rattle.sg_facts.specs.declared.shape.Leaves.{Leaves}
-use Rattle.sg_facts.specs.declared.shape.Leaves.TheVariants.{Own, Same, Of}
-use Rattle.sg_facts.specs.declared.shape.Parents.{Parents}
-use Rattle.sg_facts.specs.declared.shape.Parents.TheVariants.{Never, Same as SameClient, Cross}
-use Rattle.sg_facts.specs.Facts.{Facts, Field, Fun}
-use Rattle.sg_facts.specs.Interface.{has_pair}
+use Rattle.sg_check_statements.specs.sg_facts.declared.shape.Effect.{Effect}
+use Rattle.sg_check_statements.specs.sg_facts.declared.shape.Kind.{Kind}
+use Rattle.sg_check_statements.specs.sg_facts.declared.shape.Kind.TheVariants.{Desc, Parent, Word, Text}
+use Rattle.sg_check_statements.specs.sg_facts.declared.shape.Leaves.{Leaves}
+use Rattle.sg_check_statements.specs.sg_facts.declared.shape.Leaves.TheVariants.{Own, Same, Of}
+use Rattle.sg_check_statements.specs.sg_facts.declared.shape.Parents.{Parents}
+use Rattle.sg_check_statements.specs.sg_facts.declared.shape.Parents.TheVariants.{Never, Same as SameClient, Cross}
+use Rattle.sg_check_statements.specs.sg_facts.Facts.{Facts, Field, Fun}
+use Rattle.sg_check_statements.specs.sg_facts.Interface.{has_pair}
 use Rattle.sg_check_statements.specs.Effects.{declared_effects}
 use Rattle.sg_check_statements.specs.Params.{has_word}
 use Rattle.sg_check_statements.specs.Says.{says}

@@ -2,7 +2,7 @@
 ghost use Rattle.std.specs.Prelude.{◌≡◌, ◌++◌, OnOk};
 ghost use Rattle.std.specs.Option.{option_to_list};
 
-use sg_facts::{ListOf, NoMemory};
+use sg_check_statements::{ListOf, NoMemory};
 
 /// Adds an element at the end of a list, where there is one.
 pub fn add<E: Drop>(list: &mut ListOf<E>, found: Option<E>) -> Result<(), NoMemory>

@@ -2,7 +2,7 @@
 ghost use Rattle.std.specs.Prelude.{◌≡◌, ◌<◌, ◌≤◌, [], ◌∷◌, ◌++◌, length, IfOk, OnOk};
 ghost use Rattle.std.specs.List.{flat_map, list_any};
 ghost use Rattle.std.specs.Option.{option_map, option_to_list};
-ghost use Rattle.sg_facts.specs.Limits.{most_fields};
+ghost use Rattle.sg_check_statements.specs.sg_facts.Limits.{most_fields};
 ghost use Rattle.sg_check_statements.specs.Effects.{arg_effects, declared_effects};
 ghost use Rattle.sg_check_statements.specs.Inside.Pieces.{caller_effects, later_effects, ret_effects, statement_effects};
 ghost use Rattle.sg_shape.specs.Flaws.{clash, has_two};
@@ -15,7 +15,7 @@ use crate::keeping::kept;
 use crate::params::is_id_param;
 use crate::protos::Proto;
 use sg_check_statements::{Param, Ret, Spelled, Statement, has_word};
-use sg_facts::{Effect, FieldShape, ListOf, NoMemory};
+use sg_check_statements::{Effect, FieldShape, ListOf, NoMemory};
 use std::alloc::Global;
 use std::marker::Model;
 
@@ -31,7 +31,7 @@ pub type EffectList<'a> = ListOf<NamedEffect<'a>>;
 
 impl<'a> Model for NamedEffect<'a> {
     ghost use Rattle.std.specs.Prelude.{ℕ, List};
-    ghost use Rattle.sg_facts.specs.declared.shape.Effect.{Effect};
+    ghost use Rattle.sg_check_statements.specs.sg_facts.declared.shape.Effect.{Effect};
 
     ghost Value = { List ℕ × Effect };
 

@@ -1,5 +1,5 @@
 // Why a text declares no shape by itself.
-use sg_facts::NoMemory;
+use sg_check_statements::NoMemory;
 use thiserror::Error;
 
 /// What is wrong with a text by itself, in the order in which it is looked for.

@@ -3,13 +3,13 @@ ghost use Rattle.std.specs.Prelude.{◌≡◌, map, take, slice_get, IfOk};
 ghost use Rattle.std.specs.List.{list_any};
 ghost use Rattle.std.specs.Option.{option_map};
 ghost use Rattle.std.specs.Str.{bytes_eq};
-ghost use Rattle.sg_facts.specs.Limits.{most_fields};
+ghost use Rattle.sg_check_statements.specs.sg_facts.Limits.{most_fields};
 ghost use Rattle.sg_shape.specs.Fields.{field_at, first_uses};
 ghost use Rattle.sg_shape.specs.Inside.Parts.{fields_in};
 
 use crate::keeping::{kept, kept_name};
 use crate::uses::{FieldUse, UseList};
-use sg_facts::{FieldShape, MOST_FIELDS, NoMemory};
+use sg_check_statements::{FieldShape, MOST_FIELDS, NoMemory};
 use std::alloc::Global;
 
 /// The fields of a text, as the first use of each has it: at most `MOST_FIELDS`, and the place of the first use of the next.

@@ -2,7 +2,7 @@
 ghost use Rattle.std.specs.Prelude.{◌≡◌, ◌≢◌, ◌≤◌, [], length, find, slice_get, unwrap_or, All, IfOk};
 ghost use Rattle.std.specs.List.{filter_map};
 ghost use Rattle.std.specs.Option.{option_map};
-ghost use Rattle.sg_facts.specs.Facts.{facts_of};
+ghost use Rattle.sg_check_statements.specs.sg_facts.Facts.{facts_of};
 ghost use Rattle.sg_check_statements.specs.Effects.{declared_effects};
 ghost use Rattle.sg_check_statements.specs.Flaws.{fun_of_name};
 ghost use Rattle.sg_check_statements.specs.NameSet.{has_name};
@@ -27,7 +27,7 @@ use sg_check_statements::{
     Protos, Statement, Tree, bare, bare_second, fun_number, fun_of_name, leaves_another, says,
     wrong_fact,
 };
-use sg_facts::{FieldShape, NoMemory, Parents, Shape};
+use sg_check_statements::{FieldShape, NoMemory, Parents, Shape};
 use std::alloc::Global;
 
 /// The first place at which something of a kind, which isn't `Limit`, is wrong with a text within the limits: one of this shape, with these

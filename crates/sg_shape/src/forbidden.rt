@@ -1,14 +1,14 @@
 // What no shape may have.
 ghost use Rattle.std.specs.Prelude.{◌≡◌, ◌≤◌, ◌==◌, length, map, not, count_by};
 ghost use Rattle.std.specs.List.{list_all, list_any};
-ghost use Rattle.sg_facts.specs.Allowed.{count_args, each_arg, has_no_parents, is_never, is_text_field, leaves_known, leaves_own};
-ghost use Rattle.sg_facts.specs.Facts.{facts_of, fun_of_shape, takes_parent, writes};
-ghost use Rattle.sg_facts.specs.Walks.{carries_arg};
+ghost use Rattle.sg_check_statements.specs.sg_facts.Allowed.{count_args, each_arg, has_no_parents, is_never, is_text_field, leaves_known, leaves_own};
+ghost use Rattle.sg_check_statements.specs.sg_facts.Facts.{facts_of, fun_of_shape, takes_parent, writes};
+ghost use Rattle.sg_check_statements.specs.sg_facts.Walks.{carries_arg};
 ghost use Rattle.sg_shape.specs.Flaws.{is_forbidden, replays};
 ghost use Rattle.sg_shape.specs.Inside.Parts.{fields_in};
 
 use crate::fault::ShapeFaultKind;
-use sg_facts::{Effect, FieldShape, FunShape, Kind, Leaves, Parents, Shape};
+use sg_check_statements::{Effect, FieldShape, FunShape, Kind, Leaves, Parents, Shape};
 
 /// Whether a function of a shape, with its number, has a flaw of a kind.
 pub fn is_forbidden(kind: ShapeFaultKind, shape: &Shape, number: usize, fun: &FunShape) -> bool

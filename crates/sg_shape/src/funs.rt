@@ -1,9 +1,9 @@
 // The functions of a text.
 ghost use Rattle.std.specs.Prelude.{◌≡◌, ◌<◌, ◌≤◌, ◌^◌, length, map, All, IfOk};
 ghost use Rattle.std.specs.Option.{option_copied};
-ghost use Rattle.sg_facts.specs.Facts.{fun_of_shape};
-ghost use Rattle.sg_facts.specs.Fields.{number_of};
-ghost use Rattle.sg_facts.specs.Limits.{most_fields, most_funs};
+ghost use Rattle.sg_check_statements.specs.sg_facts.Facts.{fun_of_shape};
+ghost use Rattle.sg_check_statements.specs.sg_facts.Fields.{number_of};
+ghost use Rattle.sg_check_statements.specs.sg_facts.Limits.{most_fields, most_funs};
 ghost use Rattle.sg_shape.specs.Fields.{fields_of_text};
 ghost use Rattle.sg_shape.specs.Inside.Parts.{fields_in, flags_said};
 ghost use Rattle.sg_shape.specs.Limits.{most_params};
@@ -15,7 +15,7 @@ use crate::keeping::{kept, kept_name};
 use crate::params::{kinds_of, later};
 use crate::protos::{Proto, number_in};
 use sg_check_statements::{Statement, says};
-use sg_facts::{FieldShape, FunShape, Leaves, NoMemory};
+use sg_check_statements::{FieldShape, FunShape, Leaves, NoMemory};
 use std::alloc::Global;
 
 /// The functions of a text with these prototypes and fields, kept to the end of the program.

@@ -1,7 +1,7 @@
 // Lists that are kept to the end of the program.
 ghost use Rattle.std.specs.Prelude.{◌≡◌, IfOk};
 
-use sg_facts::NoMemory;
+use sg_check_statements::NoMemory;
 use std::alloc::Global;
 
 /// A list that is kept to the end of the program, lent. Its memory is never given back.

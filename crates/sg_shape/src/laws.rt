@@ -1,6 +1,6 @@
 // Laws of the definitions.
 ghost use Rattle.std.specs.Prelude.{◌≡◌, ◌⊎◌, ℕ, true, [], ◌∷◌};
-ghost use Rattle.sg_facts.specs.Allowed.{is_allowed};
+ghost use Rattle.sg_check_statements.specs.sg_facts.Allowed.{is_allowed};
 ghost use Rattle.sg_check_statements.specs.Faults.{IsFault};
 ghost use Rattle.sg_check_statements.specs.Shapes.{is_shape};
 ghost use Rattle.sg_check_statements.specs.declared.fault.CheckKind.{CheckKind};

@@ -2,8 +2,8 @@
 ghost use Rattle.std.specs.Prelude.{◌≡◌, ◌≤◌, codes, length, map, nat_lt, All, IfOk};
 ghost use Rattle.std.specs.List.{list_any};
 ghost use Rattle.std.specs.Str.{bytes_eq};
-ghost use Rattle.sg_facts.specs.Facts.{facts_of, fun_of_shape};
-ghost use Rattle.sg_facts.specs.Limits.{most_fields, most_funs};
+ghost use Rattle.sg_check_statements.specs.sg_facts.Facts.{facts_of, fun_of_shape};
+ghost use Rattle.sg_check_statements.specs.sg_facts.Limits.{most_fields, most_funs};
 ghost use Rattle.sg_shape.specs.Fields.{first_uses, uses_of};
 ghost use Rattle.sg_shape.specs.Inside.Parts.{fields_in};
 ghost use Rattle.sg_shape.specs.Limits.{most_params};
@@ -17,7 +17,7 @@ use crate::pairs::pairs_of;
 use crate::protos::Proto;
 use crate::uses::FieldUse;
 use sg_check_statements::{Facts, Tree};
-use sg_facts::{FieldShape, FunShape, NoMemory, Parents, Shape};
+use sg_check_statements::{FieldShape, FunShape, NoMemory, Parents, Shape};
 use std::alloc::Global;
 
 /// The shape that a text within the limits declares: with these prototypes, and these first uses of its fields.

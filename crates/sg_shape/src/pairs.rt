@@ -1,8 +1,8 @@
 // The pairs of functions that a text names.
 ghost use Rattle.std.specs.Prelude.{◌≡◌, ◌≤◌, ◌++◌, [], ◌∷◌, if◌then◌else◌, List, filter, length, map, IfOk, OnOk};
 ghost use Rattle.std.specs.List.{filter_map, range_with_len};
-ghost use Rattle.sg_facts.specs.Interface.{has_pair};
-ghost use Rattle.sg_facts.specs.Limits.{most_funs};
+ghost use Rattle.sg_check_statements.specs.sg_facts.Interface.{has_pair};
+ghost use Rattle.sg_check_statements.specs.sg_facts.Limits.{most_funs};
 ghost use Rattle.sg_shape.specs.Prototypes.{protos_of};
 ghost use Rattle.sg_check_statements.specs.sg_parse.declared.tree.Statement.{Statement as One};
 ghost use Rattle.sg_shape.specs.ShapeOfText.{in_order, pair_in, pairs_of};
@@ -11,7 +11,7 @@ use crate::adding::add;
 use crate::keeping::kept;
 use crate::protos::{Proto, number_in};
 use sg_check_statements::{Statement, has_pair};
-use sg_facts::{NoMemory, PairList};
+use sg_check_statements::{NoMemory, PairList};
 use std::alloc::Global;
 
 /// The pairs of functions that statements name under a word, each once, in order, kept to the end of the program. The prototypes are those

@@ -7,7 +7,7 @@ ghost use Rattle.sg_shape.specs.ShapeOfText.{kind_of};
 
 use crate::keeping::kept;
 use sg_check_statements::{Param, has_word, is_caller};
-use sg_facts::{Kind, NoMemory};
+use sg_check_statements::{Kind, NoMemory};
 use std::alloc::Global;
 
 /// The parameters after the caller.

@@ -4,7 +4,7 @@ ghost use Rattle.sg_shape.specs.Prototypes.{names_of, number_from, proto_in, pro
 
 use crate::adding::add;
 use sg_check_statements::{Param, Ret, Spelled, Statement};
-use sg_facts::{ListOf, NoMemory};
+use sg_check_statements::{ListOf, NoMemory};
 use std::alloc::Global;
 use std::marker::Model;
 

@@ -2,9 +2,9 @@
 ghost use Rattle.std.specs.Prelude.{◌≡◌, ℕ, ◌<◌, ◌≤◌, List, None, Some, true, length, nat_lt, find, slice_get, All, IfErr, IfOk, OnOk};
 ghost use Rattle.std.specs.Option.{option_map};
 ghost use Rattle.std.specs.Result.{MatchResult};
-ghost use Rattle.sg_facts.specs.Allowed.{is_allowed};
-ghost use Rattle.sg_facts.specs.Facts.{facts_of};
-ghost use Rattle.sg_facts.specs.Limits.{most_fields, most_funs};
+ghost use Rattle.sg_check_statements.specs.sg_facts.Allowed.{is_allowed};
+ghost use Rattle.sg_check_statements.specs.sg_facts.Facts.{facts_of};
+ghost use Rattle.sg_check_statements.specs.sg_facts.Limits.{most_fields, most_funs};
 ghost use Rattle.sg_check_statements.specs.Shapes.{is_shape};
 ghost use Rattle.sg_check_statements.specs.sg_parse.declared.tree.Statement.{Statement as One};
 ghost use Rattle.sg_shape.specs.declared.fault.ShapeError.TheVariants.{Fault};
@@ -25,7 +25,7 @@ use crate::protos::{Proto, protos_of};
 use crate::rules::first_extra_rule;
 use crate::uses::{FieldUse, uses_of};
 use sg_check_statements::Tree;
-use sg_facts::{MOST_FUNS, Shape};
+use sg_check_statements::{MOST_FUNS, Shape};
 use std::alloc::Global;
 
 // The kinds that are looked for in a text within the limits, in their order.

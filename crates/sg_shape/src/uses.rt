@@ -7,7 +7,7 @@ ghost use Rattle.sg_shape.specs.Prototypes.{protos_of};
 use crate::adding::add;
 use crate::protos::Proto;
 use sg_check_statements::{Param, Ret, Spelled, Statement, has_word};
-use sg_facts::{ListOf, NoMemory};
+use sg_check_statements::{ListOf, NoMemory};
 use std::alloc::Global;
 use std::marker::Model;
 

@@ -8,18 +8,18 @@ use Rattle.std.proofs.lemmas.Bool.Decides.{eqb_tells, nat_tests}
 use Rattle.std.proofs.lemmas.List.Elements.{Contains-append_cases}
 use Rattle.std.proofs.lemmas.List.Quantifiers.{all_pairs_push}
 use Rattle.std.proofs.lemmas.Option.{slice_get-get_or}
-use Rattle.sg_facts.specs.declared.shape.Leaves.{Leaves}
-use Rattle.sg_facts.specs.declared.shape.Leaves.TheVariants.{Own, Same, Of}
-use Rattle.sg_facts.specs.declared.tables.WalkLine.{WalkLine}
-use Rattle.sg_facts.specs.Facts.{fun_at}
-use Rattle.sg_facts.specs.Inside.Rows.{left_by}
-use Rattle.sg_facts.specs.Fields.{number_of}
-use Rattle.sg_facts.specs.Fits.{Fits}
-use Rattle.sg_facts.specs.Inside.Walking.{LeavesDeclared, is_for, line_order}
-use Rattle.sg_facts.specs.Interface.{Declared, declares}
-use Rattle.sg_facts.specs.Tables.{AreTables, walk_of}
-use Rattle.sg_facts.specs.Walks.{IsReachable, IsWalkOf, made, moved}
-use Rattle.sg_facts.proofs.Halving.{not_found, of_before}
+use Rattle.sg_check.specs.sg_facts.declared.shape.Leaves.{Leaves}
+use Rattle.sg_check.specs.sg_facts.declared.shape.Leaves.TheVariants.{Own, Same, Of}
+use Rattle.sg_check.specs.sg_facts.declared.tables.WalkLine.{WalkLine}
+use Rattle.sg_check.specs.sg_facts.Facts.{fun_at}
+use Rattle.sg_check.specs.sg_facts.Inside.Rows.{left_by}
+use Rattle.sg_check.specs.sg_facts.Fields.{number_of}
+use Rattle.sg_check.specs.sg_facts.Fits.{Fits}
+use Rattle.sg_check.specs.sg_facts.Inside.Walking.{LeavesDeclared, is_for, line_order}
+use Rattle.sg_check.specs.sg_facts.Interface.{Declared, declares}
+use Rattle.sg_check.specs.sg_facts.Tables.{AreTables, walk_of}
+use Rattle.sg_check.specs.sg_facts.Walks.{IsReachable, IsWalkOf, made, moved}
+use Rattle.sg_check.proofs.sg_facts.Halving.{not_found, of_before}
 use Rattle.sg_check.proofs.sg_walk.ReachedStates.Closure.{there}
 use Rattle.sg_check.proofs.sg_walk.ReachedStates.Marks.{only}
 use Rattle.sg_check.proofs.sg_walk.ReachedStates.Reaching.{made_declared, place_reached}

@@ -9,12 +9,12 @@ use Rattle.std.specs.Ordering.{ordering_reverse}
 use Rattle.std.proofs.lemmas.Bool.{and_parts, cases_Bool, or_cases}
 use Rattle.std.proofs.lemmas.Bool.Decides.{nat_tests}
 use Rattle.std.proofs.lemmas.Cmp.{nat_cmp_total, on_total, then_total}
-use Rattle.sg_facts.specs.declared.tables.WalkLine.{WalkLine}
-use Rattle.sg_facts.specs.Fields.{number_of}
-use Rattle.sg_facts.specs.Interface.{Declared}
-use Rattle.sg_facts.specs.Tables.{AreTables, walk_of}
-use Rattle.sg_facts.specs.Inside.Walking.{is_for, line_order, no_worse}
-use Rattle.sg_facts.specs.Walks.{IsReachable, IsWalkOf, no_later}
+use Rattle.sg_check.specs.sg_facts.declared.tables.WalkLine.{WalkLine}
+use Rattle.sg_check.specs.sg_facts.Fields.{number_of}
+use Rattle.sg_check.specs.sg_facts.Interface.{Declared}
+use Rattle.sg_check.specs.sg_facts.Tables.{AreTables, walk_of}
+use Rattle.sg_check.specs.sg_facts.Inside.Walking.{is_for, line_order, no_worse}
+use Rattle.sg_check.specs.sg_facts.Walks.{IsReachable, IsWalkOf, no_later}
 use Rattle.sg_check.proofs.sg_walk.ReachedStates.Triples.{none_in}
 use Rattle.sg_check.proofs.Seeking.{walked_set}
 

@@ -6,7 +6,7 @@ use Rattle.std.proofs.lemmas.Bool.{and_parts, cases_Bool}
 use Rattle.std.proofs.lemmas.Bool.Decides.{eqb_tells}
 use Rattle.std.proofs.lemmas.List.{take_more}
 use Rattle.std.proofs.lemmas.List.Elements.{Contains-append_cases, Contains-append_left, Contains-append_right}
-use Rattle.sg_facts.specs.Interface.{Declared}
+use Rattle.sg_check.specs.sg_facts.Interface.{Declared}
 use Rattle.sg_check.specs.sg_walk.declared.place.Triple.{Triple}
 use Rattle.sg_check.specs.sg_walk.ReachedStates.Triples.{IsReachedTriple}
 use Rattle.sg_check.proofs.sg_walk.ReachedStates.Marks.{itself, only}

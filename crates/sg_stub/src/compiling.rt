@@ -1,11 +1,11 @@
 // The tables of an accepted interface.
 ghost use Rattle.std.specs.Prelude.{◌≡◌, IfOk};
-ghost use Rattle.sg_facts.specs.Tables.{AreTables};
+ghost use Rattle.sg_check.specs.sg_facts.Tables.{AreTables};
 
 use crate::lines::lines_of;
 use crate::triples::TripleSet;
 use sg_check::{Accepted, reachable};
-use sg_facts::{NoMemory, Tables, TryCopy};
+use sg_check::{NoMemory, Tables, TryCopy};
 use std::alloc::Global;
 
 /// The tables of an accepted interface: one line for each creation, state and set of fields that its descriptors can come to,

@@ -1,14 +1,14 @@
 // The lines of tables, in order.
 ghost use Rattle.std.specs.Prelude.{◌≡◌, ◌≤◌, ◌<◌, ◌+◌, true, IfOk, OnOk, length};
-ghost use Rattle.sg_facts.specs.Tables.{AreTables};
+ghost use Rattle.sg_check.specs.sg_facts.Tables.{AreTables};
 ghost use Rattle.sg_check.specs.Shapes.{IsSmall};
-ghost use Rattle.sg_facts.specs.Fits.{Fits};
+ghost use Rattle.sg_check.specs.sg_facts.Fits.{Fits};
 ghost use Rattle.sg_stub.specs.Inside.Lines.{AreBefore, IsLineOf};
 ghost use Rattle.sg_stub.specs.Inside.Triples.{AreIn, IsReachedBy};
 
 use crate::triples::TripleSet;
 use sg_check::{set_count, shortest};
-use sg_facts::{END_OF_FUNS, Interface, NoMemory, WalkLine, WalkList};
+use sg_check::{END_OF_FUNS, Interface, NoMemory, WalkLine, WalkList};
 use std::alloc::Global;
 
 /// A line for each of these triples, which are all that descriptors of an interface can come to.

@@ -3,7 +3,7 @@ ghost use Rattle.std.specs.Prelude.{◌≡◌, IfOk};
 ghost use Rattle.sg_stub.specs.Inside.Triples.{SameTriples, has_triple};
 
 use sg_check::Triple;
-use sg_facts::NoMemory;
+use sg_check::NoMemory;
 use std::alloc::Global;
 use std::collections::HashSet;
 use std::marker::Model;

@@ -1,11 +1,11 @@
 // What is answered on a text, and what is to be.
 ghost use Rattle.std.specs.Prelude.{◌≡◌, true, map};
-ghost use Rattle.sg_facts.specs.Facts.{facts_of};
+ghost use Rattle.sg_input.specs.sg_facts.Facts.{facts_of};
 ghost use Rattle.sg_input.specs.sg_check_statements.Shapes.{are_shapes};
 
 use crate::edits::{Edit, Layout, edited};
 use crate::shapes::standard_shapes;
-use sg_facts::Shape;
+use sg_input::Shape;
 use sg_input::{Accepted, CheckError, CheckKind, check, column_of, line_of, parse};
 use std::alloc::Global;
 use std::process::Abort;

@@ -1,10 +1,10 @@
 // Against which shapes a text is checked.
 ghost use Rattle.std.specs.Prelude.{◌≡◌, true};
-ghost use Rattle.sg_facts.specs.Facts.{facts_of};
+ghost use Rattle.sg_input.specs.sg_facts.Facts.{facts_of};
 ghost use Rattle.sg_input.specs.sg_check_statements.Shapes.{is_shape};
 
 use crate::answers::answer;
-use sg_facts::Shape;
+use sg_input::Shape;
 use sg_input::CheckKind::{UnknownFunction, UnknownService};
 use sg_load::kind::{EventService, LockService};
 use std::test::Fail;

@@ -1,8 +1,8 @@
 // Interfaces that no text declares.
 ghost use Rattle.std.specs.Prelude.{IfOk};
-ghost use Rattle.sg_facts.specs.Interface.{HasFewFields};
+ghost use Rattle.sg_input.specs.sg_facts.Interface.{HasFewFields};
 
-use sg_facts::{Interface, MOST_FIELDS, PairList, Shape};
+use sg_input::{Interface, MOST_FIELDS, PairList, Shape};
 use std::alloc::Global;
 use std::test::Fail;
 

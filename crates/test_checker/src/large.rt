@@ -1,10 +1,10 @@
 // Large services and long texts. No proof speaks of time, nor of memory that there is.
 ghost use Rattle.std.specs.Prelude.{◌≡◌, false, true};
-ghost use Rattle.sg_facts.specs.Facts.{facts_of};
+ghost use Rattle.sg_input.specs.sg_facts.Facts.{facts_of};
 ghost use Rattle.sg_input.specs.sg_check_statements.Shapes.{is_shape};
 
 use crate::answers::{Answer, accepted, answer};
-use sg_facts::{Effect, FieldShape, FunShape, Kind, Leaves, Parents, Shape};
+use sg_input::{Effect, FieldShape, FunShape, Kind, Leaves, Parents, Shape};
 use sg_input::CheckKind::NoWalk;
 use sg_input::compile;
 use sg_load::kind::LockService;

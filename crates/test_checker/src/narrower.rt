@@ -1,14 +1,14 @@
 // What an accepted text declares: its functions, and of the service's transitions and recover steps those that it names, in
 // the service's order.
 ghost use Rattle.std.specs.Prelude.{◌≡◌, true, map};
-ghost use Rattle.sg_facts.specs.Facts.{facts_of};
+ghost use Rattle.sg_input.specs.sg_facts.Facts.{facts_of};
 ghost use Rattle.sg_input.specs.sg_check_statements.Shapes.{are_shapes};
 
 use crate::answers::accepted;
 use crate::edits::Edit::{self, Front, Then, Twice, Without};
 use crate::edits::edited;
 use crate::shapes::standard_shapes;
-use sg_facts::{Interface, Shape};
+use sg_input::{Interface, Shape};
 use std::alloc::Global;
 use std::process::Abort;
 use std::test::Fail;

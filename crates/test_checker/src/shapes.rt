@@ -1,6 +1,6 @@
 // The shapes of all standard services.
 ghost use Rattle.std.specs.Prelude.{◌≡◌, true, [], ◌∷◌, map};
-ghost use Rattle.sg_facts.specs.Facts.{facts_of};
+ghost use Rattle.sg_input.specs.sg_facts.Facts.{facts_of};
 ghost use Rattle.sg_load.specs.Services.sg_lock.LockFacts.{lock_facts};
 ghost use Rattle.sg_load.specs.Services.sg_event.EventFacts.{event_facts};
 ghost use Rattle.sg_load.specs.Services.sg_mm.MmFacts.{mm_facts};
@@ -9,7 +9,7 @@ ghost use Rattle.sg_load.specs.Services.sg_sched.SchedFacts.{sched_facts};
 ghost use Rattle.sg_load.specs.Services.sg_timer.TimerFacts.{timer_facts};
 ghost use Rattle.sg_input.specs.sg_check_statements.Shapes.{are_shapes};
 
-use sg_facts::Shape;
+use sg_input::Shape;
 use sg_load::kind::{
     EventService, LockService, MmService, RamfsService, SchedService, TimerService,
 };

@@ -1,7 +1,7 @@
 // The tables of the standard interfaces, and their text.
 use crate::answers::accepted;
 use crate::shapes::standard_shapes;
-use sg_facts::Tables;
+use sg_input::Tables;
 use sg_input::{Read, compile, compiled};
 use std::alloc::Global;
 use std::process::Abort;

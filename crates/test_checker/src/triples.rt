@@ -1,8 +1,8 @@
 // What descriptors come to: the creation, the state and the set of fields.
-ghost use Rattle.sg_facts.specs.Interface.{HasFewFields};
+ghost use Rattle.sg_input.specs.sg_facts.Interface.{HasFewFields};
 
 use crate::interfaces::{Pairs, interface};
-use sg_facts::{Interface, NoMemory, Shape};
+use sg_input::{Interface, NoMemory, Shape};
 use sg_input::{Triple, reachable};
 use sg_load::kind::{EventService, LockService, RamfsService};
 use std::alloc::Global;

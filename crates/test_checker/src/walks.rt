@@ -1,8 +1,8 @@
 // The walks by which descriptors are rebuilt.
-ghost use Rattle.sg_facts.specs.Interface.{HasFewFields};
+ghost use Rattle.sg_input.specs.sg_facts.Interface.{HasFewFields};
 
 use crate::interfaces::{Pairs, interface};
-use sg_facts::{FunShape, Interface, Leaves, NoMemory, Parents, Shape, Walk};
+use sg_input::{FunShape, Interface, Leaves, NoMemory, Parents, Shape, Walk};
 use sg_input::{restores, shortest};
 use sg_load::kind::{
     EventService, LockService, MmService, RamfsService, SchedService, TimerService,

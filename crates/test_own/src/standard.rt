@@ -1,5 +1,5 @@
 // The shape that is read of each standard interface.
-use sg_facts::{Service, Shape};
+use sg_shape::{Service, Shape};
 use sg_load::ServiceKind;
 use sg_shape::{parse, shape_of};
 use std::alloc::Global;

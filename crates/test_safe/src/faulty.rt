@@ -1,16 +1,16 @@
 // Services that can't be recovered.
 ghost use Rattle.std.specs.Prelude.{◌≡◌, ◌≤◌, true, length};
-ghost use Rattle.sg_facts.specs.Limits.{most_funs};
-ghost use Rattle.sg_described.specs.Described.{described_of};
-ghost use Rattle.sg_described.specs.Safe.{is_plain};
+ghost use Rattle.sg_safe.specs.sg_facts.Limits.{most_funs};
+ghost use Rattle.sg_safe.specs.sg_described.Described.{described_of};
+ghost use Rattle.sg_safe.specs.sg_described.Safe.{is_plain};
 
 use crate::parts::{ARGUMENT, DONE, SINGLE};
 use crate::services::{
     EVENT_SHAPE, GIVES, LOCK_ALLOC, LOCK_ANSWERS, LOCK_FREE, LOCK_SHAPE, LOCK_TAKE, SEM_ANSWERS,
     SEM_DOWN, SEM_FREE, SEM_MAKE, SEM_SHAPE, SEM_UP, WAITS,
 };
-use sg_described::{AnswerShape, Description, Operand, Relation, RuleShape, Term, Test, Verdict};
-use sg_facts::{Code, Effect, FunShape, Kind, Leaves, Shape};
+use sg_safe::{AnswerShape, Description, Operand, Relation, RuleShape, Term, Test, Verdict};
+use sg_safe::{Code, Effect, FunShape, Kind, Leaves, Shape};
 
 // ---- a replayed call that may be refused
 

@@ -1,6 +1,6 @@
 // What descriptions here are made of.
-use sg_described::{AnswerShape, Operand, Relation, RuleShape, Term, Test, Verdict};
-use sg_facts::{FieldShape, Parents, Shape};
+use sg_safe::{AnswerShape, Operand, Relation, RuleShape, Term, Test, Verdict};
+use sg_safe::{FieldShape, Parents, Shape};
 
 /// The caller.
 pub(crate) const CALLER: Term = Term::Only(Operand::Caller);

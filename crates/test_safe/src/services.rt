@@ -1,12 +1,12 @@
 // Services that can be recovered.
 ghost use Rattle.std.specs.Prelude.{◌≡◌, ◌≤◌, true, length};
-ghost use Rattle.sg_facts.specs.Limits.{most_funs};
-ghost use Rattle.sg_described.specs.Described.{described_of};
-ghost use Rattle.sg_described.specs.Safe.{is_plain};
+ghost use Rattle.sg_safe.specs.sg_facts.Limits.{most_funs};
+ghost use Rattle.sg_safe.specs.sg_described.Described.{described_of};
+ghost use Rattle.sg_safe.specs.sg_described.Safe.{is_plain};
 
 use crate::parts::{CALLER, DONE, FIELD, SINGLE, WAIT_AT_ZERO, ZERO};
-use sg_described::{AnswerShape, Description, Operand, Relation, RuleShape, Term, Test, Verdict};
-use sg_facts::{Code, Effect, FieldShape, FunShape, Kind, Leaves, Shape};
+use sg_safe::{AnswerShape, Description, Operand, Relation, RuleShape, Term, Test, Verdict};
+use sg_safe::{Code, Effect, FieldShape, FunShape, Kind, Leaves, Shape};
 
 // ---- locks
 

@@ -1,16 +1,16 @@
 // What is found of each service.
 ghost use Rattle.std.specs.Prelude.{◌≡◌, ◌≤◌, true, length};
-ghost use Rattle.sg_facts.specs.Limits.{most_funs};
-ghost use Rattle.sg_described.specs.Described.{described_of};
-ghost use Rattle.sg_described.specs.Safe.{is_plain};
+ghost use Rattle.sg_safe.specs.sg_facts.Limits.{most_funs};
+ghost use Rattle.sg_safe.specs.sg_described.Described.{described_of};
+ghost use Rattle.sg_safe.specs.sg_described.Safe.{is_plain};
 
 use crate::faulty::{
     counter, crate_overfull, forgetful_lock, heap, limited_event, mute_semaphore, tally,
 };
 use crate::services::{event, lock, semaphore};
-use sg_described::{Bounds, Description};
+use sg_safe::{Bounds, Description};
 use sg_safe::{FailingCall, KnownField, Obstacle, SafeError, Unsafe, safe};
-use sg_walk::FieldState;
+use sg_safe::FieldState;
 use std::alloc::Global;
 use std::process::Abort;
 use std::test::Fail;

@@ -2,10 +2,10 @@
 use Rattle.std.specs.Prelude.{ℕ, ◌≡◌, ◌+◌, ◌⊎◌, Bool, true, List}
 use Rattle.std.specs.declared.result.Result.{Result}
 use Rattle.std.specs.Result.{MatchResult}
-use Rattle.sg_facts.specs.Facts.{Facts, facts_of}
-use Rattle.sg_facts.specs.Fits.{IsReached}
-use Rattle.sg_facts.specs.Interface.{Declared}
-use Rattle.sg_facts.specs.Walks.{IsReachable}
+use Rattle.sg_check_statements.specs.sg_facts.Facts.{Facts, facts_of}
+use Rattle.sg_check_statements.specs.sg_facts.Fits.{IsReached}
+use Rattle.sg_check_statements.specs.sg_facts.Interface.{Declared}
+use Rattle.sg_check_statements.specs.sg_facts.Walks.{IsReachable}
 use Rattle.sg_check_statements.specs.sg_parse.declared.tree.Tree.{Tree}
 use Rattle.sg_check_statements.specs.declared.fault.CheckError.{CheckError}
 use Rattle.sg_check_statements.specs.Faults.{interface_of}

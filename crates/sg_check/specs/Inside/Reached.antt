@@ -1,9 +1,9 @@
 -- The states that descriptors can come to, and the functions that can't be reached.
 use Rattle.std.specs.Prelude.{ℕ, ◌≡◌, ◌≤◌, ◌==◌, ◌↔◌, ◌⊎◌, Bool, true, ◌&&◌, ◌||◌, not, List}
 use Rattle.std.specs.List.{Contains, list_any}
-use Rattle.sg_facts.specs.Fits.{IsReached, needs_reach}
-use Rattle.sg_facts.specs.Interface.{Declared}
-use Rattle.sg_facts.specs.Limits.{most_funs}
+use Rattle.sg_check_statements.specs.sg_facts.Fits.{IsReached, needs_reach}
+use Rattle.sg_check_statements.specs.sg_facts.Interface.{Declared}
+use Rattle.sg_check_statements.specs.sg_facts.Limits.{most_funs}
 use Rattle.sg_walk.specs.declared.place.Triple.{Triple}
 use Rattle.sg_walk.specs.ReachedStates.Triples.{IsReachedTriple}
 use Rattle.sg_check_statements.specs.Inside.Pieces.{IsUnreached}

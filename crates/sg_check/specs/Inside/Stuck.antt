@@ -1,9 +1,9 @@
 -- The states in which some descriptor has no walk.
 use Rattle.std.specs.Prelude.{ℕ, ◌≡◌, ◌≤◌, ◌⊎◌, Bool, true, false, List, length}
 use Rattle.std.specs.List.{Contains}
-use Rattle.sg_facts.specs.Fields.{number_of}
-use Rattle.sg_facts.specs.Interface.{Declared}
-use Rattle.sg_facts.specs.Walks.{IsReachable, begin_of, most_calls, restores}
+use Rattle.sg_check_statements.specs.sg_facts.Fields.{number_of}
+use Rattle.sg_check_statements.specs.sg_facts.Interface.{Declared}
+use Rattle.sg_check_statements.specs.sg_facts.Walks.{IsReachable, begin_of, most_calls, restores}
 use Rattle.sg_walk.specs.declared.place.Triple.{Triple}
 use Rattle.sg_check_statements.specs.Flaws.{HasNoWalk}
 use Rattle.sg_check.specs.Inside.Numbers.{has_number}

@@ -1,7 +1,7 @@
 -- How many names and parameters there are.
 use Rattle.std.specs.Prelude.{◌≤◌, length}
-use Rattle.sg_facts.specs.Facts.{Facts, Fun}
-use Rattle.sg_facts.specs.Limits.{most_fields, most_funs}
+use Rattle.sg_shape.specs.sg_facts.Facts.{Facts, Fun}
+use Rattle.sg_shape.specs.sg_facts.Limits.{most_fields, most_funs}
 
 -- a shape has no more functions and fields than it may have
 pub record HasFewNames (facts : Facts) : Type 0 where

@@ -1,6 +1,6 @@
 -- How far a text is found to be without flaw.
 use Rattle.std.specs.Prelude.{ℕ, ◌≡◌, ◌<◌, None}
-use Rattle.sg_check_statements.specs.sg_parse.declared.tree.Tree.{Tree}
+use Rattle.sg_shape.specs.sg_check_statements.sg_parse.declared.tree.Tree.{Tree}
 use Rattle.sg_describe.specs.declared.fault.AnswerFaultKind.{AnswerFaultKind}
 use Rattle.sg_describe.specs.AnswerFaults.{answer_place, answer_rank}
 

@@ -1,12 +1,12 @@
 -- Parts of what is told, each by itself.
 use Rattle.std.specs.Prelude.{ℕ, ◌≡◌, ◌+◌, ◌==◌, ◌&&◌, ◌||◌, not, if◌then◌else◌, List, [], ◌∷◌, ◌++◌, codes, count_by, length}
 use Rattle.std.specs.List.{concat, flat_map, list_any}
-use Rattle.sg_facts.specs.Facts.{Facts, Field}
-use Rattle.sg_facts.specs.Interface.{Declared}
-use Rattle.sg_facts.specs.Tables.{AreTables}
-use Rattle.sg_facts.specs.Words.{line_end}
-use Rattle.sg_facts.specs.declared.tables.WalkLine.{WalkLine}
-use Rattle.sg_script.specs.declared.script.Script.{Script}
+use Rattle.sg_input.specs.sg_facts.Facts.{Facts, Field}
+use Rattle.sg_input.specs.sg_facts.Interface.{Declared}
+use Rattle.sg_input.specs.sg_facts.Tables.{AreTables}
+use Rattle.sg_input.specs.sg_facts.Words.{line_end}
+use Rattle.sg_input.specs.sg_facts.declared.tables.WalkLine.{WalkLine}
+use Rattle.sg_input.specs.sg_script.declared.script.Script.{Script}
 use Rattle.sg_input.specs.sg_walk.declared.place.Triple.{Triple}
 use Rattle.sg_input.specs.sg_print.TablesText.{set_names}
 use Rattle.sg_input.specs.Lines.{too_long_line}

@@ -1,6 +1,6 @@
 -- What comes of a text that describes a service of its own, before anything is said of it.
 use Rattle.std.specs.Prelude.{ℕ, List}
-use Rattle.sg_facts.specs.Interface.{Declared}
+use Rattle.sg_explain.specs.sg_facts.Interface.{Declared}
 use Rattle.sg_explain.specs.sg_input.sg_print.sg_parse.declared.tree.Tree.{Tree}
 use Rattle.sg_explain.specs.sg_input.declared.read.Read.{Read}
 use Rattle.sg_explain.specs.sg_input.declared.read.Read.TheVariants.{Ready, Refused}

@@ -6,8 +6,8 @@ use Rattle.std.specs.Option.{option_map}
 use Rattle.std.proofs.Math.Dec.{eqb-suc-zero}
 use Rattle.std.proofs.lemmas.List.{append-nil}
 use Rattle.std.proofs.lemmas.List.Elements.{All-nil}
-use Rattle.sg_lex.specs.declared.token.TokenKind.TheVariants.{Word, Number, Mark}
-use Rattle.sg_lex.specs.Lexeme.{Lexeme, Spelling as Named}
+use Rattle.sg_rules.specs.sg_lex.declared.token.TokenKind.TheVariants.{Word, Number, Mark}
+use Rattle.sg_rules.specs.sg_lex.Lexeme.{Lexeme, Spelling as Named}
 use Rattle.sg_parse.specs.declared.tree.Statement.{Statement}
 use Rattle.sg_parse.specs.declared.tree.Ret.{Ret}
 use Rattle.sg_parse.specs.declared.tree.Ret.TheVariants.{Plain, Set, Add, Sub}
@@ -17,8 +17,8 @@ use Rattle.sg_parse.specs.declared.tree.Tree.{Tree}
 use Rattle.sg_parse.specs.declared.words.Sort.{Sort}
 use Rattle.sg_parse.specs.declared.words.Sort.TheVariants.{Name, One, Two, Form, Parents, Closing, Flag}
 use Rattle.sg_parse.specs.Grammar.Words.{is_of}
-use Rattle.sg_lex.specs.Inside.Tests.{has_kind}
-use Rattle.sg_lex.proofs.Automata.{Runs, runs-append}
+use Rattle.sg_rules.specs.sg_lex.Inside.Tests.{has_kind}
+use Rattle.sg_rules.proofs.sg_lex.Automata.{Runs, runs-append}
 use Rattle.sg_rules.specs.declared.version.Newer.{Newer}
 use Rattle.sg_rules.specs.declared.version.Newer.TheVariants.{Second, Third}
 use Rattle.sg_rules.specs.declared.tree.Rule.{Rule}
@@ -31,7 +31,7 @@ use Rattle.sg_rules.proofs.Grammar.Basics.{token_of as fixed_token}
 use Rattle.sg_rules.proofs.Grammar.Steps.{spelt_from}
 use Rattle.sg_rules.proofs.Grammar.Runs.{reached_end, rules_at_end}
 use Rattle.sg_parse.specs.Grammar.Pieces.{Piece, word, mark, name, number, version_number, kept, newer, rule, IsPiece}
-use Rattle.sg_lex.specs.Sentences.{ArePieces}
+use Rattle.sg_rules.specs.sg_lex.Sentences.{ArePieces}
 use Rattle.sg_parse.specs.Grammar.Sentence.{IsStatement}
 use Rattle.sg_parse.specs.Grammar.Inside.Forms.{star, comma, close_brace, close_bracket, IsType}
 use Rattle.sg_parse.specs.Grammar.Inside.States.{State, dead, due, fork, want, want_number, versioned, names, stars, either, listed, fielded, answering, statements, in_newer, has_sort, fits, named_by, type_of, declared, with_param, param, one_rest, two_rest, proto_rest, returned_after, returned_rest, external_rest, most_rest, unique_rest, answer_rest, kept_after, plain_rest, statement_after, with_statement, fact, head_end, first_end, newer_end, head0, head1, head2, head3, head4, head5, head6, start, answering_after, step}

@@ -5,11 +5,11 @@ use Rattle.std.specs.declared.option.Option.{Option}
 use Rattle.std.specs.List.{list_all}
 use Rattle.std.specs.Cmp.Lexicographic.{pointwise, bytes_decides}
 use Rattle.std.proofs.lemmas.Bool.{eq-eqb, eqb-true}
-use Rattle.sg_lex.specs.declared.token.TokenKind.{TokenKind}
-use Rattle.sg_lex.specs.declared.token.TokenKind.TheVariants.{Word, Number, Mark}
-use Rattle.sg_lex.specs.Lexeme.{Lexeme, Spelling as Named}
-use Rattle.sg_lex.specs.Inside.Tests.{same_kind, has_kind}
-use Rattle.sg_lex.proofs.SameKinds.{kind_is}
+use Rattle.sg_rules.specs.sg_lex.declared.token.TokenKind.{TokenKind}
+use Rattle.sg_rules.specs.sg_lex.declared.token.TokenKind.TheVariants.{Word, Number, Mark}
+use Rattle.sg_rules.specs.sg_lex.Lexeme.{Lexeme, Spelling as Named}
+use Rattle.sg_rules.specs.sg_lex.Inside.Tests.{same_kind, has_kind}
+use Rattle.sg_rules.proofs.sg_lex.SameKinds.{kind_is}
 use Rattle.sg_rules.specs.declared.version.Newer.TheVariants.{Second, Third}
 use Rattle.sg_rules.specs.declared.words.Wanted.TheVariants.{Name as rule_name}
 use Rattle.sg_rules.specs.Versions.{is_kept, seen}

@@ -9,7 +9,7 @@ use Rattle.sg_parse.specs.declared.tree.TypeName.{TypeName}
 use Rattle.sg_parse.specs.declared.tree.Param.{Param}
 use Rattle.sg_parse.specs.declared.tree.Tree.{Tree}
 use Rattle.sg_parse.specs.declared.words.Sort.TheVariants.{Name, Form}
-use Rattle.sg_lex.specs.Lexeme.{Spelling as Named}
+use Rattle.sg_rules.specs.sg_lex.Lexeme.{Spelling as Named}
 use Rattle.sg_parse.specs.Grammar.Pieces.{Piece, name}
 use Rattle.sg_parse.specs.Grammar.Sentence.{type_pieces, param_pieces}
 use Rattle.sg_parse.specs.Grammar.Inside.Forms.{star, open_bracket, close_bracket, form_pieces, more_params, IsType}

@@ -4,8 +4,8 @@ use Rattle.std.specs.Prelude.{None, Some, All, codes}
 use Rattle.std.specs.declared.option.Option.{Option}
 use Rattle.std.specs.List.{flat_map}
 use Rattle.std.proofs.lemmas.List.Elements.{All-cons, All-head, All-tail}
-use Rattle.sg_lex.specs.declared.token.TokenKind.TheVariants.{Word, Mark}
-use Rattle.sg_lex.specs.Lexeme.{Lexeme, Spelling as Named}
+use Rattle.sg_rules.specs.sg_lex.declared.token.TokenKind.TheVariants.{Word, Mark}
+use Rattle.sg_rules.specs.sg_lex.Lexeme.{Lexeme, Spelling as Named}
 use Rattle.sg_parse.specs.declared.tree.Statement.{Statement}
 use Rattle.sg_parse.specs.declared.tree.Statement.TheVariants.{One, Two, Proto, External, Most, Unique, Answer}
 use Rattle.sg_parse.specs.declared.tree.Ret.{Ret}

@@ -4,16 +4,16 @@ use Rattle.std.specs.Prelude.{Ok, Err, None, Some}
 use Rattle.std.specs.declared.option.Option.{Option}
 use Rattle.std.specs.Option.{option_map, option_map_or}
 use Rattle.std.specs.declared.result.Result.{Result}
-use Rattle.sg_lex.specs.Lexeme.{Lexeme}
-use Rattle.sg_lex.specs.Sentences.{Fails, IsNoToken, EndsAt}
-use Rattle.sg_lex.specs.Tokens.{Answer}
-use Rattle.sg_lex.proofs.Automata.{reads_no_other}
-use Rattle.sg_lex.proofs.Answers.{may_answer as any_may, only_value, only_byte, only_token}
+use Rattle.sg_rules.specs.sg_lex.Lexeme.{Lexeme}
+use Rattle.sg_rules.specs.sg_lex.Sentences.{Fails, IsNoToken, EndsAt}
+use Rattle.sg_rules.specs.sg_lex.Tokens.{Answer}
+use Rattle.sg_rules.proofs.sg_lex.Automata.{reads_no_other}
+use Rattle.sg_rules.proofs.sg_lex.Answers.{may_answer as any_may, only_value, only_byte, only_token}
 use Rattle.sg_rules.specs.declared.error.ParseError.{ParseError}
 use Rattle.sg_rules.specs.declared.error.ParseError.TheVariants.{NoMemory, Lex, Syntax}
 use Rattle.sg_parse.specs.declared.tree.Tree.{Tree}
 use Rattle.sg_parse.specs.Grammar.Sentence.{IsSentence}
-use Rattle.sg_lex.specs.Inside.Automata.{Reading, read, read_from}
+use Rattle.sg_rules.specs.sg_lex.Inside.Automata.{Reading, read, read_from}
 use Rattle.sg_rules.specs.declared.version.Newer.{Newer}
 use Rattle.sg_rules.specs.declared.tree.Rule.{Rule}
 use Rattle.sg_rules.specs.Versions.{seen}

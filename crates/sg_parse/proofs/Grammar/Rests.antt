@@ -3,7 +3,7 @@ use Rattle.std.proofs.Common.{◌≡◌, ℕ, ◌+◌, ◌⊎◌, Bool, false, L
 use Rattle.std.specs.Prelude.{Some, codes, replicate, All}
 use Rattle.std.specs.List.{flat_map}
 use Rattle.std.specs.Cmp.Lexicographic.{pointwise}
-use Rattle.sg_lex.specs.Lexeme.{Lexeme, Spelling as Named}
+use Rattle.sg_rules.specs.sg_lex.Lexeme.{Lexeme, Spelling as Named}
 use Rattle.sg_parse.specs.declared.tree.Statement.{Statement}
 use Rattle.sg_parse.specs.declared.tree.Param.{Param}
 use Rattle.sg_parse.specs.declared.tree.Tree.{Tree}

@@ -4,10 +4,10 @@ use Rattle.std.specs.Prelude.{None, Some, All, codes, replicate}
 use Rattle.std.specs.List.{flat_map}
 use Rattle.std.proofs.lemmas.List.{append-nil}
 use Rattle.std.proofs.lemmas.List.Elements.{All-nil}
-use Rattle.sg_lex.specs.Lexeme.{Lexeme, Spelling as Named}
-use Rattle.sg_lex.specs.Sentences.{Begins, ArePieces}
-use Rattle.sg_lex.proofs.Automata.{Runs}
-use Rattle.sg_lex.proofs.Answers.{Reached, ReadsJust}
+use Rattle.sg_rules.specs.sg_lex.Lexeme.{Lexeme, Spelling as Named}
+use Rattle.sg_rules.specs.sg_lex.Sentences.{Begins, ArePieces}
+use Rattle.sg_rules.proofs.sg_lex.Automata.{Runs}
+use Rattle.sg_rules.proofs.sg_lex.Answers.{Reached, ReadsJust}
 use Rattle.sg_rules.specs.declared.error.ParseError.{ParseError}
 use Rattle.sg_rules.specs.declared.version.Newer.{Newer}
 use Rattle.sg_rules.specs.declared.version.Newer.TheVariants.{Second, Third}

@@ -1,9 +1,9 @@
 -- What a parser has to answer on a text.
 use Rattle.std.specs.Prelude.{◌≡◌, ℕ, List, Ok, Err, length, map}
 use Rattle.std.specs.declared.result.Result.{Result}
-use Rattle.sg_lex.specs.Lexeme.{Lexeme}
-use Rattle.sg_lex.specs.Sentences.{Fails, IsNoToken, EndsAt}
-use Rattle.sg_lex.specs.Tokens.{answers_of}
+use Rattle.sg_rules.specs.sg_lex.Lexeme.{Lexeme}
+use Rattle.sg_rules.specs.sg_lex.Sentences.{Fails, IsNoToken, EndsAt}
+use Rattle.sg_rules.specs.sg_lex.Tokens.{answers_of}
 use Rattle.sg_rules.specs.declared.error.ParseError.{ParseError}
 use Rattle.sg_rules.specs.declared.error.ParseError.TheVariants.{NoMemory, Lex, Syntax}
 use Rattle.sg_parse.specs.declared.tree.Tree.{Tree}

@@ -1,7 +1,7 @@
 -- What each token of a sentence has to be.
 use Rattle.std.specs.Prelude.{◌≡◌, ℕ, Bool, true, false, ◌==◌, if◌then◌else◌, List, [], ◌∷◌}
-use Rattle.sg_lex.specs.declared.token.TokenKind.TheVariants.{Word, Number, Mark}
-use Rattle.sg_lex.specs.Lexeme.{Lexeme, Spelling}
+use Rattle.sg_rules.specs.sg_lex.declared.token.TokenKind.TheVariants.{Word, Number, Mark}
+use Rattle.sg_rules.specs.sg_lex.Lexeme.{Lexeme, Spelling}
 use Rattle.sg_rules.specs.declared.version.Newer.{Newer}
 use Rattle.sg_rules.specs.declared.version.Newer.TheVariants.{Second, Third}
 use Rattle.sg_rules.specs.Versions.{seen}

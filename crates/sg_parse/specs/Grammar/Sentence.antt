@@ -1,8 +1,8 @@
 -- Which tokens are a sentence of the grammar, and of which tree.
 use Rattle.std.specs.Prelude.{◌≡◌, ◌≢◌, ◌⊎◌, ◌==◌, Bool, false, if◌then◌else◌, ℕ, List, [], ◌∷◌, ◌++◌, None, Some, codes, map, replicate, All}
 use Rattle.std.specs.List.{flat_map}
-use Rattle.sg_lex.specs.Lexeme.{Lexeme, Spelling}
-use Rattle.sg_lex.specs.Sentences.{ArePieces, separated}
+use Rattle.sg_rules.specs.sg_lex.Lexeme.{Lexeme, Spelling}
+use Rattle.sg_rules.specs.sg_lex.Sentences.{ArePieces, separated}
 use Rattle.sg_parse.specs.declared.tree.Facts.{Facts}
 use Rattle.sg_parse.specs.declared.tree.Statement.{Statement}
 use Rattle.sg_parse.specs.declared.tree.Statement.TheVariants.{One, Two, Proto, External, Most, Unique, Answer}

@@ -7,7 +7,7 @@ use Rattle.sg_parse.specs.declared.tree.Statement.{Statement}
 use Rattle.sg_parse.specs.declared.tree.Statement.TheVariants.{One, Two, Proto}
 use Rattle.sg_parse.specs.declared.tree.Tree.{Tree}
 use Rattle.sg_parse.specs.declared.tree.TypeName.{TypeName}
-use Rattle.sg_lex.specs.Lexeme.{Spelling}
+use Rattle.sg_rules.specs.sg_lex.Lexeme.{Spelling}
 
 -- a tree of version 1 as one of version 2, which rebuilds descriptors on demand; any other as it is
 abbrev pub upgraded : Tree → Tree

@@ -2,15 +2,15 @@
 use Rattle.std.specs.Prelude.{ℕ, ◌≡◌, suc, not, nat_le, List, [], ◌∷◌, None, Some}
 use Rattle.std.specs.Bool.{then_some}
 use Rattle.std.specs.declared.option.Option.{Option}
-use Rattle.sg_facts.specs.declared.shape.Effect.{Effect}
-use Rattle.sg_facts.specs.Walks.{FieldMark}
-use Rattle.sg_walk.specs.declared.spot.FieldState.{FieldState}
-use Rattle.sg_described.specs.declared.bounds.Bounds.{Bounds}
-use Rattle.sg_described.specs.Described.{Described, Rule}
-use Rattle.sg_described.specs.Known.{Known, greatest, may_stop}
-use Rattle.sg_described.specs.Meaning.{most_at}
-use Rattle.sg_described.specs.NeverZero.{is_never_zero}
-use Rattle.sg_described.specs.Walking.{bounds_at, caller_fits, left_most}
+use Rattle.sg_known.specs.sg_facts.declared.shape.Effect.{Effect}
+use Rattle.sg_known.specs.sg_facts.Walks.{FieldMark}
+use Rattle.sg_known.specs.sg_walk.declared.spot.FieldState.{FieldState}
+use Rattle.sg_known.specs.sg_described.declared.bounds.Bounds.{Bounds}
+use Rattle.sg_known.specs.sg_described.Described.{Described, Rule}
+use Rattle.sg_known.specs.sg_described.Known.{Known, greatest, may_stop}
+use Rattle.sg_known.specs.sg_described.Meaning.{most_at}
+use Rattle.sg_known.specs.sg_described.NeverZero.{is_never_zero}
+use Rattle.sg_known.specs.sg_described.Walking.{bounds_at, caller_fits, left_most}
 use Rattle.sg_known.specs.Seen.{fields_in, up_to}
 use Rattle.sg_safe.specs.declared.reason.FailingCall.{FailingCall}
 use Rattle.sg_safe.specs.declared.reason.KnownField.{KnownField}

@@ -1,11 +1,11 @@
 -- How walks are found.
 use Rattle.std.specs.Prelude.{ℕ, ◌≡◌, ◌≤◌, Bool, not, if◌then◌else◌, List, Some, filter, length, map}
 use Rattle.std.specs.List.{list_all}
-use Rattle.sg_facts.specs.Interface.{has_pair}
-use Rattle.sg_facts.specs.Facts.{Fun}
-use Rattle.sg_facts.specs.Walks.{Spot, first_spot, next_spot}
-use Rattle.sg_described.specs.Described.{Described}
-use Rattle.sg_described.specs.Walking.{add_spot, is_lost, is_step}
+use Rattle.sg_known.specs.sg_facts.Interface.{has_pair}
+use Rattle.sg_known.specs.sg_facts.Facts.{Fun}
+use Rattle.sg_known.specs.sg_facts.Walks.{Spot, first_spot, next_spot}
+use Rattle.sg_known.specs.sg_described.Described.{Described}
+use Rattle.sg_known.specs.sg_described.Walking.{add_spot, is_lost, is_step}
 use Rattle.sg_safe.specs.declared.spots.Reached.{Reached}
 use Rattle.sg_safe.specs.Reasons.{led_by}
 use Rattle.sg_safe.specs.Inside.Seen.{shown}

@@ -1,13 +1,13 @@
 -- What the code holds, as the definitions see it.
 use Rattle.std.specs.Prelude.{ℕ, ◌≤◌, suc, List, [], ◌∷◌, length, map}
-use Rattle.sg_facts.specs.declared.shape.Effect.{Effect}
-use Rattle.sg_facts.specs.Limits.{most_fields}
-use Rattle.sg_facts.specs.Walks.{Spot as Place, effect_on}
-use Rattle.sg_walk.specs.declared.spot.Spot.{Spot}
-use Rattle.sg_walk.specs.Marks.{shown_marks}
-use Rattle.sg_described.specs.declared.bounds.Bounds.{Bounds}
-use Rattle.sg_described.specs.Described.{Described}
-use Rattle.sg_described.specs.Known.{bounds_after}
+use Rattle.sg_known.specs.sg_facts.declared.shape.Effect.{Effect}
+use Rattle.sg_known.specs.sg_facts.Limits.{most_fields}
+use Rattle.sg_known.specs.sg_facts.Walks.{Spot as Place, effect_on}
+use Rattle.sg_known.specs.sg_walk.declared.spot.Spot.{Spot}
+use Rattle.sg_known.specs.sg_walk.Marks.{shown_marks}
+use Rattle.sg_known.specs.sg_described.declared.bounds.Bounds.{Bounds}
+use Rattle.sg_known.specs.sg_described.Described.{Described}
+use Rattle.sg_known.specs.sg_described.Known.{bounds_after}
 
 -- pairs as plain data
 abbrev pub pairs_in : List (ℕ × ℕ) → List (ℕ × ℕ)

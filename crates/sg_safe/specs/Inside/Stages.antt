@@ -1,7 +1,7 @@
 -- How the first reason is found, stage by stage.
 use Rattle.std.specs.Prelude.{◌≡◌, None, Some}
 use Rattle.std.specs.declared.option.Option.{Option}
-use Rattle.sg_described.specs.Described.{Described}
+use Rattle.sg_known.specs.sg_described.Described.{Described}
 use Rattle.sg_safe.specs.declared.reason.Unsafe.{Unsafe}
 use Rattle.sg_safe.specs.Reasons.{IsReason}
 

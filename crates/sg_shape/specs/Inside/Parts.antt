@@ -1,10 +1,10 @@
 -- The parts of the definitions, by themselves.
 use Rattle.std.specs.Prelude.{ℕ, Bool, if◌then◌else◌, List, [], ◌∷◌, None, Some, codes, map}
 use Rattle.std.specs.declared.option.Option.{Option}
-use Rattle.sg_facts.specs.declared.shape.Effect.{Effect}
-use Rattle.sg_facts.specs.declared.shape.Effect.TheVariants.{SetArg, AddArg}
-use Rattle.sg_facts.specs.declared.shape.FieldShape.{FieldShape}
-use Rattle.sg_facts.specs.Facts.{Field}
+use Rattle.sg_check_statements.specs.sg_facts.declared.shape.Effect.{Effect}
+use Rattle.sg_check_statements.specs.sg_facts.declared.shape.Effect.TheVariants.{SetArg, AddArg}
+use Rattle.sg_check_statements.specs.sg_facts.declared.shape.FieldShape.{FieldShape}
+use Rattle.sg_check_statements.specs.sg_facts.Facts.{Field}
 use Rattle.sg_check_statements.specs.Params.{has_word}
 use Rattle.sg_check_statements.specs.Says.{says}
 use Rattle.sg_check_statements.specs.sg_parse.declared.tree.Param.{Param}

@@ -1,12 +1,12 @@
 -- Lines of tables, as far as they were made.
 use Rattle.std.specs.Prelude.{ℕ, ◌≡◌, ◌<◌, ◌⊎◌, Bool, List, Some}
 use Rattle.std.specs.List.{Contains}
-use Rattle.sg_facts.specs.declared.tables.WalkLine.{WalkLine}
-use Rattle.sg_facts.specs.Fields.{number_of}
-use Rattle.sg_facts.specs.Interface.{Declared}
-use Rattle.sg_facts.specs.Tables.{walk_of}
-use Rattle.sg_facts.specs.Inside.Walking.{IsAscending}
-use Rattle.sg_facts.specs.Walks.{IsReachable, IsWalkOf}
+use Rattle.sg_check.specs.sg_facts.declared.tables.WalkLine.{WalkLine}
+use Rattle.sg_check.specs.sg_facts.Fields.{number_of}
+use Rattle.sg_check.specs.sg_facts.Interface.{Declared}
+use Rattle.sg_check.specs.sg_facts.Tables.{walk_of}
+use Rattle.sg_check.specs.sg_facts.Inside.Walking.{IsAscending}
+use Rattle.sg_check.specs.sg_facts.Walks.{IsReachable, IsWalkOf}
 
 -- a line is good: its walk is that of what descriptors can come to
 abbrev pub IsGood : Declared → WalkLine → Type 0

@@ -1,9 +1,9 @@
 -- Sets of what descriptors can come to.
 use Rattle.std.specs.Prelude.{ℕ, ◌≡◌, ◌==◌, ◌↔◌, Bool, true, ◌&&◌, List}
 use Rattle.std.specs.List.{Contains, list_any}
-use Rattle.sg_facts.specs.Fields.{number_of}
-use Rattle.sg_facts.specs.Interface.{Declared}
-use Rattle.sg_facts.specs.Walks.{IsReachable}
+use Rattle.sg_check.specs.sg_facts.Fields.{number_of}
+use Rattle.sg_check.specs.sg_facts.Interface.{Declared}
+use Rattle.sg_check.specs.sg_facts.Walks.{IsReachable}
 use Rattle.sg_check.specs.sg_walk.declared.place.Triple.{Triple}
 
 -- whether a creation, a state and the number of a set of fields are among these

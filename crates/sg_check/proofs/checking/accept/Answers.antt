@@ -1,6 +1,6 @@
 -- What is clear of all kinds fits.
 use Rattle.std.proofs.Common.{map, rules, sym, subst}
-use Rattle.sg_facts.specs.Facts.{facts_of}
+use Rattle.sg_check_statements.specs.sg_facts.Facts.{facts_of}
 use Rattle.sg_check_statements.specs.Faults.{IsAccepted}
 use Rattle.sg_check.proofs.Stages.{candidate_accepted, candidate_fits, candidate_small}
 use Rattle.sg_check.proofs.checking.accept.Goals as goal

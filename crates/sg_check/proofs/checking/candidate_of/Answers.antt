@@ -1,7 +1,7 @@
 -- A text in which the first ten kinds are clear, with its interface.
 use Rattle.std.proofs.Common.{◌≡◌, ◌≤◌, length, map, sym, subst}
 use Rattle.std.specs.Prelude.{true}
-use Rattle.sg_facts.specs.Facts.{facts_of}
+use Rattle.sg_check_statements.specs.sg_facts.Facts.{facts_of}
 use Rattle.sg_check_statements.specs.Shapes.{is_shape}
 use Rattle.sg_check.proofs.Stages.{all_triples, few_fields, shape_funs, shape_of}
 use Rattle.sg_check.proofs.checking.candidate_of.Goals as goal

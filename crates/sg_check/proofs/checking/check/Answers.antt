@@ -1,6 +1,6 @@
 -- At most one thing is first wrong, and an accepted text has nothing wrong.
 use Rattle.std.proofs.Common.{map}
-use Rattle.sg_facts.specs.Facts.{facts_of}
+use Rattle.sg_check_statements.specs.sg_facts.Facts.{facts_of}
 use Rattle.sg_check_statements.specs.Faults.{IsAccepted}
 use Rattle.sg_check.proofs.Stages.{told_fault}
 use Rattle.sg_check.proofs.checking.check.Goals as goal

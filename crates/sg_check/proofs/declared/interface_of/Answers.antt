@@ -1,7 +1,7 @@
 -- The pairs of a shape are those of its facts.
 use Rattle.std.proofs.Common.{◌∙◌, ap, map}
-use Rattle.sg_facts.specs.Facts.{fun_of_shape}
-use Rattle.sg_facts.specs.Fields.{number_of}
+use Rattle.sg_check_statements.specs.sg_facts.Facts.{fun_of_shape}
+use Rattle.sg_check_statements.specs.sg_facts.Fields.{number_of}
 use Rattle.sg_check_statements.specs.Says.{has_proto}
 use Rattle.sg_check.proofs.Listing.{whole}
 use Rattle.sg_check.proofs.declared.interface_of.Goals as goal

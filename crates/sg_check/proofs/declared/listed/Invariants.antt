@@ -1,7 +1,7 @@
 -- The pairs so far.
 use Rattle.std.proofs.Common.{◌≡◌, take}
 use Rattle.std.specs.Prelude.{filter}
-use Rattle.sg_facts.specs.Facts.{facts_of, fun_at}
+use Rattle.sg_check_statements.specs.sg_facts.Facts.{facts_of, fun_at}
 use Rattle.sg_check_statements.specs.Says.{says_of}
 use Rattle.sg_check.proofs.declared.listed.Given as goal
 

@@ -1,6 +1,6 @@
 -- What is answered is what a text in which nothing is wrong describes, or what is first wrong.
 use Rattle.std.proofs.Common.{◌∙◌, ap}
-use Rattle.sg_facts.specs.Facts.{facts_of}
+use Rattle.sg_shape.specs.sg_facts.Facts.{facts_of}
 use Rattle.sg_described.specs.Safe.{is_plain}
 use Rattle.sg_describe.specs.DescribedText.{described_with}
 use Rattle.sg_describe.proofs.Few.{few_kinds, few_names}

@@ -1,7 +1,7 @@
 -- Statement by statement.
 use Rattle.std.proofs.Common.{sym, ap}
 use Rattle.std.specs.Prelude.{slice_get}
-use Rattle.sg_facts.specs.Facts.{facts_of}
+use Rattle.sg_shape.specs.sg_facts.Facts.{facts_of}
 use Rattle.sg_shape.proofs.Loops.{first_gathered, nothing_more}
 use Rattle.sg_describe.specs.AnswerFlaws.{statement_flaw}
 use Rattle.sg_describe.proofs.flaws.first_flaw.Goals as goal

@@ -1,7 +1,7 @@
 -- The recover steps of the shape are those of its facts.
 use Rattle.std.proofs.Common.{ℕ, Bool, ◌≡◌, false, sym, ap, ◌==◌, ◌∙◌, ◌||◌}
 use Rattle.std.specs.List.{list_any}
-use Rattle.sg_facts.specs.Facts.{Fun, facts_of, fun_at}
+use Rattle.sg_shape.specs.sg_facts.Facts.{Fun, facts_of, fun_at}
 use Rattle.sg_describe.proofs.Mapped.{any_mapped}
 use Rattle.sg_describe.proofs.flaws.is_replayed.Goals as goal
 

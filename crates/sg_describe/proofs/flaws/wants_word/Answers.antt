@@ -1,6 +1,6 @@
 -- The effects of the shape are those of its facts.
 use Rattle.std.proofs.Common.{sym, ◌∙◌}
-use Rattle.sg_facts.specs.Counted.{takes_word}
+use Rattle.sg_shape.specs.sg_facts.Counted.{takes_word}
 use Rattle.sg_describe.proofs.Mapped.{any_mapped}
 use Rattle.sg_describe.proofs.flaws.wants_word.Goals as goal
 

@@ -1,6 +1,6 @@
 -- The rules so far.
 use Rattle.std.proofs.Common.{◌≡◌, map, take}
-use Rattle.sg_facts.specs.Facts.{facts_of, fun_of_shape}
+use Rattle.sg_shape.specs.sg_facts.Facts.{facts_of, fun_of_shape}
 use Rattle.sg_described.specs.Described.{rule_of as rule_in}
 use Rattle.sg_describe.specs.DescribedText.{rule_of}
 use Rattle.sg_describe.specs.Said.{rules_said}

@@ -1,8 +1,8 @@
 -- Function by function.
 use Rattle.std.proofs.Common.{◌≡◌, List, map, sym, ap, subst, ◌∙◌}
 use Rattle.std.proofs.lemmas.List.{take_all}
-use Rattle.sg_facts.specs.Facts.{facts_of, fun_of_shape}
-use Rattle.sg_facts.specs.declared.shape.FunShape.{FunShape}
+use Rattle.sg_shape.specs.sg_facts.Facts.{facts_of, fun_of_shape}
+use Rattle.sg_shape.specs.sg_facts.declared.shape.FunShape.{FunShape}
 use Rattle.sg_described.specs.Described.{rules_of}
 use Rattle.sg_describe.specs.DescribedText.{answer_of}
 use Rattle.sg_describe.specs.Inside.Parts.{HasFewParams}

@@ -1,6 +1,6 @@
 -- Part by part.
 use Rattle.std.proofs.Common.{sym, ap, ◌∙◌, map}
-use Rattle.sg_facts.specs.Facts.{Field, facts_of}
+use Rattle.sg_shape.specs.sg_facts.Facts.{Field, facts_of}
 use Rattle.sg_described.specs.Described.{rules_of}
 use Rattle.sg_describe.specs.DescribedText.{most_of}
 use Rattle.sg_describe.proofs.Mapped.{map_mapped}

@@ -1,6 +1,6 @@
 -- The tests so far.
 use Rattle.std.proofs.Common.{◌≡◌, map, take}
-use Rattle.sg_facts.specs.Facts.{facts_of, fun_of_shape}
+use Rattle.sg_shape.specs.sg_facts.Facts.{facts_of, fun_of_shape}
 use Rattle.sg_describe.specs.DescribedText.{test_of, tests_in}
 use Rattle.sg_describe.proofs.making.rule_of.Given as goal
 

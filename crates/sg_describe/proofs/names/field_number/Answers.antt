@@ -1,7 +1,7 @@
 -- The fields of the shape are those of its facts.
 use Rattle.std.proofs.Common.{sym, ◌∙◌}
 use Rattle.std.specs.Str.{bytes_eq}
-use Rattle.sg_facts.specs.Facts.{Field}
+use Rattle.sg_shape.specs.sg_facts.Facts.{Field}
 use Rattle.sg_describe.proofs.Mapped.{position_mapped}
 use Rattle.sg_describe.proofs.names.field_number.Goals as goal
 

@@ -1,7 +1,7 @@
 -- Two texts.
 use Rattle.std.proofs.Common.{◌∙◌, map, subst, sym}
 use Rattle.std.proofs.lemmas.Result.{IfOk-weaker}
-use Rattle.sg_facts.specs.Facts.{facts_of}
+use Rattle.sg_input.specs.sg_facts.Facts.{facts_of}
 use Rattle.sg_explain.proofs.Explained.{bad_interface, both_fit, first_of, long_texts}
 use Rattle.sg_explain.specs.Inside.Pieces.{IsExaminedWithReason}
 use Rattle.sg_explain.proofs.explaining.explain_input.Goals as goal

@@ -1,7 +1,7 @@
 -- A script without a fault is counted, and the line of a fault stands before why.
 use Rattle.std.proofs.Common.{Ok, Err, subst}
-use Rattle.sg_script.specs.Reads.{IsReadingOf}
-use Rattle.sg_script.specs.declared.fault.ScriptError.TheVariants.{Fault}
+use Rattle.sg_input.specs.sg_script.Reads.{IsReadingOf}
+use Rattle.sg_input.specs.sg_script.declared.fault.ScriptError.TheVariants.{Fault}
 use Rattle.sg_explain.proofs.Explained.{bad_script, good_input}
 use Rattle.sg_explain.proofs.explaining.explain_script.Goals as goal
 

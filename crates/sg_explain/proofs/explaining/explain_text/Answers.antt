@@ -1,6 +1,6 @@
 -- A text by itself.
 use Rattle.std.proofs.Common.{◌∙◌, length, map, subst, sym}
-use Rattle.sg_facts.specs.Facts.{facts_of}
+use Rattle.sg_input.specs.sg_facts.Facts.{facts_of}
 use Rattle.sg_input.specs.Inputs.{most_interface}
 use Rattle.sg_explain.proofs.Explained.{alone, bad_interface, good_text, long_text, longer_than, no_longer}
 use Rattle.sg_explain.specs.Inside.Pieces.{IsExaminedWithReason}

@@ -1,7 +1,7 @@
 -- Of a state without a walk a line is told besides, and of any other kind nothing.
 use Rattle.std.proofs.Common.{map, subst}
 use Rattle.sg_input.specs.sg_check_statements.Faults.{IsFault}
-use Rattle.sg_facts.specs.Facts.{facts_of}
+use Rattle.sg_input.specs.sg_facts.Facts.{facts_of}
 use Rattle.sg_input.specs.declared.refusal.RefusalKind.TheVariants.{Check}
 use Rattle.sg_input.specs.Verdicts.{services_for}
 use Rattle.sg_explain.proofs.Refusing.{nothing_more, of_service, tells_alone, tells_stuck}

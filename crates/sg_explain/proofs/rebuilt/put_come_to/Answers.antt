@@ -1,6 +1,6 @@
 -- The functions are those of these numbers.
 use Rattle.std.proofs.Common.{ap, map}
-use Rattle.sg_facts.specs.Facts.{Fun}
+use Rattle.sg_input.specs.sg_facts.Facts.{Fun}
 use Rattle.sg_explain.specs.Inside.Pieces.{fields_words}
 use Rattle.sg_explain.proofs.Telling.{come_to}
 use Rattle.sg_explain.proofs.rebuilt.put_come_to.Goals as goal

@@ -1,5 +1,5 @@
 use Rattle.std.proofs.Common.{◌≡◌, ◌++◌, take}
-use Rattle.sg_facts.specs.Facts.{facts_of}
+use Rattle.sg_input.specs.sg_facts.Facts.{facts_of}
 use Rattle.sg_input.specs.sg_print.TablesText.{walk_names}
 use Rattle.sg_explain.proofs.rebuilt.put_names.Given as goal
 

@@ -1,5 +1,5 @@
 -- Line by line.
-use Rattle.sg_facts.specs.Facts.{facts_of}
+use Rattle.sg_input.specs.sg_facts.Facts.{facts_of}
 use Rattle.sg_explain.specs.Rebuilt.{rebuilt_line}
 use Rattle.sg_explain.proofs.Telling.{one_more_piece}
 use Rattle.sg_explain.proofs.rebuilt.put_rebuilt.Goals as goal

@@ -1,6 +1,6 @@
 use Rattle.std.proofs.Common.{◌≡◌, ◌++◌, take}
 use Rattle.std.specs.List.{flat_map}
-use Rattle.sg_facts.specs.Facts.{facts_of}
+use Rattle.sg_input.specs.sg_facts.Facts.{facts_of}
 use Rattle.sg_explain.specs.Rebuilt.{rebuilt_line}
 use Rattle.sg_explain.proofs.rebuilt.put_rebuilt.Given as goal
 

@@ -1,6 +1,6 @@
 -- A text that has this fault is of a service.
 use Rattle.std.proofs.Common.{map, sym}
-use Rattle.sg_facts.specs.Facts.{facts_of}
+use Rattle.sg_input.specs.sg_facts.Facts.{facts_of}
 use Rattle.sg_explain.proofs.Protos.{has_service}
 use Rattle.sg_explain.proofs.stuck.put_stuck.Goals as goal
 

@@ -3,7 +3,7 @@ use Rattle.std.proofs.Common.{◌≡◌, ◌≤◌, length, map, subst, sym, tru
 use Rattle.sg_input.proofs.sg_check.Stages.{all_triples, few_fields, shape_funs, shape_of}
 use Rattle.sg_input.specs.sg_check.Inside.Reached.{AreTriples}
 use Rattle.sg_input.specs.sg_check_statements.Shapes.{is_shape}
-use Rattle.sg_facts.specs.Facts.{facts_of}
+use Rattle.sg_input.specs.sg_facts.Facts.{facts_of}
 use Rattle.sg_explain.specs.Inside.Pieces.{stuck_line}
 use Rattle.sg_explain.specs.Stuck.{IsStuckLine}
 use Rattle.sg_explain.proofs.Protos.{proto_for, stuck_told}

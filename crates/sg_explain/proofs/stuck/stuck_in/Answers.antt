@@ -1,7 +1,7 @@
 -- What was found for the state is what was found for its prototype.
 use Rattle.std.proofs.Common.{◌∙◌, ap, sym}
 use Rattle.std.proofs.lemmas.Result.{IfOk-weaker}
-use Rattle.sg_facts.specs.Interface.{Declared}
+use Rattle.sg_input.specs.sg_facts.Interface.{Declared}
 use Rattle.sg_explain.specs.Inside.Search.{IsFoundAt, IsFoundIn, proto_at}
 use Rattle.sg_explain.proofs.Protos.{found_in, none_in}
 use Rattle.sg_explain.proofs.stuck.stuck_in.Goals as goal

@@ -1,7 +1,7 @@
 -- The printed text reads back as the upgraded tree but for places, and that is accepted where the tree is.
 use Rattle.std.proofs.Common.{◌≡◌, inl, inr, ◌==◌, List, [], None, Some, sym, ◌∙◌, ap, subst}
 use Rattle.std.specs.Prelude.{if◌then◌else◌}
-use Rattle.sg_check_statements.proofs.Anywhere.Accepting.{accepted_there}
+use Rattle.sg_stub.proofs.sg_check_statements.Anywhere.Accepting.{accepted_there}
 use Rattle.sg_facts.specs.Facts.{Facts}
 use Rattle.sg_facts.specs.Interface.{Declared}
 use Rattle.sg_print.proofs.Law.{upgrades_back}

@@ -1,6 +1,6 @@
 -- Only one verdict may be given.
 use Rattle.std.proofs.Common.{map}
-use Rattle.sg_facts.specs.Facts.{facts_of}
+use Rattle.sg_explain.specs.sg_facts.Facts.{facts_of}
 use Rattle.sg_explain.proofs.sg_input.OneVerdict.{only}
 use Rattle.sg_judge.specs.Said.{IsRenewed}
 use Rattle.sg_judge.proofs.OneSaid.{one_renewed}

@@ -1,6 +1,6 @@
 -- None has gone, or some have and there are fewer.
 use Rattle.std.proofs.Common.{◌<◌, length, filter, ◌∙◌, sym, ap, rules, arith}
-use Rattle.sg_facts.specs.Facts.{facts_of}
+use Rattle.sg_described.specs.sg_facts.Facts.{facts_of}
 use Rattle.sg_described.specs.NeverZero.{keeps_some}
 use Rattle.sg_known.proofs.Settling.{fewer_left, none_gone, some_gone}
 use Rattle.sg_known.proofs.states.+settled.Goals as goal

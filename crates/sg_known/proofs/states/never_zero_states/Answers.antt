@@ -1,6 +1,6 @@
 -- From all states on none goes any more after as many times as there are functions.
 use Rattle.std.proofs.Common.{◌≤◌, ◌++◌, length, ◌∙◌, ap, arith}
-use Rattle.sg_facts.specs.Facts.{facts_of}
+use Rattle.sg_described.specs.sg_facts.Facts.{facts_of}
 use Rattle.sg_described.specs.NeverZero.{states_from, states_left}
 use Rattle.sg_known.proofs.Settling.{length_states}
 use Rattle.sg_known.proofs.states.never_zero_states.Goals as goal

@@ -1,7 +1,7 @@
 -- The shape of a text in which nothing is wrong is one.
 use Rattle.std.proofs.Common.{◌≡◌, true, ◌&&◌, refl, sym, subst}
 use Rattle.std.proofs.lemmas.Bool.{and_from}
-use Rattle.sg_facts.specs.Facts.{Facts}
+use Rattle.sg_describe.specs.sg_facts.Facts.{Facts}
 use Rattle.sg_check.specs.sg_check_statements.Shapes.{is_shape}
 use Rattle.sg_describe.specs.sg_shape.ShapeOfText.{shape_of_text}
 use Rattle.sg_describe.proofs.sg_shape.Shapes.{fits}

@@ -2,8 +2,8 @@
 use Rattle.std.proofs.Common.{◌∙◌, [], ap}
 use Rattle.std.specs.Prelude.{codes}
 use Rattle.std.proofs.lemmas.Result.{err_from_is_err_and}
-use Rattle.sg_lex.specs.Inside.Automata.{read}
-use Rattle.sg_lex.proofs.Automata.{leads_along}
+use Rattle.sg_rules.specs.sg_lex.Inside.Automata.{read}
+use Rattle.sg_rules.proofs.sg_lex.Automata.{leads_along}
 use Rattle.sg_parse.specs.Grammar.Inside.States.{State, first_end, fork, head0, newer_end, newer_rest, statements, trees}
 use Rattle.sg_parse.specs.Inside.{one_of}
 use Rattle.sg_parse.proofs.head.facts.Goals as goal

@@ -1,6 +1,6 @@
 -- The words of version 2 are turned, and for a text of version 3 those of version 3 too.
 use Rattle.std.proofs.Common.{◌∙◌, ap, sym}
-use Rattle.sg_lex.specs.Inside.Automata.{read}
+use Rattle.sg_rules.specs.sg_lex.Inside.Automata.{read}
 use Rattle.sg_rules.specs.declared.version.Newer.TheVariants.{Second, Third}
 use Rattle.sg_parse.specs.Grammar.Inside.States.{in_newer, trees}
 use Rattle.sg_parse.specs.Inside.{version_of}

@@ -1,7 +1,7 @@
 -- The version, the facts of every version, and the fact of a version after the first.
 use Rattle.std.proofs.Common.{◌≡◌, ◌∙◌, [], ap, refl, sym}
 use Rattle.std.proofs.lemmas.Result.{err_from_is_err_and}
-use Rattle.sg_lex.specs.Inside.Automata.{read}
+use Rattle.sg_rules.specs.sg_lex.Inside.Automata.{read}
 use Rattle.sg_rules.specs.declared.version.Newer.{Newer}
 use Rattle.sg_rules.specs.declared.version.Newer.TheVariants.{Second, Third}
 use Rattle.sg_parse.specs.Grammar.Inside.States.{head0, head_end, newer_end, statements, trees}

@@ -1,7 +1,7 @@
 -- The word, and then the marks.
 use Rattle.std.proofs.Common.{◌∙◌}
 use Rattle.std.proofs.lemmas.Result.{err_from_is_err_and}
-use Rattle.sg_lex.proofs.Automata.{leads_along}
+use Rattle.sg_rules.proofs.sg_lex.Automata.{leads_along}
 use Rattle.sg_parse.specs.Grammar.Inside.Forms.{equals, open_brace}
 use Rattle.sg_parse.specs.Grammar.Inside.States.{due, trees}
 use Rattle.sg_parse.proofs.head.opening.Goals as goal

@@ -2,7 +2,7 @@
 use Rattle.std.proofs.Common.{◌∙◌, true, false, ap}
 use Rattle.std.specs.Prelude.{codes}
 use Rattle.std.proofs.lemmas.Result.{err_from_is_err_and}
-use Rattle.sg_lex.specs.Inside.Automata.{read}
+use Rattle.sg_rules.specs.sg_lex.Inside.Automata.{read}
 use Rattle.sg_parse.specs.Grammar.Pieces.{word}
 use Rattle.sg_parse.specs.Grammar.Inside.Forms.{equals}
 use Rattle.sg_parse.specs.Grammar.Inside.States.{due, fork, trees}

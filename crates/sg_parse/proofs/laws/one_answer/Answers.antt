@@ -1,7 +1,7 @@
 -- The answer is what is read.
 use Rattle.std.proofs.Common.{sym, ◌∙◌, length}
-use Rattle.sg_lex.specs.Tokens.{answers_of}
-use Rattle.sg_lex.specs.Inside.Automata.{read_from}
+use Rattle.sg_rules.specs.sg_lex.Tokens.{answers_of}
+use Rattle.sg_rules.specs.sg_lex.Inside.Automata.{read_from}
 use Rattle.sg_parse.specs.Grammar.Inside.States.{start, trees}
 use Rattle.sg_parse.proofs.Grammar.Readings.{may_answer, only_answer, reads_no_memory}
 use Rattle.sg_parse.proofs.laws.one_answer.Goals as goal

@@ -2,12 +2,12 @@
 use Rattle.std.proofs.Common.{◌∙◌, ap}
 use Rattle.std.specs.Prelude.{None, Some}
 use Rattle.sg_parse.specs.declared.words.Sort.TheVariants.{Name}
-use Rattle.sg_lex.specs.Lexeme.{Spelling as Named}
+use Rattle.sg_rules.specs.sg_lex.Lexeme.{Spelling as Named}
 use Rattle.sg_parse.specs.Grammar.Inside.Forms.{open_bracket, close_bracket}
 use Rattle.sg_parse.specs.Grammar.Inside.States.{due, want, declared, with_param, type_of, trees}
-use Rattle.sg_lex.specs.Inside.Automata.{read}
+use Rattle.sg_rules.specs.sg_lex.Inside.Automata.{read}
 use Rattle.sg_parse.specs.Inside.{either_of}
-use Rattle.sg_lex.proofs.Automata.{leads_along}
+use Rattle.sg_rules.proofs.sg_lex.Automata.{leads_along}
 use Rattle.sg_parse.proofs.params.after_type.Goals as goal
 
 pub returns-in-Some-clause-leads : goal.returns-in-Some-clause-leads

@@ -3,9 +3,9 @@ use Rattle.std.proofs.Common.{◌≡◌, ◌∙◌}
 use Rattle.std.proofs.lemmas.Result.{err_from_is_err_and}
 use Rattle.sg_parse.specs.Grammar.Inside.Forms.{comma}
 use Rattle.sg_parse.specs.Grammar.Inside.States.{fits}
-use Rattle.sg_lex.specs.Inside.Ahead.{Came, Off}
+use Rattle.sg_rules.specs.sg_lex.Inside.Ahead.{Came, Off}
 use Rattle.sg_parse.proofs.ByToken.{comma_came}
-use Rattle.sg_lex.proofs.Chains.{on_true}
+use Rattle.sg_rules.proofs.sg_lex.Chains.{on_true}
 use Rattle.sg_parse.proofs.params.params.Goals as goal
 
 pub returns-in_err-param-2-clause-leads : goal.returns-in_err-param-2-clause-leads

@@ -2,7 +2,7 @@
 use Rattle.std.proofs.Common.{◌≡◌, ◌≤◌, List, [], length}
 use Rattle.sg_parse.specs.declared.tree.Param.{Param}
 use Rattle.sg_parse.specs.Grammar.Inside.States.{State, listed, param, trees}
-use Rattle.sg_lex.specs.Inside.Automata.{read}
+use Rattle.sg_rules.specs.sg_lex.Inside.Automata.{read}
 use Rattle.sg_parse.proofs.params.params.Given as goal
 
 abbrev pub invariant-params : goal.invariant-params

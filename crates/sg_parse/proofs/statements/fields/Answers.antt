@@ -1,10 +1,10 @@
 -- The fields so far, a comma, and the next.
 use Rattle.std.proofs.Common.{◌≡◌, ◌∙◌, [], ◌∷◌, ◌++◌, suc, length, ap, sym, arith}
 use Rattle.std.proofs.lemmas.Result.{err_from_is_err_and}
-use Rattle.sg_lex.specs.Lexeme.{Spelling as Named}
-use Rattle.sg_lex.specs.Inside.Ahead.{Came, Off}
-use Rattle.sg_lex.specs.Inside.Automata.{read}
-use Rattle.sg_lex.proofs.Chains.{on_true}
+use Rattle.sg_rules.specs.sg_lex.Lexeme.{Spelling as Named}
+use Rattle.sg_rules.specs.sg_lex.Inside.Ahead.{Came, Off}
+use Rattle.sg_rules.specs.sg_lex.Inside.Automata.{read}
+use Rattle.sg_rules.proofs.sg_lex.Chains.{on_true}
 use Rattle.sg_parse.specs.Grammar.Inside.Forms.{comma}
 use Rattle.sg_parse.specs.Grammar.Inside.States.{fielded, fits, trees}
 use Rattle.sg_parse.proofs.ByToken.{field_came}

@@ -1,7 +1,7 @@
 -- The fields so far were read.
 use Rattle.std.proofs.Common.{◌≡◌, ◌≤◌, List, [], ◌∷◌, length}
-use Rattle.sg_lex.specs.Lexeme.{Spelling as Named}
-use Rattle.sg_lex.specs.Inside.Automata.{read}
+use Rattle.sg_rules.specs.sg_lex.Lexeme.{Spelling as Named}
+use Rattle.sg_rules.specs.sg_lex.Inside.Automata.{read}
 use Rattle.sg_parse.specs.declared.words.Sort.TheVariants.{Name}
 use Rattle.sg_parse.specs.Grammar.Inside.States.{State, fielded, want, trees}
 use Rattle.sg_parse.proofs.statements.fields.Given as goal

@@ -3,7 +3,7 @@ use Rattle.std.proofs.Common.{◌∙◌}
 use Rattle.std.proofs.lemmas.Result.{err_from_is_err_and}
 use Rattle.sg_parse.specs.declared.tree.Ret.TheVariants.{Plain}
 use Rattle.sg_parse.specs.Grammar.Inside.States.{declared, proto_rest, trees}
-use Rattle.sg_lex.proofs.Automata.{leads_along}
+use Rattle.sg_rules.proofs.sg_lex.Automata.{leads_along}
 use Rattle.sg_parse.proofs.statements.plain.Goals as goal
 
 pub returns-in_err-ty-clause-leads : goal.returns-in_err-ty-clause-leads

@@ -2,11 +2,11 @@
 use Rattle.std.proofs.Common.{◌≡◌, ◌∙◌, [], ◌∷◌, ap, sym}
 use Rattle.std.specs.Prelude.{Ok, Err}
 use Rattle.std.proofs.lemmas.Result.{err_from_is_err_and}
-use Rattle.sg_lex.specs.Lexeme.{Lexeme}
+use Rattle.sg_rules.specs.sg_lex.Lexeme.{Lexeme}
 use Rattle.sg_parse.specs.Grammar.Inside.States.{statements, with_statement, trees}
-use Rattle.sg_lex.specs.Inside.Automata.{read}
+use Rattle.sg_rules.specs.sg_lex.Inside.Automata.{read}
 use Rattle.sg_parse.proofs.ByToken.{statement_came}
-use Rattle.sg_lex.proofs.Chains.{on_some}
+use Rattle.sg_rules.proofs.sg_lex.Chains.{on_some}
 use Rattle.sg_parse.proofs.statements.statements.Goals as goal
 
 pub returns-in_err-statement : goal.returns-in_err-statement

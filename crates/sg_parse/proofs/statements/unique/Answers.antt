@@ -1,7 +1,7 @@
 -- The fields in their brackets, and the semicolon.
 use Rattle.std.proofs.Common.{◌∙◌, List, [], ◌∷◌}
 use Rattle.std.proofs.lemmas.Result.{err_from_is_err_and}
-use Rattle.sg_lex.specs.Lexeme.{Spelling as Named}
+use Rattle.sg_rules.specs.sg_lex.Lexeme.{Spelling as Named}
 use Rattle.sg_parse.specs.declared.tree.Statement.{Statement}
 use Rattle.sg_parse.specs.declared.tree.Statement.TheVariants.{Unique}
 use Rattle.sg_parse.specs.declared.words.Sort.TheVariants.{Name}

@@ -1,8 +1,8 @@
 -- The names so far were read.
 use Rattle.std.proofs.Common.{◌≡◌, ◌≤◌, List, [], ℕ, length}
-use Rattle.sg_lex.specs.Lexeme.{Spelling as Named}
+use Rattle.sg_rules.specs.sg_lex.Lexeme.{Spelling as Named}
 use Rattle.sg_parse.specs.Grammar.Inside.States.{State, names, trees}
-use Rattle.sg_lex.specs.Inside.Automata.{read}
+use Rattle.sg_rules.specs.sg_lex.Inside.Automata.{read}
 use Rattle.sg_parse.proofs.types.names.Given as goal
 
 abbrev pub invariant-names : goal.invariant-names

@@ -1,8 +1,8 @@
 -- The stars so far were read, and each was one of the tokens that were still to come.
 use Rattle.std.proofs.Common.{◌≡◌, ◌+◌, ◌≤◌, List, ℕ, length}
-use Rattle.sg_lex.specs.Lexeme.{Spelling as Named}
+use Rattle.sg_rules.specs.sg_lex.Lexeme.{Spelling as Named}
 use Rattle.sg_parse.specs.Grammar.Inside.States.{State, stars, trees}
-use Rattle.sg_lex.specs.Inside.Automata.{read}
+use Rattle.sg_rules.specs.sg_lex.Inside.Automata.{read}
 use Rattle.sg_parse.proofs.types.stars.Given as goal
 
 abbrev pub invariant-stars : goal.invariant-stars

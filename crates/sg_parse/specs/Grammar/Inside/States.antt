@@ -4,10 +4,10 @@ use Rattle.std.specs.Prelude.{ℕ, ◌+◌, ◌==◌, ◌&&◌, Bool, true, fals
 use Rattle.std.specs.declared.option.Option.{Option}
 use Rattle.std.specs.Option.{option_map}
 use Rattle.std.specs.Cmp.Lexicographic.{pointwise}
-use Rattle.sg_lex.specs.declared.token.TokenKind.TheVariants.{Word, Number, Mark}
-use Rattle.sg_lex.specs.Lexeme.{Lexeme, Spelling}
-use Rattle.sg_lex.specs.Inside.Automata.{Automaton}
-use Rattle.sg_lex.specs.Inside.Tests.{has_kind, is_fixed}
+use Rattle.sg_rules.specs.sg_lex.declared.token.TokenKind.TheVariants.{Word, Number, Mark}
+use Rattle.sg_rules.specs.sg_lex.Lexeme.{Lexeme, Spelling}
+use Rattle.sg_rules.specs.sg_lex.Inside.Automata.{Automaton}
+use Rattle.sg_rules.specs.sg_lex.Inside.Tests.{has_kind, is_fixed}
 use Rattle.sg_rules.specs.declared.version.Newer.{Newer}
 use Rattle.sg_rules.specs.declared.version.Newer.TheVariants.{Second, Third}
 use Rattle.sg_rules.specs.declared.tree.Rule.{Rule}

@@ -1,6 +1,6 @@
 -- The first kind, or else the second.
 use Rattle.std.proofs.Common.{sym, subst}
-use Rattle.sg_described.specs.Described.{described_of}
+use Rattle.sg_known.specs.sg_described.Described.{described_of}
 use Rattle.sg_safe.specs.Inside.Stages.{IsFound}
 use Rattle.sg_safe.specs.Reasons.{counts_far, first_from, recounts}
 use Rattle.sg_safe.proofs.Reasoning.{bare_first, far_bare, found_bare, found_second, recounts_bare}

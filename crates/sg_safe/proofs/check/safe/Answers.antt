@@ -1,7 +1,7 @@
 -- A description without a reason is safe.
 use Rattle.std.proofs.Common.{subst}
-use Rattle.sg_described.specs.Described.{described_of}
-use Rattle.sg_described.proofs.Keeping.SafeLaw.{plain_tells}
+use Rattle.sg_known.specs.sg_described.Described.{described_of}
+use Rattle.sg_known.proofs.sg_described.Keeping.SafeLaw.{plain_tells}
 use Rattle.sg_safe.specs.Inside.Stages.{IsFound}
 use Rattle.sg_safe.specs.Reasons.{unsafe_in}
 use Rattle.sg_safe.proofs.Reasoning.{safe_without}

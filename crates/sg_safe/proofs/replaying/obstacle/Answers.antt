@@ -2,8 +2,8 @@
 use Rattle.std.proofs.Common.{◌≡◌, true, length, map, sym, ◌∙◌, ap, subst}
 use Rattle.std.specs.Prelude.{nat_lt}
 use Rattle.std.specs.List.{list_all}
-use Rattle.sg_described.specs.Described.{rule_of}
-use Rattle.sg_described.specs.Walking.{is_lost}
+use Rattle.sg_known.specs.sg_described.Described.{rule_of}
+use Rattle.sg_known.specs.sg_described.Walking.{is_lost}
 use Rattle.sg_known.specs.Seen.{known_in, pairs_of}
 use Rattle.sg_known.specs.Surveys.{subject_of}
 use Rattle.sg_safe.specs.Inside.Seen.{shown}

@@ -1,6 +1,6 @@
 -- What is known of each part.
 use Rattle.std.proofs.Common.{◌∙◌, ◌++◌, map, ap}
-use Rattle.sg_walk.specs.Marks.{known_of}
+use Rattle.sg_known.specs.sg_walk.Marks.{known_of}
 use Rattle.sg_known.specs.Seen.{pairs_of}
 use Rattle.sg_known.specs.Surveys.{subject_of}
 use Rattle.sg_safe.specs.Inside.Replays.{fields_from}

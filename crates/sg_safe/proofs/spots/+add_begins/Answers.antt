@@ -1,6 +1,6 @@
 -- The first function is that of the number.
 use Rattle.std.proofs.Common.{rules}
-use Rattle.sg_described.specs.Described.{described_of}
+use Rattle.sg_known.specs.sg_described.Described.{described_of}
 use Rattle.sg_safe.proofs.Routing.{first_there, rest_there}
 use Rattle.sg_safe.proofs.spots.+add_begins.Goals as goal
 

@@ -1,6 +1,6 @@
 -- The first, and then the others.
 use Rattle.std.proofs.Common.{◌<◌, length, map, sym, subst, rules, arith}
-use Rattle.sg_described.specs.Described.{described_of}
+use Rattle.sg_known.specs.sg_described.Described.{described_of}
 use Rattle.sg_safe.specs.Inside.Routes.{IsReached, place_in}
 use Rattle.sg_safe.proofs.Routing.{all_rest, nexts_all, own_steps}
 use Rattle.sg_safe.proofs.spots.+add_nexts.Goals as goal

@@ -2,8 +2,8 @@
 use Rattle.std.proofs.Common.{◌≡◌, ◌+◌, ◌-◌, map, sym, ◌∙◌, ap, subst, rules}
 use Rattle.std.specs.Prelude.{All}
 use Rattle.std.specs.List.{flat_map}
-use Rattle.sg_described.specs.Described.{described_of}
-use Rattle.sg_described.specs.Walking.{add_spots, nexts, spots_within}
+use Rattle.sg_known.specs.sg_described.Described.{described_of}
+use Rattle.sg_known.specs.sg_described.Walking.{add_spots, nexts, spots_within}
 use Rattle.sg_safe.specs.Inside.Routes.{IsReached, place_in}
 use Rattle.sg_safe.proofs.Routing.{reached_weaker, spots_more}
 use Rattle.sg_safe.proofs.spots.+further.Goals as goal

@@ -1,6 +1,6 @@
 -- The function makes a descriptor.
 use Rattle.std.proofs.Common.{◌∙◌, sym, ap}
-use Rattle.sg_described.specs.Described.{described_of}
+use Rattle.sg_known.specs.sg_described.Described.{described_of}
 use Rattle.sg_safe.proofs.Routing.{reached_begun}
 use Rattle.sg_safe.proofs.spots.add_begin.Goals as goal
 

@@ -1,7 +1,7 @@
 -- Whether the pair is a step from there.
 use Rattle.std.proofs.Common.{◌≡◌, true, ◌+◌, length, map, sym, ◌∙◌}
-use Rattle.sg_described.specs.Described.{described_of}
-use Rattle.sg_described.specs.Walking.{is_step}
+use Rattle.sg_known.specs.sg_described.Described.{described_of}
+use Rattle.sg_known.specs.sg_described.Walking.{is_step}
 use Rattle.sg_safe.specs.Inside.Routes.{place_in}
 use Rattle.sg_safe.proofs.Routing.{reached_more, step_no, step_yes, steps_on_by}
 use Rattle.sg_safe.proofs.spots.add_step.Goals as goal

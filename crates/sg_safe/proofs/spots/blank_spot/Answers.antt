@@ -1,8 +1,8 @@
 -- No field is set.
 use Rattle.std.proofs.Common.{ap}
-use Rattle.sg_facts.specs.Walks.{Spot}
-use Rattle.sg_walk.proofs.Marks.{all_unset}
-use Rattle.sg_described.specs.Described.{described_of}
+use Rattle.sg_known.specs.sg_facts.Walks.{Spot}
+use Rattle.sg_known.proofs.sg_walk.Marks.{all_unset}
+use Rattle.sg_known.specs.sg_described.Described.{described_of}
 use Rattle.sg_safe.proofs.spots.blank_spot.Goals as goal
 
 pub returns : goal.returns

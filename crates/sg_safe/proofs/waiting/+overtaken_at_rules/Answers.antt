@@ -1,7 +1,7 @@
 -- The first rule from a place on, or a later one.
 use Rattle.std.proofs.Common.{◌≡◌, ◌+◌, ◌-◌, take, sym, ◌∙◌, ap, arith}
 use Rattle.std.proofs.lemmas.List.{take-map}
-use Rattle.sg_described.specs.Described.{rule_of, rules_at}
+use Rattle.sg_known.specs.sg_described.Described.{rule_of, rules_at}
 use Rattle.sg_known.specs.Surveys.{subject_of}
 use Rattle.sg_safe.specs.Reasons.{overtaken_at}
 use Rattle.sg_safe.proofs.Waits.{rule_first, rule_later}

@@ -1,9 +1,9 @@
 -- No rule comes in between, and this one surely applies.
 use Rattle.std.proofs.Common.{map, sym, ◌∙◌, ap}
 use Rattle.std.specs.List.{list_all}
-use Rattle.sg_described.specs.Described.{rule_of}
-use Rattle.sg_described.specs.Known.{surely_applies}
-use Rattle.sg_described.specs.Waiting.{stays_out, test_lasts}
+use Rattle.sg_known.specs.sg_described.Described.{rule_of}
+use Rattle.sg_known.specs.sg_described.Known.{surely_applies}
+use Rattle.sg_known.specs.sg_described.Waiting.{stays_out, test_lasts}
 use Rattle.sg_safe.proofs.Waits.{goes_by}
 use Rattle.sg_safe.proofs.waiting.goes_on.Goals as goal
 

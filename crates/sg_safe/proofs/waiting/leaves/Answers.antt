@@ -1,9 +1,9 @@
 -- None of the tests before holds.
 use Rattle.std.proofs.Common.{map, sym, ◌∙◌, ap}
 use Rattle.std.specs.Prelude.{◌&&◌}
-use Rattle.sg_described.specs.Described.{rule_of, rules_at}
-use Rattle.sg_described.specs.Known.{Known, surely_stops}
-use Rattle.sg_described.specs.Waiting.{keeps_state, known_where, never_meet, waits_on}
+use Rattle.sg_known.specs.sg_described.Described.{rule_of, rules_at}
+use Rattle.sg_known.specs.sg_described.Known.{Known, surely_stops}
+use Rattle.sg_known.specs.sg_described.Waiting.{keeps_state, known_where, never_meet, waits_on}
 use Rattle.sg_known.specs.Seen.{known_in}
 use Rattle.sg_known.specs.Surveys.{subject_of}
 use Rattle.sg_safe.proofs.Waits.{or_last}

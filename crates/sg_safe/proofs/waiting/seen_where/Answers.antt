@@ -1,10 +1,10 @@
 -- Each field is up to its greatest number, and then the tests tell more.
 use Rattle.std.proofs.Common.{◌≡◌, length, sym, ◌∙◌, ap, rules, vec_len}
 use Rattle.std.proofs.lemmas.List.{length-map}
-use Rattle.sg_facts.specs.Facts.{fun_of_shape}
-use Rattle.sg_described.specs.Known.{Known, after_tests, between}
-use Rattle.sg_described.specs.Meaning.{last_word}
-use Rattle.sg_described.proofs.Keeping.Fitting.{greatest_length}
+use Rattle.sg_known.specs.sg_facts.Facts.{fun_of_shape}
+use Rattle.sg_known.specs.sg_described.Known.{Known, after_tests, between}
+use Rattle.sg_known.specs.sg_described.Meaning.{last_word}
+use Rattle.sg_known.proofs.sg_described.Keeping.Fitting.{greatest_length}
 use Rattle.sg_known.specs.Seen.{fields_in}
 use Rattle.sg_known.specs.Surveys.{subject_of}
 use Rattle.sg_safe.proofs.Seeing.{any_known}

@@ -2,7 +2,7 @@
 use Rattle.std.proofs.Common.{ℕ, List, Some, sym, ◌∙◌, ap}
 use Rattle.std.specs.Option.{option_map}
 use Rattle.std.specs.Str.{bytes_eq}
-use Rattle.sg_facts.specs.declared.shape.Effect.{Effect}
+use Rattle.sg_check_statements.specs.sg_facts.declared.shape.Effect.{Effect}
 use Rattle.sg_shape.proofs.Loops.{found_here, none_more}
 use Rattle.sg_shape.proofs.effects.effect_on.Goals as goal
 

@@ -3,7 +3,7 @@ use Rattle.std.proofs.Common.{◌≡◌, ◌≤◌, true, false, [], ◌∷◌, 
 use Rattle.std.specs.Option.{option_map}
 use Rattle.std.proofs.lemmas.List.{take_all}
 use Rattle.std.proofs.lemmas.Option.{slice_get_past}
-use Rattle.sg_facts.specs.Limits.{most_fields}
+use Rattle.sg_check_statements.specs.sg_facts.Limits.{most_fields}
 use Rattle.sg_shape.specs.Fields.{Use, first_uses}
 use Rattle.sg_shape.proofs.FirstUses.{first_ones, had_use, is_first, next_one, not_first}
 use Rattle.sg_shape.proofs.fields.fields_of.Goals as goal

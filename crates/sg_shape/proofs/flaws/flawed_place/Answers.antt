@@ -1,7 +1,7 @@
 -- Prototype by prototype.
 use Rattle.std.proofs.Common.{Some, sym, ◌∙◌, ap}
 use Rattle.std.specs.Option.{option_map}
-use Rattle.sg_facts.specs.Facts.{facts_of}
+use Rattle.sg_check_statements.specs.sg_facts.Facts.{facts_of}
 use Rattle.sg_shape.specs.Flaws.{is_flawed}
 use Rattle.sg_shape.specs.Prototypes.{Prototype}
 use Rattle.sg_shape.proofs.Loops.{found_here, none_more}

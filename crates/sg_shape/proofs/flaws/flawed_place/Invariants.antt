@@ -1,7 +1,7 @@
 -- No prototype so far has the flaw.
 use Rattle.std.proofs.Common.{◌≡◌, None, take}
 use Rattle.std.specs.Prelude.{find}
-use Rattle.sg_facts.specs.Facts.{facts_of}
+use Rattle.sg_check_statements.specs.sg_facts.Facts.{facts_of}
 use Rattle.sg_shape.specs.Flaws.{is_flawed}
 use Rattle.sg_shape.proofs.flaws.flawed_place.Given as goal
 

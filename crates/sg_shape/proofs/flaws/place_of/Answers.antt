@@ -2,7 +2,7 @@
 use Rattle.std.proofs.Common.{sym, ◌∙◌, ap}
 use Rattle.std.specs.Prelude.{find}
 use Rattle.std.specs.Option.{option_map}
-use Rattle.sg_facts.specs.Facts.{Facts}
+use Rattle.sg_check_statements.specs.sg_facts.Facts.{Facts}
 use Rattle.sg_shape.specs.Faults.{place_of}
 use Rattle.sg_shape.specs.Fields.{Use, fields_of_text}
 use Rattle.sg_shape.specs.Flaws.{is_mixed}

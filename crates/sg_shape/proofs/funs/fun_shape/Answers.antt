@@ -1,6 +1,6 @@
 -- Part by part.
 use Rattle.std.proofs.Common.{map, drop, ◌∙◌, ap}
-use Rattle.sg_facts.specs.Fields.{number_of}
+use Rattle.sg_check_statements.specs.sg_facts.Fields.{number_of}
 use Rattle.sg_shape.specs.Fields.{fields_of_text}
 use Rattle.sg_shape.specs.Inside.Parts.{flags_said}
 use Rattle.sg_shape.specs.ShapeOfText.{kind_of, leaves_of, numbered}

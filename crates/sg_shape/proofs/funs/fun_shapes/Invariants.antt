@@ -1,6 +1,6 @@
 -- The functions of the prototypes so far.
 use Rattle.std.proofs.Common.{◌≡◌, map, take}
-use Rattle.sg_facts.specs.Facts.{fun_of_shape}
+use Rattle.sg_check_statements.specs.sg_facts.Facts.{fun_of_shape}
 use Rattle.sg_shape.specs.ShapeOfText.{function_of}
 use Rattle.sg_shape.proofs.funs.fun_shapes.Given as goal
 

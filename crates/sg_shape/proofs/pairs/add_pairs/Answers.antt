@@ -2,7 +2,7 @@
 use Rattle.std.proofs.Common.{◌≡◌, ℕ, ◌+◌, List, [], ◌∷◌, ◌++◌, map, sym, ◌∙◌, ap, append_assoc, arith}
 use Rattle.std.specs.Prelude.{filter, if◌then◌else◌}
 use Rattle.std.specs.List.{range_with_len}
-use Rattle.sg_facts.specs.Interface.{has_pair}
+use Rattle.sg_check_statements.specs.sg_facts.Interface.{has_pair}
 use Rattle.sg_shape.proofs.Steps.{row_more}
 use Rattle.sg_shape.proofs.pairs.add_pairs.Goals as goal
 

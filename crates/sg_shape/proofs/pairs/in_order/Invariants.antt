@@ -2,7 +2,7 @@
 use Rattle.std.proofs.Common.{◌≡◌, ℕ, map}
 use Rattle.std.specs.Prelude.{filter}
 use Rattle.std.specs.List.{flat_map, range_with_len}
-use Rattle.sg_facts.specs.Interface.{has_pair}
+use Rattle.sg_check_statements.specs.sg_facts.Interface.{has_pair}
 use Rattle.sg_shape.proofs.pairs.in_order.Given as goal
 
 abbrev pub invariant-firsts : goal.invariant-firsts

@@ -3,9 +3,9 @@ use Rattle.std.proofs.Common.{◌≡◌, true, Ok, Err, ◌∙◌, ap}
 use Rattle.std.specs.Prelude.{IfErr, IfOk, OnOk}
 use Rattle.std.specs.Result.{MatchResult}
 use Rattle.std.specs.declared.result.Result.{Result}
-use Rattle.sg_facts.specs.declared.shape.Shape.{Shape}
-use Rattle.sg_facts.specs.Allowed.{is_allowed}
-use Rattle.sg_facts.specs.Facts.{facts_of}
+use Rattle.sg_check_statements.specs.sg_facts.declared.shape.Shape.{Shape}
+use Rattle.sg_check_statements.specs.sg_facts.Allowed.{is_allowed}
+use Rattle.sg_check_statements.specs.sg_facts.Facts.{facts_of}
 use Rattle.sg_check_statements.specs.Shapes.{is_shape}
 use Rattle.sg_check_statements.specs.sg_parse.declared.tree.Tree.{Tree}
 use Rattle.sg_shape.specs.declared.fault.ShapeError.{ShapeError}

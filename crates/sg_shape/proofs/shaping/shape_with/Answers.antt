@@ -2,7 +2,7 @@
 use Rattle.std.proofs.Common.{◌≤◌, length, take, sym, ◌∙◌, ap, subst, arith}
 use Rattle.std.specs.Prelude.{All}
 use Rattle.std.proofs.lemmas.List.{take_all}
-use Rattle.sg_facts.specs.Limits.{most_fields}
+use Rattle.sg_check_statements.specs.sg_facts.Limits.{most_fields}
 use Rattle.sg_shape.specs.Fields.{first_uses, uses_of}
 use Rattle.sg_shape.specs.Limits.{most_params}
 use Rattle.sg_shape.specs.Prototypes.{Prototype}

@@ -1,7 +1,7 @@
 -- Rule by rule.
 use Rattle.std.proofs.Common.{sym, ap}
 use Rattle.std.specs.Prelude.{slice_get}
-use Rattle.sg_facts.specs.Facts.{facts_of, fun_of_shape}
+use Rattle.sg_shape.specs.sg_facts.Facts.{facts_of, fun_of_shape}
 use Rattle.sg_shape.proofs.Loops.{first_gathered, nothing_more}
 use Rattle.sg_describe.specs.AnswerFlaws.{rule_flaw}
 use Rattle.sg_describe.proofs.rule_flaws.Wanted.in_rules.Goals as goal

@@ -1,7 +1,7 @@
 -- No rule so far has the flaw.
 use Rattle.std.proofs.Common.{◌≡◌, [], take}
 use Rattle.std.specs.List.{filter_map}
-use Rattle.sg_facts.specs.Facts.{facts_of, fun_of_shape}
+use Rattle.sg_shape.specs.sg_facts.Facts.{facts_of, fun_of_shape}
 use Rattle.sg_describe.specs.AnswerFlaws.{rule_flaw}
 use Rattle.sg_describe.proofs.rule_flaws.Wanted.in_rules.Given as goal
 

@@ -1,7 +1,7 @@
 -- No test so far has an operand with the flaw.
 use Rattle.std.proofs.Common.{◌≡◌, [], take}
 use Rattle.std.specs.List.{filter_map}
-use Rattle.sg_facts.specs.Facts.{facts_of, fun_of_shape}
+use Rattle.sg_shape.specs.sg_facts.Facts.{facts_of, fun_of_shape}
 use Rattle.sg_describe.specs.AnswerFlaws.{operand_flaw, test_flaw}
 use Rattle.sg_describe.proofs.rule_flaws.Wanted.in_tests.Given as goal
 
