@@ -27,7 +27,7 @@ use Rattle.sg_input.specs.sg_lex.Table.{IsNumber}
 use Rattle.sg_load.specs.Services.{answering, facts_by, played_services}
 use Rattle.sg_report.specs.sg_hist.Recovered.{is_blocked}
 use Rattle.sg_facts.specs.sg_base.Counts.{last_count}
-use Rattle.sg_input.specs.sg_script.Numbers.{value_of_digits}
+use Rattle.sg_input.specs.sg_lex.Numbers.{value_of_digits}
 use Rattle.sg_input.specs.sg_script.declared.script.Script.{Script}
 use Rattle.sg_facts.specs.Interface.{Declared}
 use Rattle.sg_facts.specs.declared.entry.Entry.{Entry}
