@@ -17,8 +17,7 @@ use crate::declared::interface_of;
 use crate::protos::first_proto_in;
 use crate::reached::unreached_of;
 use crate::stuck::stuck_of;
-use sg_check_statements::{CheckError, CheckKind, Tree, fit_one_by_one, unless};
-use sg_check_statements::Shape;
+use sg_check_statements::{CheckError, CheckKind, Shape, Tree, fit_one_by_one, unless};
 use sg_walk::reachable;
 use std::alloc::Global;
 

@@ -6,8 +6,9 @@ ghost use Rattle.sg_check_statements.specs.sg_facts.Limits.{most_funs};
 ghost use Rattle.sg_check_statements.specs.Faults.{interface_of};
 ghost use Rattle.sg_check_statements.specs.Says.{has_proto, says_of};
 
-use sg_check_statements::{Protos, Statement, Tree, says_of};
-use sg_check_statements::{FunShape, Interface, NoMemory, PairList, Shape};
+use sg_check_statements::{
+    FunShape, Interface, NoMemory, PairList, Protos, Shape, Statement, Tree, says_of,
+};
 use std::alloc::Global;
 
 /// The interface that a text declares of a shape, whether the text is accepted or not: the functions that have a prototype, the

@@ -6,8 +6,7 @@ ghost use Rattle.sg_check_statements.specs.Inside.Pieces.{NoStatement};
 ghost use Rattle.sg_check.specs.Inside.Numbers.{marked};
 
 use crate::numbers::Numbers;
-use sg_check_statements::{Judge, Statement, first_flaw, fun_number};
-use sg_check_statements::Shape;
+use sg_check_statements::{Judge, Shape, Statement, first_flaw, fun_number};
 
 /// Looks for prototypes of functions whose numbers are in a set.
 #[derive(Clone, Copy)]

@@ -43,13 +43,13 @@ pub use pairs::has_pair;
 pub use params::{has_word, is_caller};
 pub use protos::{Protos, duplicate_in};
 pub use said::{says, says_of};
+pub use sg_facts::{
+    Code, END_OF_FUNS, Effect, FieldShape, FunShape, Interface, Kind, Leaves, ListOf, MOST_FIELDS,
+    MOST_FUNS, NoMemory, PairList, Parents, Service, Shape, Tables, TryCopy, WalkLine, WalkList,
+};
 pub use sg_parse::{
     Facts, Operand, Operator, Param, Relation, Ret, RowTest, Rule, Spelled, Statement, Term, Test,
     Tree, TypeName, number_of_digits, parse,
 };
 pub use stages::{fit_one_by_one, unless};
 pub use unknown::{bare, bare_second};
-pub use sg_facts::{
-    Code, END_OF_FUNS, Effect, FieldShape, FunShape, Interface, Kind, Leaves, ListOf, MOST_FIELDS,
-    MOST_FUNS, NoMemory, PairList, Parents, Service, Shape, Tables, TryCopy, WalkLine, WalkList,
-};

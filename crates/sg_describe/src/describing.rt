@@ -14,9 +14,8 @@ ghost use Rattle.sg_describe.specs.Inside.Parts.{HasFewNames};
 use crate::fault::{AnswerError, AnswerFault, AnswerFaultKind};
 use crate::flaws::flaw_of;
 use crate::making::described;
-use sg_shape::Tree;
 use sg_described::Description;
-use sg_shape::Shape;
+use sg_shape::{Shape, Tree};
 use std::alloc::Global;
 
 // The kinds in the order in which they are looked for.

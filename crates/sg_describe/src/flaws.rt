@@ -9,13 +9,14 @@ ghost use Rattle.sg_describe.specs.AnswerFaults.{flaw_of};
 ghost use Rattle.sg_describe.specs.AnswerFlaws.{fun_flaw, funs_flaw, gives_always, head_flaw, is_flawed, is_later_word, lacks_word, not_yet_in, repeat_place, repeats, replays_text, statement_flaw, text_param};
 ghost use Rattle.sg_describe.specs.Said.{first_in};
 
-use sg_shape::number_of_digits;
 use crate::fault::AnswerFaultKind;
 use crate::names::field_number;
 use crate::rule_flaws::Wanted;
 use crate::said::{answer_said, most_said, proto_place, rules_said};
-use sg_shape::{Param, Rule, Spelled, Statement, Tree, fun_of_name, has_word};
-use sg_shape::{Effect, FunShape, Kind, Parents, Shape};
+use sg_shape::{
+    Effect, FunShape, Kind, Param, Parents, Rule, Shape, Spelled, Statement, Tree, fun_of_name,
+    has_word, number_of_digits,
+};
 
 /// The first place at which a text of a shape, which has fewer than 255 functions, has a flaw of a kind.
 pub fn flaw_of(kind: AnswerFaultKind, shape: &Shape, tree: &Tree) -> Option<usize>

@@ -6,16 +6,14 @@ ghost use Rattle.sg_described.specs.Described.{described_of, rule_of as rule_in,
 ghost use Rattle.sg_describe.specs.DescribedText.{answer_of, described_with, most_of, operand_of, operated, relation_of, rule_of, term_of, test_of, tests_in, verdict_of};
 ghost use Rattle.sg_describe.specs.Inside.Parts.{HasFewNames, HasFewParams};
 
-use sg_shape::number_of_digits;
 use crate::names::{argument_named, code_named, named};
 use crate::said::{most_said, rules_said};
-use sg_shape::{
-    Operand as TextOperand, Operator, Relation as TextRelation, Rule, Statement, Term as TextTerm,
-    Test as TextTest,
-};
 use sg_described::{AnswerShape, Description, Operand, Relation, RuleShape, Term, Test, Verdict};
-use sg_shape::{Code, FieldShape, FunShape, NoMemory, Shape};
-use sg_shape::kept;
+use sg_shape::{
+    Code, FieldShape, FunShape, NoMemory, Operand as TextOperand, Operator,
+    Relation as TextRelation, Rule, Shape, Statement, Term as TextTerm, Test as TextTest, kept,
+    number_of_digits,
+};
 use std::alloc::Global;
 
 /// The greatest number of a field where no statement says one.

@@ -5,11 +5,8 @@ ghost use Rattle.sg_shape.specs.sg_facts.Facts.{facts_of};
 ghost use Rattle.sg_shape.specs.sg_facts.Limits.{most_fields, most_funs};
 ghost use Rattle.sg_describe.specs.Names.{argument_at, argument_named, code_named, field_number, named, param_place};
 
-use sg_shape::number_of_digits;
-use sg_shape::fun_number;
 use sg_described::Operand;
-use sg_shape::{Code, FieldShape, Kind, Shape};
-use sg_shape::count_args;
+use sg_shape::{Code, FieldShape, Kind, Shape, count_args, fun_number, number_of_digits};
 
 /// Every code.
 const CODES: [Code; 13] = [

@@ -8,11 +8,12 @@ ghost use Rattle.sg_describe.specs.AnswerFlaws.{operand_flaw, operands_flaw, own
 ghost use Rattle.sg_describe.specs.Names.{code_named, named};
 ghost use Rattle.sg_describe.specs.Said.{first_in};
 
-use sg_shape::number_of_digits;
 use crate::fault::AnswerFaultKind;
 use crate::names::{code_named, field_number, is_argument};
-use sg_shape::{Operand, RowTest, Rule, Spelled, Term, Test, fun_number};
-use sg_shape::{Code, FunShape, Shape};
+use sg_shape::{
+    Code, FunShape, Operand, RowTest, Rule, Shape, Spelled, Term, Test, fun_number,
+    number_of_digits,
+};
 
 /// What is looked for: a flaw of a kind in the rules of a function of a shape.
 #[derive(Clone, Copy)]

@@ -15,9 +15,10 @@ use crate::parts::put;
 use crate::reasons::{examine_with_reason, put_why};
 use crate::rebuilt::{put_counts, put_rebuilt};
 use crate::words::{TOO_LONG_EXPLAINED, script_words};
-use sg_input::{Bytes, Interface, NoMemory, Shape, WalkLine};
-use sg_input::{Accepted, MOST_INTERFACE, MOST_SCRIPT, Read, compile, cut, script_line};
-use sg_input::{Script, ScriptError, ScriptFault, read};
+use sg_input::{
+    Accepted, Bytes, Interface, MOST_INTERFACE, MOST_SCRIPT, NoMemory, Read, Script, ScriptError,
+    ScriptFault, Shape, WalkLine, compile, cut, read, script_line,
+};
 use std::alloc::Global;
 
 /// What is explained of an input, where its interface may be of one of these shapes. The input is the text of an interface, as `verdict`

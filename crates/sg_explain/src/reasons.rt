@@ -14,10 +14,9 @@ use crate::parts::put;
 use crate::places::{put_place, put_shown};
 use crate::stuck::put_stuck;
 use crate::words::{Sentences, refusal_words};
-use sg_input::{Bytes, NoMemory, Shape};
 use sg_input::{
-    Accepted, CheckError, CheckFault, CheckKind, ParseError, Read, RefusalKind, Tree, check_for,
-    parse, refusal_line,
+    Accepted, Bytes, CheckError, CheckFault, CheckKind, NoMemory, ParseError, Read, RefusalKind,
+    Shape, Tree, check_for, parse, refusal_line,
 };
 use std::alloc::Global;
 

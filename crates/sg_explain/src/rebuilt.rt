@@ -7,8 +7,7 @@ ghost use Rattle.sg_input.specs.sg_facts.Facts.{facts_of};
 ghost use Rattle.sg_input.specs.sg_print.TablesText.{set_names, walk_names};
 
 use crate::parts::put;
-use sg_input::{Bytes, FieldShape, NoMemory, Shape, WalkLine};
-use sg_input::{CallList, Script};
+use sg_input::{Bytes, CallList, FieldShape, NoMemory, Script, Shape, WalkLine};
 use std::alloc::Global;
 
 /// Adds a line for each walk of tables.

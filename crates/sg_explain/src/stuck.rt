@@ -18,8 +18,10 @@ ghost use Rattle.sg_explain.specs.Inside.Search.{GoesOn, IsFoundAt, IsFoundIn, T
 
 use crate::parts::put;
 use crate::rebuilt::put_come_to;
-use sg_input::{Bytes, Interface, NoMemory, Shape};
-use sg_input::{Statement, Tree, Triple, fun_number, interface_of, reachable, shortest};
+use sg_input::{
+    Bytes, Interface, NoMemory, Shape, Statement, Tree, Triple, fun_number, interface_of,
+    reachable, shortest,
+};
 use std::alloc::Global;
 
 /// Adds the line of the first of what a descriptor can come to in a state that no walk restores, where a text is refused for that state at

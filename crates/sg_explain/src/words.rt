@@ -2,8 +2,7 @@
 ghost use Rattle.std.specs.Prelude.{◌≡◌};
 ghost use Rattle.sg_explain.specs.Words.{check_words, refusal_words, script_words};
 
-use sg_input::{CheckKind, RefusalKind};
-use sg_input::ScriptKind;
+use sg_input::{CheckKind, RefusalKind, ScriptKind};
 use std::marker::Model;
 
 /// What is told of an input that is too long: the line that refuses it, and how long it may be.

@@ -55,16 +55,16 @@ pub use read::Read;
 pub use reading::read_input;
 pub use refusal::{RefusalKind, refusal_name};
 pub use run_input::read_run;
-pub use sg_stub::{
-    Accepted, CheckError, CheckFault, CheckKind, Protos, Statement, Tree, Triple, check, compile,
-    fun_number, interface_of, reachable, restores, says_of, shortest,
-};
 pub use sg_entries::History;
+pub use sg_facts::{
+    Bytes, Effect, FieldShape, FunShape, Interface, Kind, Leaves, MOST_FIELDS, NoMemory, PairList,
+    Parents, Shape, Tables, Walk, WalkLine,
+};
 pub use sg_print::{
     Lexer, ParseError, Rule, Tests, parse, print_tables, put_rule, put_term, put_tests,
 };
 pub use sg_script::{CallList, MultiScript, Script, ScriptError, ScriptFault, ScriptKind, read};
-pub use sg_facts::{
-    Bytes, Effect, FieldShape, FunShape, Interface, Kind, Leaves, MOST_FIELDS, NoMemory, PairList,
-    Parents, Shape, Tables, Walk, WalkLine,
+pub use sg_stub::{
+    Accepted, CheckError, CheckFault, CheckKind, Protos, Statement, Tree, Triple, check, compile,
+    fun_number, interface_of, reachable, restores, says_of, shortest,
 };

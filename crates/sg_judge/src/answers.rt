@@ -3,8 +3,7 @@ ghost use Rattle.std.specs.Prelude.{◌≡◌, ◌++◌, OnOk};
 ghost use Rattle.std.specs.List.{flat_map};
 ghost use Rattle.sg_judge.specs.AnswerLines.{answer_lines, answers_in, rule_sentence, rule_words, where_words};
 
-use sg_explain::{Rule, Statement, Tests, put, put_rule, put_term, put_tests};
-use sg_explain::{Bytes, NoMemory};
+use sg_explain::{Bytes, NoMemory, Rule, Statement, Tests, put, put_rule, put_term, put_tests};
 
 /// Adds the sentences of all rules.
 pub(crate) fn put_answers(out: &mut Bytes, statements: &[Statement]) -> Result<(), NoMemory>

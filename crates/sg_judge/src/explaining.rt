@@ -15,8 +15,9 @@ use crate::judging::own_tree;
 use crate::lines::own_line;
 use crate::reasons::put_more;
 use crate::words::own_words;
-use sg_explain::{Accepted, MOST_INTERFACE, Read, Tree, cut, put_why, told_of};
-use sg_explain::{Bytes, NoMemory, Shape};
+use sg_explain::{
+    Accepted, Bytes, MOST_INTERFACE, NoMemory, Read, Shape, Tree, cut, put_why, told_of,
+};
 use sg_own::{OwnError, OwnFault, check_own};
 use std::alloc::Global;
 

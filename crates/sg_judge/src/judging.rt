@@ -14,10 +14,9 @@ ghost use Rattle.sg_judge.specs.Inside.Examined.{IsOwnExamined};
 
 use crate::lines::own_line;
 use sg_explain::{
-    Accepted, Lexer, ParseError, Read, RefusalKind, Tree, accepted_line, compile, is_own, parse,
-    print_tables, refusal_line,
+    Accepted, Bytes, Lexer, NoMemory, ParseError, Read, RefusalKind, Shape, Tree, accepted_line,
+    compile, is_own, parse, print_tables, refusal_line,
 };
-use sg_explain::{Bytes, NoMemory, Shape};
 use sg_own::{OwnError, check_own};
 use std::alloc::Global;
 

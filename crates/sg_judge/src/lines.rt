@@ -4,8 +4,7 @@ ghost use Rattle.sg_explain.specs.sg_input.Lines.{refused_line};
 ghost use Rattle.sg_judge.specs.Names.{own_name};
 
 use crate::names::own_name;
-use sg_explain::interface_line;
-use sg_explain::{Bytes, NoMemory};
+use sg_explain::{Bytes, NoMemory, interface_line};
 use sg_own::OwnKind;
 use std::alloc::Global;
 

@@ -13,8 +13,7 @@ ghost use Rattle.sg_own.specs.declared.fault.OwnKind.TheVariants.{Walks};
 ghost use Rattle.sg_own.specs.sg_check_statements.declared.fault.CheckKind.TheVariants.{NoWalk};
 ghost use Rattle.sg_own.specs.Faults.{IsOwnFault};
 
-use sg_explain::{Tree, put, put_names, put_stuck};
-use sg_explain::{Bytes, NoMemory, Shape};
+use sg_explain::{Bytes, NoMemory, Shape, Tree, put, put_names, put_stuck};
 use sg_own::{
     Bounds, CheckError, CheckKind, FailingCall, KnownField, Obstacle, OwnFault, OwnKind,
     ShapeError, Unsafe, check, shape_of,

@@ -7,8 +7,9 @@ ghost use Rattle.sg_described.specs.Walking.{carrier};
 ghost use Rattle.sg_described.specs.sg_facts.Walks.{carries_arg};
 ghost use Rattle.sg_known.specs.Seen.{args_in, fields_in, known_in, pairs_of, up_to};
 
-use sg_described::{Bounds, Operand, Relation, RuleShape, Term, Test, Verdict};
-use sg_described::{Effect, FIRST_CLIENT, LAST_CLIENT};
+use sg_described::{
+    Bounds, Effect, FIRST_CLIENT, LAST_CLIENT, Operand, Relation, RuleShape, Term, Test, Verdict,
+};
 
 /// What is known of a call and its row.
 #[derive(Debug, Drop)]

@@ -6,8 +6,7 @@ ghost use Rattle.sg_described.specs.Waiting.{is_left, never_falls, never_lowers,
 ghost use Rattle.sg_known.specs.Seen.{pairs_of};
 
 use crate::known::waits;
-use sg_described::{Operand, Relation, RuleShape, Term, Test};
-use sg_described::Effect;
+use sg_described::{Effect, Operand, Relation, RuleShape, Term, Test};
 use sg_walk::effect_on;
 
 // Whether an effect is on a field.

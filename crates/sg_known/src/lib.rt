@@ -17,12 +17,12 @@ pub use known::{
     greatest_word, stop_surely, stops, waits,
 };
 pub use lasting::{all_keep_out, all_last};
+pub use sg_described::{
+    AnswerShape, Bounds, Code, Description, Effect, FieldShape, FunShape, Kind, LAST_CLIENT,
+    Leaves, ListOf, MOST_FIELDS, NoMemory, Operand, Parents, Relation, RuleShape, Shape, Term,
+    Test, Verdict, Walk,
+};
+pub use sg_walk::{FieldState, Spot, effect_on, marked};
 pub use states::{StateList, has_state, never_zero_states, state_left};
 pub use survey::{Survey, is_some_in, surveyed};
 pub use told::narrow_all;
-pub use sg_described::{
-    AnswerShape, Bounds, Code, Description, Effect, FieldShape, FunShape, Kind, LAST_CLIENT, Leaves,
-    ListOf, MOST_FIELDS, NoMemory, Operand, Parents, Relation, RuleShape, Shape, Term, Test,
-    Verdict, Walk,
-};
-pub use sg_walk::{FieldState, Spot, effect_on, marked};

@@ -9,8 +9,9 @@ ghost use Rattle.sg_known.specs.Seen.{pairs_of};
 ghost use Rattle.sg_known.specs.Surveys.{IsSurvey, leaves_only_client, never_zero_from, subject_of};
 
 use crate::states::{StateList, has_state, never_zero_states};
-use sg_described::Description;
-use sg_described::{Effect, FieldShape, FunShape, LAST_CLIENT, ListOf, NoMemory, Shape};
+use sg_described::{
+    Description, Effect, FieldShape, FunShape, LAST_CLIENT, ListOf, NoMemory, Shape,
+};
 use std::alloc::Global;
 
 /// What is found of a description before it is checked: the greatest number that each field comes to, and the states in which it

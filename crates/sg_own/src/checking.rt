@@ -18,9 +18,8 @@ use crate::fault::{OwnError, OwnFault, OwnKind};
 use crate::places::{kind_of, reason_place};
 use sg_check::{Accepted, CheckError, CheckFault, CheckKind, check};
 use sg_describe::{
-    AnswerError, Description, ShapeError, Statement, Tree, describe, proto_place, shape_of,
+    AnswerError, Description, Shape, ShapeError, Statement, Tree, describe, proto_place, shape_of,
 };
-use sg_describe::Shape;
 use sg_safe::{SafeError, Unsafe, safe};
 use std::alloc::Global;
 

@@ -1,7 +1,6 @@
 // What is wrong with a text that describes a service of its own.
 use sg_check::CheckKind;
-use sg_describe::{AnswerFaultKind, ShapeFaultKind};
-use sg_describe::NoMemory;
+use sg_describe::{AnswerFaultKind, NoMemory, ShapeFaultKind};
 use sg_safe::Unsafe;
 use thiserror::Error;
 

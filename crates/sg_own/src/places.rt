@@ -4,8 +4,7 @@ ghost use Rattle.sg_describe.specs.sg_facts.Facts.{facts_of};
 ghost use Rattle.sg_own.specs.SafePlaces.{call_place, fun_place, kind_of, obstacle_kind, most_place, reason_place, rule_at, rule_place};
 
 use crate::fault::SafetyKind;
-use sg_describe::{Rule, Statement, most_said, proto_place, rules_said};
-use sg_describe::Shape;
+use sg_describe::{Rule, Shape, Statement, most_said, proto_place, rules_said};
 use sg_safe::{FailingCall, Obstacle, Unsafe};
 
 /// The kind of a reason.

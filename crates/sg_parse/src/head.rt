@@ -10,8 +10,7 @@ ghost use Rattle.sg_rules.specs.sg_lex.Inside.Automata.{read, Leads};
 use crate::reader::{fixed, forked, mark, version, word_of};
 use crate::tree::Facts;
 use crate::words::Sort;
-use sg_rules::Spelled;
-use sg_rules::{Newer, ParseError, Reader};
+use sg_rules::{Newer, ParseError, Reader, Spelled};
 
 /// The facts at the head of a text, of whichever version the text is.
 pub fn facts<'a>(reader: &mut Reader<'a>) -> Result<Facts<'a>, ParseError>

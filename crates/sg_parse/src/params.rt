@@ -12,8 +12,7 @@ use crate::reader::{mark, take_mark, take_word, word_of};
 use crate::tree::{Param, ParamList};
 use crate::types::{SpelledType, declared, spelling};
 use crate::words::Sort;
-use sg_rules::Spelled;
-use sg_rules::{ParseError, Reader};
+use sg_rules::{ParseError, Reader, Spelled};
 use std::alloc::Global;
 
 /// The parameters after the bracket that opens them, at least one, and the bracket that closes them.

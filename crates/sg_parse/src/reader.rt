@@ -11,8 +11,10 @@ ghost use Rattle.sg_rules.specs.sg_lex.declared.token.TokenKind.TheVariants.{Num
 ghost use Rattle.sg_parse.specs.Inside.{named_token, number_token, one_of, version_of};
 
 use crate::words::Sort;
-use sg_rules::{IsKind, IsMark, IsWord, LexFault, Spelled, Token, TokenKind, TokenTest};
-use sg_rules::{Newer, ParseError, Reader};
+use sg_rules::{
+    IsKind, IsMark, IsWord, LexFault, Newer, ParseError, Reader, Spelled, Token, TokenKind,
+    TokenTest,
+};
 
 /// Takes the next token; None at the end of the text. A byte that begins none is a `Lex` error.
 pub fn next_token<'a>(reader: &mut Reader<'a>) -> Result<Option<Token<'a>>, ParseError>

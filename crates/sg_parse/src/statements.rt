@@ -15,8 +15,7 @@ use crate::reader::{has_sort, is_kept, mark, name_of, next_token, number, take_m
 use crate::tree::{Facts, Ret, Statement, StatementList, Tree, TypeName};
 use crate::types::{declared, spelling};
 use crate::words::Sort;
-use sg_rules::{Spelled, SpelledList, Token, TokenKind};
-use sg_rules::{ParseError, Reader, RuleList, parse_rules};
+use sg_rules::{ParseError, Reader, RuleList, Spelled, SpelledList, Token, TokenKind, parse_rules};
 use std::alloc::Global;
 
 /// The statements after the facts, up to the end of the text.

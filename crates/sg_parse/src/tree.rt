@@ -1,7 +1,5 @@
 // The tree of a text of the interface language.
-use sg_rules::ListOf;
-use sg_rules::{Spelled, SpelledList};
-use sg_rules::RuleList;
+use sg_rules::{ListOf, RuleList, Spelled, SpelledList};
 use std::marker::Model;
 
 /// The parameters of a prototype.

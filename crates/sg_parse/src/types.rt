@@ -8,9 +8,7 @@ ghost use Rattle.sg_rules.specs.sg_lex.Inside.Automata.{read, Leads};
 use crate::reader::{take_mark, take_word, unexpected, word_of};
 use crate::tree::TypeName;
 use crate::words::Sort;
-use sg_rules::NoMemory;
-use sg_rules::{Spelled, SpelledList};
-use sg_rules::{ParseError, Reader};
+use sg_rules::{NoMemory, ParseError, Reader, Spelled, SpelledList};
 use std::alloc::Global;
 
 /// The names of a type, the last apart, and the number of its stars. Without stars the last name may be the one that is

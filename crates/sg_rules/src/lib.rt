@@ -26,6 +26,11 @@ mod words;
 pub use error::ParseError;
 pub use laws::rules_have_one_tree;
 pub use rules::parse_rules;
+pub use sg_base::{ListOf, NoMemory};
+pub use sg_lex::{
+    IsKind, IsMark, IsWord, LexFault, Lexer, Spelled, SpelledList, Token, TokenKind, TokenTest,
+    first_token, number_of_digits,
+};
 pub use tokens::Reader;
 pub use tree::{
     Operand, Operator, Pick, PickList, Relation, RowTest, Rule, RuleList, Term, TermList, Test,
@@ -33,8 +38,3 @@ pub use tree::{
 };
 pub use version::Newer;
 pub use words::Keyword;
-pub use sg_lex::{
-    IsKind, IsMark, IsWord, LexFault, Lexer, Spelled, SpelledList, Token, TokenKind, TokenTest,
-    first_token, number_of_digits,
-};
-pub use sg_base::{ListOf, NoMemory};

@@ -13,9 +13,7 @@ use crate::reason::{SafeError, Unsafe};
 use crate::replaying::{first_failure, next_failure};
 use crate::spots::all_spots;
 use crate::waiting::first_overtaken;
-use sg_known::Description;
-use sg_known::{NoMemory, Walk};
-use sg_known::{Survey, surveyed};
+use sg_known::{Description, NoMemory, Survey, Walk, surveyed};
 use std::alloc::Global;
 
 /// A described service can be recovered: Ok exactly where it can and there is memory. Else the error tells the first reason why

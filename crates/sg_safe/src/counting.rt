@@ -12,8 +12,7 @@ ghost use Rattle.sg_safe.specs.Inside.Seen.{pairs_in};
 ghost use Rattle.sg_safe.specs.Reasons.{counts_far, first_from, first_in, recounts};
 
 use crate::reason::Unsafe;
-use sg_known::Description;
-use sg_known::{Effect, FunShape, Shape};
+use sg_known::{Description, Effect, FunShape, Shape};
 
 // A number that no word of a service comes near of.
 const SLOW: u64 = 1 << 34;

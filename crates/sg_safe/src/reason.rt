@@ -1,7 +1,5 @@
 // Why a described service can't be recovered.
-use sg_known::Bounds;
-use sg_known::{ListOf, NoMemory, Walk};
-use sg_known::FieldState;
+use sg_known::{Bounds, FieldState, ListOf, NoMemory, Walk};
 use thiserror::Error;
 
 /// What is known of a field where a walk has come to: whether it is restored, what it may be there, and what it may be in the row

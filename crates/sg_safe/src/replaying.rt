@@ -16,13 +16,10 @@ ghost use Rattle.sg_known.specs.sg_walk.Marks.{known_of};
 
 use crate::reason::{FailingCall, KnownField, KnownSpot, Obstacle, Unsafe};
 use crate::spots::{Reached, blank_spot, loses, marks_of, spot_after, steps_from};
-use sg_known::{Bounds, RuleShape};
-use sg_known::{Effect, FunShape, LAST_CLIENT, ListOf, NoMemory};
 use sg_known::{
-    ANY, ArgsKnown, Seen, Survey, ZERO, bounds_up_to, field_bounds, greatest_word, is_some_in,
-    stops,
+    ANY, ArgsKnown, Bounds, Effect, FieldState, FunShape, LAST_CLIENT, ListOf, NoMemory, RuleShape,
+    Seen, Spot, Survey, ZERO, bounds_up_to, field_bounds, greatest_word, is_some_in, stops,
 };
-use sg_known::{FieldState, Spot};
 use std::alloc::Global;
 
 // ---- what is known at a spot

@@ -13,10 +13,10 @@ ghost use Rattle.sg_safe.specs.Inside.Seen.{HasFewFields, pairs_in, shown, spot_
 ghost use Rattle.sg_safe.specs.Inside.Routes.{IsReached, add_begin, add_step, add_unlost, are_steps, most_before, nexts_by, place_in};
 ghost use Rattle.sg_known.specs.sg_walk.Marks.{known_of};
 
-use sg_known::Description;
-use sg_known::{Effect, FunShape, ListOf, MOST_FIELDS, NoMemory, Walk};
-use sg_known::state_left;
-use sg_known::{FieldState, Spot, marked};
+use sg_known::{
+    Description, Effect, FieldState, FunShape, ListOf, MOST_FIELDS, NoMemory, Spot, Walk, marked,
+    state_left,
+};
 use std::alloc::Global;
 
 /// Where a walk has come to, and the walk.

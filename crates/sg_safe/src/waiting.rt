@@ -13,13 +13,11 @@ ghost use Rattle.sg_known.specs.Surveys.{IsSurvey, subject_of};
 ghost use Rattle.sg_safe.specs.Reasons.{first_from, overtaken, overtaken_at, overtaken_by};
 
 use crate::reason::Unsafe;
-use sg_known::{Bounds, Description, RuleShape};
-use sg_known::{Effect, FunShape, NoMemory};
 use sg_known::{
-    ArgsKnown, Seen, Survey, all_keep_out, all_last, applies_surely, bounds_after, narrow_all,
-    state_left, stop_surely, waits,
+    ArgsKnown, Bounds, Description, Effect, FunShape, NoMemory, RuleShape, Seen, Survey,
+    all_keep_out, all_last, applies_surely, bounds_after, effect_on, narrow_all, state_left,
+    stop_surely, waits,
 };
-use sg_known::effect_on;
 use std::alloc::Global;
 
 /// A rule by which a caller may wait: its function, its number, the rules before it, and the rule.

@@ -14,8 +14,9 @@ use crate::adding::add;
 use crate::keeping::kept;
 use crate::params::is_id_param;
 use crate::protos::Proto;
-use sg_check_statements::{Param, Ret, Spelled, Statement, has_word};
-use sg_check_statements::{Effect, FieldShape, ListOf, NoMemory};
+use sg_check_statements::{
+    Effect, FieldShape, ListOf, NoMemory, Param, Ret, Spelled, Statement, has_word,
+};
 use std::alloc::Global;
 use std::marker::Model;
 

@@ -24,10 +24,9 @@ use crate::params::are_params;
 use crate::protos::Proto;
 use crate::uses::FieldUse;
 use sg_check_statements::{
-    Protos, Statement, Tree, bare, bare_second, fun_number, fun_of_name, leaves_another, says,
-    wrong_fact,
+    FieldShape, NoMemory, Parents, Protos, Shape, Statement, Tree, bare, bare_second, fun_number,
+    fun_of_name, leaves_another, says, wrong_fact,
 };
-use sg_check_statements::{FieldShape, NoMemory, Parents, Shape};
 use std::alloc::Global;
 
 /// The first place at which something of a kind, which isn't `Limit`, is wrong with a text within the limits: one of this shape, with these

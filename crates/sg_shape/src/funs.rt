@@ -14,8 +14,7 @@ use crate::effects::{effects_of, numbered};
 use crate::keeping::{kept, kept_name};
 use crate::params::{kinds_of, later};
 use crate::protos::{Proto, number_in};
-use sg_check_statements::{Statement, says};
-use sg_check_statements::{FieldShape, FunShape, Leaves, NoMemory};
+use sg_check_statements::{FieldShape, FunShape, Leaves, NoMemory, Statement, says};
 use std::alloc::Global;
 
 /// The functions of a text with these prototypes and fields, kept to the end of the program.

@@ -35,8 +35,8 @@ pub use laws::{flawless_shapes, one_verdict, own_texts_fit};
 pub use limits::{MOST_PARAMS, MOST_RULES};
 pub use rules::rule_at;
 pub use sg_check_statements::{
-    Code, Effect, FieldShape, FunShape, Kind, NoMemory, Operand, Operator, Param, Parents, Relation,
-    RowTest, Rule, Service, Shape, Spelled, Statement, Term, Test, Tree, fun_number, fun_of_name,
-    has_word, number_of_digits, parse,
+    Code, Effect, FieldShape, FunShape, Kind, NoMemory, Operand, Operator, Param, Parents,
+    Relation, RowTest, Rule, Service, Shape, Spelled, Statement, Term, Test, Tree, fun_number,
+    fun_of_name, has_word, number_of_digits, parse,
 };
 pub use shaping::shape_of;

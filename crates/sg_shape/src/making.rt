@@ -16,8 +16,7 @@ use crate::keeping::kept_name;
 use crate::pairs::pairs_of;
 use crate::protos::Proto;
 use crate::uses::FieldUse;
-use sg_check_statements::{Facts, Tree};
-use sg_check_statements::{FieldShape, FunShape, NoMemory, Parents, Shape};
+use sg_check_statements::{Facts, FieldShape, FunShape, NoMemory, Parents, Shape, Tree};
 use std::alloc::Global;
 
 /// The shape that a text within the limits declares: with these prototypes, and these first uses of its fields.

@@ -10,8 +10,7 @@ ghost use Rattle.sg_shape.specs.ShapeOfText.{in_order, pair_in, pairs_of};
 use crate::adding::add;
 use crate::keeping::kept;
 use crate::protos::{Proto, number_in};
-use sg_check_statements::{Statement, has_pair};
-use sg_check_statements::{NoMemory, PairList};
+use sg_check_statements::{NoMemory, PairList, Statement, has_pair};
 use std::alloc::Global;
 
 /// The pairs of functions that statements name under a word, each once, in order, kept to the end of the program. The prototypes are those

@@ -6,8 +6,7 @@ ghost use Rattle.sg_shape.specs.Flaws.{are_params, has_its_type, is_id_param};
 ghost use Rattle.sg_shape.specs.ShapeOfText.{kind_of};
 
 use crate::keeping::kept;
-use sg_check_statements::{Param, has_word, is_caller};
-use sg_check_statements::{Kind, NoMemory};
+use sg_check_statements::{Kind, NoMemory, Param, has_word, is_caller};
 use std::alloc::Global;
 
 /// The parameters after the caller.

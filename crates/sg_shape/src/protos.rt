@@ -3,8 +3,7 @@ ghost use Rattle.std.specs.Prelude.{◌≡◌, ◌+◌, ◌<◌, ◌≤◌, ◌^
 ghost use Rattle.sg_shape.specs.Prototypes.{names_of, number_from, proto_in, protos_of};
 
 use crate::adding::add;
-use sg_check_statements::{Param, Ret, Spelled, Statement};
-use sg_check_statements::{ListOf, NoMemory};
+use sg_check_statements::{ListOf, NoMemory, Param, Ret, Spelled, Statement};
 use std::alloc::Global;
 use std::marker::Model;
 

@@ -24,8 +24,7 @@ use crate::making::made;
 use crate::protos::{Proto, protos_of};
 use crate::rules::first_extra_rule;
 use crate::uses::{FieldUse, uses_of};
-use sg_check_statements::Tree;
-use sg_check_statements::{MOST_FUNS, Shape};
+use sg_check_statements::{MOST_FUNS, Shape, Tree};
 use std::alloc::Global;
 
 // The kinds that are looked for in a text within the limits, in their order.

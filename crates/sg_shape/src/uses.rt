@@ -6,8 +6,7 @@ ghost use Rattle.sg_shape.specs.Prototypes.{protos_of};
 
 use crate::adding::add;
 use crate::protos::Proto;
-use sg_check_statements::{Param, Ret, Spelled, Statement, has_word};
-use sg_check_statements::{ListOf, NoMemory};
+use sg_check_statements::{ListOf, NoMemory, Param, Ret, Spelled, Statement, has_word};
 use std::alloc::Global;
 use std::marker::Model;
 

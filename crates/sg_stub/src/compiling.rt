@@ -4,8 +4,7 @@ ghost use Rattle.sg_check.specs.sg_facts.Tables.{AreTables};
 
 use crate::lines::lines_of;
 use crate::triples::TripleSet;
-use sg_check::{Accepted, reachable};
-use sg_check::{NoMemory, Tables, TryCopy};
+use sg_check::{Accepted, NoMemory, Tables, TryCopy, reachable};
 use std::alloc::Global;
 
 /// The tables of an accepted interface: one line for each creation, state and set of fields that its descriptors can come to,

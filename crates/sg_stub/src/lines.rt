@@ -7,8 +7,7 @@ ghost use Rattle.sg_stub.specs.Inside.Lines.{AreBefore, IsLineOf};
 ghost use Rattle.sg_stub.specs.Inside.Triples.{AreIn, IsReachedBy};
 
 use crate::triples::TripleSet;
-use sg_check::{set_count, shortest};
-use sg_check::{END_OF_FUNS, Interface, NoMemory, WalkLine, WalkList};
+use sg_check::{END_OF_FUNS, Interface, NoMemory, WalkLine, WalkList, set_count, shortest};
 use std::alloc::Global;
 
 /// A line for each of these triples, which are all that descriptors of an interface can come to.

@@ -2,8 +2,7 @@
 ghost use Rattle.std.specs.Prelude.{◌≡◌, IfOk};
 ghost use Rattle.sg_stub.specs.Inside.Triples.{SameTriples, has_triple};
 
-use sg_check::Triple;
-use sg_check::NoMemory;
+use sg_check::{NoMemory, Triple};
 use std::alloc::Global;
 use std::collections::HashSet;
 use std::marker::Model;

@@ -5,8 +5,7 @@ ghost use Rattle.sg_input.specs.sg_check_statements.Shapes.{are_shapes};
 
 use crate::edits::{Edit, Layout, edited};
 use crate::shapes::standard_shapes;
-use sg_input::Shape;
-use sg_input::{Accepted, CheckError, CheckKind, check, column_of, line_of, parse};
+use sg_input::{Accepted, CheckError, CheckKind, Shape, check, column_of, line_of, parse};
 use std::alloc::Global;
 use std::process::Abort;
 use std::test::Fail;

@@ -4,8 +4,8 @@ ghost use Rattle.sg_input.specs.sg_facts.Facts.{facts_of};
 ghost use Rattle.sg_input.specs.sg_check_statements.Shapes.{is_shape};
 
 use crate::answers::answer;
-use sg_input::Shape;
 use sg_input::CheckKind::{UnknownFunction, UnknownService};
+use sg_input::Shape;
 use sg_load::kind::{EventService, LockService};
 use std::test::Fail;
 use test_interfaces::{EVENT, LOCK};

@@ -4,9 +4,8 @@ ghost use Rattle.sg_input.specs.sg_facts.Facts.{facts_of};
 ghost use Rattle.sg_input.specs.sg_check_statements.Shapes.{is_shape};
 
 use crate::answers::{Answer, accepted, answer};
-use sg_input::{Effect, FieldShape, FunShape, Kind, Leaves, Parents, Shape};
 use sg_input::CheckKind::NoWalk;
-use sg_input::compile;
+use sg_input::{Effect, FieldShape, FunShape, Kind, Leaves, Parents, Shape, compile};
 use sg_load::kind::LockService;
 use std::alloc::{AllocError, Global};
 use std::test::Fail;

@@ -1,8 +1,7 @@
 // The tables of the standard interfaces, and their text.
 use crate::answers::accepted;
 use crate::shapes::standard_shapes;
-use sg_input::Tables;
-use sg_input::{Read, compile, compiled};
+use sg_input::{Read, Tables, compile, compiled};
 use std::alloc::Global;
 use std::process::Abort;
 use std::test::Fail;

@@ -2,8 +2,7 @@
 ghost use Rattle.sg_input.specs.sg_facts.Interface.{HasFewFields};
 
 use crate::interfaces::{Pairs, interface};
-use sg_input::{Interface, NoMemory, Shape};
-use sg_input::{Triple, reachable};
+use sg_input::{Interface, NoMemory, Shape, Triple, reachable};
 use sg_load::kind::{EventService, LockService, RamfsService};
 use std::alloc::Global;
 use std::process::Abort;

@@ -1,7 +1,6 @@
 // What is said of a text, line by line.
 use crate::shapes::standard_shapes;
-use sg_input::Bytes;
-use sg_input::{Read, compiled, examine, verdict};
+use sg_input::{Bytes, Read, compiled, examine, verdict};
 use std::alloc::Global;
 use std::test::Fail;
 use test_interfaces::{LOCK, SCHED, TIMER};

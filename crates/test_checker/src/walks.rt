@@ -2,8 +2,7 @@
 ghost use Rattle.sg_input.specs.sg_facts.Interface.{HasFewFields};
 
 use crate::interfaces::{Pairs, interface};
-use sg_input::{FunShape, Interface, Leaves, NoMemory, Parents, Shape, Walk};
-use sg_input::{restores, shortest};
+use sg_input::{FunShape, Interface, Leaves, NoMemory, Parents, Shape, Walk, restores, shortest};
 use sg_load::kind::{
     EventService, LockService, MmService, RamfsService, SchedService, TimerService,
 };

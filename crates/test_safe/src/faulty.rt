@@ -9,8 +9,10 @@ use crate::services::{
     EVENT_SHAPE, GIVES, LOCK_ALLOC, LOCK_ANSWERS, LOCK_FREE, LOCK_SHAPE, LOCK_TAKE, SEM_ANSWERS,
     SEM_DOWN, SEM_FREE, SEM_MAKE, SEM_SHAPE, SEM_UP, WAITS,
 };
-use sg_safe::{AnswerShape, Description, Operand, Relation, RuleShape, Term, Test, Verdict};
-use sg_safe::{Code, Effect, FunShape, Kind, Leaves, Shape};
+use sg_safe::{
+    AnswerShape, Code, Description, Effect, FunShape, Kind, Leaves, Operand, Relation, RuleShape,
+    Shape, Term, Test, Verdict,
+};
 
 // ---- a replayed call that may be refused
 

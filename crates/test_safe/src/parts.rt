@@ -1,6 +1,7 @@
 // What descriptions here are made of.
-use sg_safe::{AnswerShape, Operand, Relation, RuleShape, Term, Test, Verdict};
-use sg_safe::{FieldShape, Parents, Shape};
+use sg_safe::{
+    AnswerShape, FieldShape, Operand, Parents, Relation, RuleShape, Shape, Term, Test, Verdict,
+};
 
 /// The caller.
 pub(crate) const CALLER: Term = Term::Only(Operand::Caller);

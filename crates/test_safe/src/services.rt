@@ -5,8 +5,10 @@ ghost use Rattle.sg_safe.specs.sg_described.Described.{described_of};
 ghost use Rattle.sg_safe.specs.sg_described.Safe.{is_plain};
 
 use crate::parts::{CALLER, DONE, FIELD, SINGLE, WAIT_AT_ZERO, ZERO};
-use sg_safe::{AnswerShape, Description, Operand, Relation, RuleShape, Term, Test, Verdict};
-use sg_safe::{Code, Effect, FieldShape, FunShape, Kind, Leaves, Shape};
+use sg_safe::{
+    AnswerShape, Code, Description, Effect, FieldShape, FunShape, Kind, Leaves, Operand, Relation,
+    RuleShape, Shape, Term, Test, Verdict,
+};
 
 // ---- locks
 

@@ -8,9 +8,9 @@ use crate::faulty::{
     counter, crate_overfull, forgetful_lock, heap, limited_event, mute_semaphore, tally,
 };
 use crate::services::{event, lock, semaphore};
-use sg_safe::{Bounds, Description};
-use sg_safe::{FailingCall, KnownField, Obstacle, SafeError, Unsafe, safe};
-use sg_safe::FieldState;
+use sg_safe::{
+    Bounds, Description, FailingCall, FieldState, KnownField, Obstacle, SafeError, Unsafe, safe,
+};
 use std::alloc::Global;
 use std::process::Abort;
 use std::test::Fail;
