@@ -5,7 +5,7 @@ ghost use Rattle.sg_rules.specs.declared.tree.RowTest.{RowTest as ARowTest};
 ghost use Rattle.sg_rules.specs.declared.tree.Test.{Test as ATest};
 ghost use Rattle.sg_rules.specs.declared.tree.Tests.{Tests as AllTests};
 ghost use Rattle.sg_rules.specs.declared.tree.What.{What as AWhat};
-ghost use Rattle.sg_rules.specs.Grammar.Inside.States.{RuleState, pick, picks, rows_or, rows_rest, rule_reader, test, tests, tests_from, what};
+ghost use Rattle.sg_rules.specs.Grammar.Inside.States.{RuleState, pick, picks, rows_or, rows_rest, rule_reader, one_test, tests, tests_from, what};
 ghost use Rattle.sg_rules.specs.Inside.{either_of};
 ghost use Rattle.sg_rules.specs.Inside.Parts.{part, LeadsOn};
 
@@ -39,9 +39,9 @@ pub fn tests<'a>(reader: &mut Reader<'a>, alloc: Global) -> Result<Tests<'a>, Pa
 }
 
 // A test.
-#[tactic(auto, unfolding(crate::specs::Grammar::Inside::States::test))]
+#[tactic(auto, unfolding(crate::specs::Grammar::Inside::States::one_test))]
 fn test<'a>(reader: &mut Reader<'a>) -> Result<Test<'a>, ParseError>
-    ensures leads { (k : ATest → RuleState) → LeadsOn rule_reader (part rule_reader (test k) reader.old) result k reader.new }
+    ensures leads { (k : ATest → RuleState) → LeadsOn rule_reader (part rule_reader (one_test k) reader.old) result k reader.new }
     ensures fewer { OnOk result (length reader.new.rest ≤ length reader.old.rest) }
 {
     let left = term(reader)?;

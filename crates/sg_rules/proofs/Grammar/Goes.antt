@@ -28,7 +28,7 @@ use Rattle.sg_rules.specs.declared.tree.Rule.TheVariants.{Refuse, Wait, Give, Gi
 use Rattle.sg_rules.specs.Grammar.Words.{word_of}
 use Rattle.sg_rules.specs.Grammar.Pieces.{RulePiece, fixed, word, word_at, name}
 use Rattle.sg_rules.specs.Grammar.Sentence.{operand_pieces, relation_pieces, what_pieces, HasTests, IsRule}
-use Rattle.sg_rules.specs.Grammar.Inside.States.{RuleState, fork, take, termed, picked, tested, ruled, operand, after_first, term, relation, test, pick, picks, rows_rest, rows_or, tests_from, tests, if_rest, else_rest, refuse_rest, wait_rest, given, row_rest, terms, least_of, first_rest, give_rest, due, with_rule}
+use Rattle.sg_rules.specs.Grammar.Inside.States.{RuleState, fork, take, termed, picked, tested, ruled, operand, after_first, term, relation, one_test, pick, picks, rows_rest, rows_or, tests_from, tests, if_rest, else_rest, refuse_rest, wait_rest, given, row_rest, terms, least_of, first_rest, give_rest, due, with_rule}
 use Rattle.sg_rules.proofs.Grammar.Basics.{apart, misses, spelt, IsOwn}
 use Rattle.sg_rules.proofs.Grammar.Steps.{GoesOn, there, onward}
 use Rattle.sg_rules.proofs.Grammar.Thens.{each, each_more, more_then, term_then, test_then, pick_then, rows_then, tests_of, tests_then, if_of, where_then, rule_then, rules_then}
@@ -128,8 +128,8 @@ related_goes : (o : Relation) (right : Term) (k : Relation → Term → RuleStat
 related_goes o right k qs end nor g =
     relation_goes o (λ o. term (k o)) (term_then right qs) end (operand_past Not refl refl refl right.first (more_then right.more qs)) (term_goes right (k o) qs end nor g)
 
-test_goes : (t : Test) (k : Test → RuleState) (qs : List RulePiece) (end : RuleState) → NoOperator qs → GoesOn (k t) qs end → GoesOn (test k) (test_then t qs) end
-unfolding test
+test_goes : (t : Test) (k : Test → RuleState) (qs : List RulePiece) (end : RuleState) → NoOperator qs → GoesOn (k t) qs end → GoesOn (one_test k) (test_then t qs) end
+unfolding one_test
 test_goes t k qs end nor g =
     term_goes t.left (λ left. relation (λ o. term (λ right. k (record { left = left; relation = o; right = right })))) (relation_pieces t.relation ++ term_then t.right qs) end
     (relation_no_operator t.relation (term_then t.right qs))
@@ -229,7 +229,7 @@ asked_goes : (more ts : List Test) (rows : RowTest) (k : Tests → RuleState) (q
 unfolding tests_from
 asked_goes [] ts rows k qs end some past nor g =
     onward {next = tests_from ts k} (inl (refl, refl))
-    (rows_goes rows (λ x. k (record { tests = ts; rows = Some x })) (test (λ t. tested (ts ++ t ∷ []) k)) qs end some past nor
+    (rows_goes rows (λ x. k (record { tests = ts; rows = Some x })) (one_test (λ t. tested (ts ++ t ∷ []) k)) qs end some past nor
     (subst (λ v. GoesOn (k (record { tests = v; rows = Some rows })) qs end) (append-nil ts) g))
 asked_goes (t ∷ more) ts rows k qs end some past nor g =
     onward {next = tests_from ts k} (inl (refl, refl))
@@ -244,7 +244,7 @@ tests_go [] None k qs end some past nor g = absurd (some refl)
 tests_go (t ∷ more) None k qs end some past nor g =
     next_test t [] k (each_more test_then more qs) end (more_no_operator test_then more qs nor) (tested_goes more (t ∷ []) k qs end past nor g)
 tests_go [] (Some rows) k qs end some past nor g =
-    rows_goes rows (λ x. k (record { tests = []; rows = Some x })) (test (λ t. tested (t ∷ []) k)) qs end some past nor g
+    rows_goes rows (λ x. k (record { tests = []; rows = Some x })) (one_test (λ t. tested (t ∷ []) k)) qs end some past nor g
 tests_go (t ∷ more) (Some rows) k qs end some past nor g =
     next_test t [] k (each_more test_then more (fixed Comma ∷ rows_then rows qs)) end (more_no_operator test_then more (fixed Comma ∷ rows_then rows qs) (refl, refl, refl, refl))
     (asked_goes more (t ∷ []) rows k qs end some past nor g)

@@ -23,7 +23,7 @@ use Rattle.sg_rules.specs.declared.tree.Rule.{Rule}
 use Rattle.sg_rules.specs.declared.tree.Rule.TheVariants.{Refuse, Wait, Give, GiveRow, GiveFirst}
 use Rattle.sg_rules.specs.Grammar.Pieces.{RulePiece, fixed, word, word_at, name}
 use Rattle.sg_rules.specs.Grammar.Sentence.{operand_pieces, operator_word, relation_pieces, what_pieces, HasTests, IsRule}
-use Rattle.sg_rules.specs.Grammar.Inside.States.{RuleState, ended, fork, take, termed, picked, tested, ruled, operand, after_first, term, relation, test, pick, picks, rows_rest, rows_or, tests_from, tests, if_rest, else_rest, refuse_rest, wait_rest, no_tests, given, row_rest, terms, least_of, first_rest, give_rest, due, with_rule}
+use Rattle.sg_rules.specs.Grammar.Inside.States.{RuleState, ended, fork, take, termed, picked, tested, ruled, operand, after_first, term, relation, one_test, pick, picks, rows_rest, rows_or, tests_from, tests, if_rest, else_rest, refuse_rest, wait_rest, no_tests, given, row_rest, terms, least_of, first_rest, give_rest, due, with_rule}
 use Rattle.sg_rules.proofs.Grammar.Basics.{apart, spelt}
 use Rattle.sg_rules.proofs.Grammar.Steps.{Goes, Begins}
 use Rattle.sg_rules.proofs.Grammar.Thens.{each, each_more, term_then, test_then, pick_then, rows_then, tests_of, tests_then, rule_then, rules_then, rules_snoc}
@@ -106,8 +106,8 @@ related_read : (k : Relation → Term → RuleState) (f : List RulePiece → Lis
 related_read k f h = relation_read false (λ o. term (k o)) f (λ o. term_read false (k o) (λ r. f (relation_pieces o ++ r)) (λ right. h o right))
 
 test_read : (may : Bool) (k : Test → RuleState) (f : List RulePiece → List RulePiece) → ((t : Test) → HasRead false (k t) (λ r. f (test_then t r)))
-    → HasRead may (test k) f
-unfolding test
+    → HasRead may (one_test k) f
+unfolding one_test
 test_read may k f h =
     term_read may (λ left. relation (λ o. term (λ right. k (record { left = left; relation = o; right = right })))) f
     (λ left. related_read (λ o right. k (record { left = left; relation = o; right = right })) (λ r. f (term_then left r))
@@ -166,7 +166,7 @@ record AfterTests (before : List Test) (k : Tests → RuleState) (f : List RuleP
 tests_from_read : (may : Bool) (before : List Test) (k : Tests → RuleState) (f : List RulePiece → List RulePiece) → AfterTests before k f → HasRead may (tests_from before k) f
 unfolding tests_from
 tests_from_read may before k f a =
-    rows_or_read may (λ rows. k (record { tests = before; rows = Some rows })) (test (λ t. tested (before ++ t ∷ []) k)) f
+    rows_or_read may (λ rows. k (record { tests = before; rows = Some rows })) (one_test (λ t. tested (before ++ t ∷ []) k)) f
     a.now (λ rows. a.opens (record { tests = before; rows = Some rows }))
     (test_read true (λ t. tested (before ++ t ∷ []) k) f
     (λ t. (

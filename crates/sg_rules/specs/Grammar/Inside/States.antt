@@ -118,8 +118,8 @@ unfoldable pub relation : (Relation → RuleState) → RuleState
 relation k = fork (Key is_word) (is_or_not k) (fork (Key below_word) (k Below) (due (Key above_word) (k Above)))
 
 -- before a test
-unfoldable pub test : (Test → RuleState) → RuleState
-test k = term (λ left. relation (λ r. term (λ right. k (record { left = left; relation = r; right = right }))))
+unfoldable pub one_test : (Test → RuleState) → RuleState
+one_test k = term (λ left. relation (λ r. term (λ right. k (record { left = left; relation = r; right = right }))))
 
 -- before what is asked of a row
 abbrev pub what : (What → RuleState) → RuleState
@@ -143,7 +143,7 @@ rows_or k other = take (a_word SomeRow) (λ n. rows_rest k true n.at) (take (a_w
 
 -- after these tests, before a further one or what is asked of the rows
 unfoldable pub tests_from : List Test → (Tests → RuleState) → RuleState
-tests_from before k = rows_or (λ rows. k (record { tests = before; rows = Some rows })) (test (λ t. tested (before ++ t ∷ []) k))
+tests_from before k = rows_or (λ rows. k (record { tests = before; rows = Some rows })) (one_test (λ t. tested (before ++ t ∷ []) k))
 
 -- before tests
 abbrev pub tests : (Tests → RuleState) → RuleState
