@@ -3,6 +3,7 @@
 //! - `texts`: the texts of version 1 (`LOCK`, `EVENT`, `MM`, `RAMFS`, `SCHED`), events in version 2 (`EVENT2`) and timers
 //!   (`TIMER`), and a text of version 1 in version 2 (`in_version_2`)
 //! - `own`: texts of version 3 (`SEMAPHORE`, `RWLOCK`, `CHANNEL`, `LEASE`, `DEVICE`, `SOCKETS`)
+//! - `places`: where the tokens of a text stand (`token_places`)
 //!
 //! The tests:
 //! - `tokens`: the tokens of texts
@@ -11,6 +12,7 @@
 #![tactic(auto)]
 
 mod own;
+mod places;
 #[cfg(test)]
 mod rules;
 #[cfg(test)]
@@ -22,4 +24,5 @@ mod tokens;
 mod trees;
 
 pub use own::{CHANNEL, DEVICE, LEASE, RWLOCK, SEMAPHORE, SOCKETS};
+pub use places::token_places;
 pub use texts::{EVENT, EVENT2, LOCK, MM, RAMFS, SCHED, TIMER, in_version_2};
