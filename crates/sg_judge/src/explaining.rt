@@ -40,7 +40,10 @@ pub fn explain(alloc: Global, input: &[u8], shapes: &[Shape]) -> Result<Read<Byt
 fn own_input<'a>(alloc: Global, input: &'a [u8]) -> Result<Option<Tree<'a>>, NoMemory>
     ensures { IfOk result (λ tree. MatchOption tree ((t : Sentence) → IsOwnInput input.now t → ⊥) (IsOwnInput input.now)) }
 {
-    if cut(input).is_some() || input.len() > MOST_INTERFACE {
+    if cut(input).is_some() {
+        return Ok(None);
+    }
+    if input.len() > MOST_INTERFACE {
         return Ok(None);
     }
     own_tree(alloc, input)

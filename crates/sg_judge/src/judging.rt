@@ -11,6 +11,7 @@ ghost use Rattle.sg_explain.specs.sg_input.Lines.{refused_line};
 ghost use Rattle.sg_explain.specs.sg_input.Verdicts.{refusal_name};
 ghost use Rattle.sg_explain.specs.sg_input.declared.refusal.RefusalKind.TheVariants.{Syntax};
 ghost use Rattle.sg_judge.specs.Inside.Examined.{IsOwnExamined};
+ghost use Rattle.sg_judge.specs.Inside.Places.{place_after};
 
 use crate::lines::own_line;
 use sg_explain::{
@@ -95,10 +96,15 @@ fn judge_upgrade(alloc: Global, text: &[u8], shapes: &[Shape]) -> Result<Read<By
 pub(crate) fn own_tree<'a>(alloc: Global, text: &'a [u8]) -> Result<Option<Tree<'a>>, NoMemory>
     ensures { IfOk result (λ tree. MatchOption tree (IsOfServices text.now) (IsOwnText text.now)) }
 {
-    match parse(alloc, text) {
-        Ok(tree) if is_own(&tree) => Ok(Some(tree)),
-        Err(ParseError::NoMemory) => Err(NoMemory),
-        _ => Ok(None),
+    let tree = match parse(alloc, text) {
+        Ok(tree) => tree,
+        Err(ParseError::NoMemory) => return Err(NoMemory),
+        Err(ParseError::Lex { .. } | ParseError::Syntax { .. }) => return Ok(None),
+    };
+    if is_own(&tree) {
+        Ok(Some(tree))
+    } else {
+        Ok(None)
     }
 }
 
@@ -141,7 +147,15 @@ fn unknown_version(alloc: Global, text: &[u8]) -> Result<Bytes, NoMemory>
 fn version_place(text: &[u8]) -> usize
     ensures { result ≡ version_place text.now }
 {
-    match Lexer::new(text).nth(BEFORE_VERSION) {
+    place_after(&mut Lexer::new(text), BEFORE_VERSION)
+}
+
+// The place of the token that a lexer gives after so many others; 0 where it gives none.
+fn place_after(lexer: &mut Lexer, passed: usize) -> usize
+    ensures { result ≡ place_after lexer.old passed }
+{
+    match lexer.next() {
+        Some(_) if passed > 0 => place_after(lexer, passed - 1),
         Some(Ok(token)) => token.at,
         _ => 0,
     }

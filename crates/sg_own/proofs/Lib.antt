@@ -1,2 +1,3 @@
+pub mod Itself
 pub mod NoReason
 pub mod One
