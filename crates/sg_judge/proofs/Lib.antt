@@ -1,3 +1,4 @@
 pub mod Alone
 pub mod OneSaid
 pub mod Parts
+pub mod Texts
