@@ -17,7 +17,7 @@ use crate::rebuilt::{put_counts, put_rebuilt};
 use crate::words::{TOO_LONG_EXPLAINED, script_words};
 use sg_input::{
     Accepted, Bytes, Interface, MOST_INTERFACE, MOST_SCRIPT, NoMemory, Read, Script, ScriptError,
-    ScriptFault, Shape, WalkLine, compile, cut, read, script_line,
+    ScriptFault, Shape, WalkLine, compile, cut, read_script, script_line,
 };
 use std::alloc::Global;
 
@@ -86,7 +86,7 @@ fn explain_script(
     ensures { IfOk result (λ told. (services : List Facts) (input interface : List ℕ) → AreTexts most_script input interface script.now
         → IsInterface services interface accepted.now → IsExplained services input told) }
 {
-    match read(alloc, script, accepted.interface()) {
+    match read_script(alloc, script, accepted.interface()) {
         Ok(parsed) => {
             let told = with_counts(alloc, accepted, &parsed)?;
             Ok(Read::Ready(told))

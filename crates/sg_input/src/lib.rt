@@ -63,7 +63,9 @@ pub use sg_facts::{
 pub use sg_print::{
     Lexer, ParseError, Rule, Tests, parse, print_tables, put_rule, put_term, put_tests,
 };
-pub use sg_script::{CallList, MultiScript, Script, ScriptError, ScriptFault, ScriptKind, read};
+pub use sg_script::{
+    CallList, MultiScript, Script, ScriptError, ScriptFault, ScriptKind, read as read_script,
+};
 pub use sg_stub::{
     Accepted, CheckError, CheckFault, CheckKind, Protos, Statement, Tree, Triple, check, compile,
     fun_number, interface_of, reachable, restores, says_of, shortest,
