@@ -194,6 +194,7 @@ IsRefusal command bytes output =
     ((length bytes ≤ most_bytes command) × (elim command as (λ c. Type 0) [
       | Play shows ↦ IsInputOf services bytes (refused output)
       | Run trace ↦ IsInputOf services bytes (refused output)
+      | Compile ↦ IsTabled services bytes (refused output)
       | Upgrade ↦ IsRenewed services bytes (refused output)
       | Explain ↦ IsExplainedAny services bytes (refused output)
       | Explore most ↦ IsInputOf services bytes (refused output)

@@ -4,12 +4,12 @@ use Rattle.sg_input.specs.declared.read.Read.TheVariants.{Refused as refused}
 use Rattle.sg_input.specs.Inputs.{IsInputOf, IsRunInputOf}
 use Rattle.sg_input.specs.MultiInputs.{IsMultiInputOf}
 use Rattle.sg_judge.specs.OwnExplained.{IsExplainedAny}
-use Rattle.sg_judge.specs.Said.{IsChecked, IsRenewed}
+use Rattle.sg_judge.specs.Said.{IsChecked, IsRenewed, IsTabled}
 use Rattle.sg_verify.specs.declared.verdict.Verdict.{Verdict}
 use Rattle.sg_verify.specs.declared.verdict.Verdict.TheVariants.{Legal}
 use Rattle.sg_top.specs.Answer.{IsExploredAs, IsJudgedAs, IsRefusal, services, most_bytes}
 use Rattle.sg_top.specs.declared.command.Command.{Command}
-use Rattle.sg_top.specs.declared.command.Command.TheVariants.{Play, Run, Upgrade, Explain, Explore, Verify, Multi, Load}
+use Rattle.sg_top.specs.declared.command.Command.TheVariants.{Play, Run, Compile, Upgrade, Explain, Explore, Verify, Multi, Load}
 use Rattle.sg_top.specs.declared.status.Status.{Status}
 use Rattle.sg_top.specs.declared.status.Status.TheVariants.{Done, Refused, ReadFault, WriteFault, NoMemory, Illegal}
 
@@ -30,6 +30,7 @@ abbrev pub IsRefusedAs : Command → List ℕ → List ℕ → Type 0
 IsRefusedAs command bytes output = elim command as (λ c. Type 0) [
   | Play shows ↦ IsInputOf services bytes (refused output)
   | Run trace ↦ IsInputOf services bytes (refused output)
+  | Compile ↦ IsTabled services bytes (refused output)
   | Upgrade ↦ IsRenewed services bytes (refused output)
   | Explain ↦ IsExplainedAny services bytes (refused output)
   | Explore most ↦ IsInputOf services bytes (refused output)
