@@ -2,3 +2,4 @@ pub mod Alone
 pub mod OneSaid
 pub mod Parts
 pub mod Texts
+pub mod Walking

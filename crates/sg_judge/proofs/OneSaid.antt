@@ -11,6 +11,7 @@ use Rattle.sg_explain.proofs.sg_input.OneVerdict.{one_compiled, one_upgraded, on
 use Rattle.sg_explain.proofs.sg_input.sg_stub.OneTable.{one_table}
 use Rattle.sg_explain.specs.sg_input.Inside.Said.{accepted_line}
 use Rattle.sg_explain.specs.sg_input.Lines.{refused_line}
+use Rattle.sg_explain.specs.sg_input.Verdicts.{IsCompiled, IsVerdict}
 use Rattle.sg_explain.specs.sg_input.declared.read.Read.{Read}
 use Rattle.sg_explain.specs.sg_input.declared.read.Read.TheVariants.{Ready, Refused}
 use Rattle.sg_own.specs.Faults.{IsOwnAccepted}
@@ -77,10 +78,10 @@ by_tables = record {
 }
 
 pub one_checked : (services : List Facts) (text : List ℕ) (one other : Read (List ℕ)) → IsChecked services text one → IsChecked services text other → one ≡ other
-one_checked services text = one_said OwnAccepted by_line _ services text (one_verdict services text)
+one_checked services text = one_said OwnAccepted by_line IsVerdict services text (one_verdict services text)
 
 pub one_tabled : (services : List Facts) (text : List ℕ) (one other : Read (List ℕ)) → IsTabled services text one → IsTabled services text other → one ≡ other
-one_tabled services text = one_said OwnTables by_tables _ services text (one_compiled services text)
+one_tabled services text = one_said OwnTables by_tables IsCompiled services text (one_compiled services text)
 
 pub one_renewed : (services : List Facts) (text : List ℕ) (one other : Read (List ℕ)) → IsRenewed services text one → IsRenewed services text other → one ≡ other
 one_renewed services text one other (inl a) (inl b) = a.1 ∙ sym b.1

@@ -6,7 +6,7 @@ use Rattle.sg_explain.specs.sg_input.Verdicts.{is_own}
 use Rattle.sg_explain.specs.sg_input.sg_print.sg_parse.Grammar.Parses.{Parses}
 use Rattle.sg_explain.specs.sg_input.sg_print.sg_parse.declared.tree.Tree.{Tree}
 use Rattle.sg_explain.specs.sg_input.sg_print.sg_parse.sg_rules.declared.error.ParseError.{ParseError}
-use Rattle.sg_explain.specs.sg_input.sg_print.sg_parse.sg_rules.declared.error.ParseError.TheVariants.{NoMemory}
+use Rattle.sg_explain.specs.sg_input.sg_print.sg_parse.sg_rules.declared.error.ParseError.TheVariants.{Lex, NoMemory, Syntax}
 use Rattle.sg_explain.proofs.sg_input.OneInput.{one_tree}
 use Rattle.sg_judge.specs.Said.{IsOfServices, IsOwnText}
 
@@ -24,3 +24,9 @@ no_tree text answer fault only is other t own = by (only (Ok t) own.parses (λ e
     by : (answer ≡ Ok t) ⊎ (answer ≡ Err NoMemory) → ⊥
     by (inl ok) = let wrong : Ok t ≡ Err fault = sym ok ∙ is in cc wrong
     by (inr none) = let same : Err fault ≡ Err NoMemory = sym is ∙ none in other (cc same)
+
+pub lex_tells : (at : ℕ) → Lex at ≡ NoMemory → ⊥
+lex_tells at is = cc is
+
+pub syntax_tells : (at : ℕ) → Syntax at ≡ NoMemory → ⊥
+syntax_tells at is = cc is

@@ -9,6 +9,7 @@ ghost use Rattle.sg_judge.specs.Said.{IsOwnText};
 ghost use Rattle.sg_explain.specs.sg_input.sg_print.sg_parse.declared.tree.Tree.{Tree as Sentence};
 ghost use Rattle.sg_judge.specs.OwnExplained.{ExplainsOwn, ExplainsOwnFault, IsExplainedAny, IsOwnExplained, IsOwnInput};
 ghost use Rattle.sg_judge.specs.Inside.Told.{TellsMore};
+ghost use Rattle.sg_explain.specs.Explained.{IsUndivided};
 
 use crate::answers::put_answers;
 use crate::judging::own_tree;
@@ -40,9 +41,17 @@ pub fn explain(alloc: Global, input: &[u8], shapes: &[Shape]) -> Result<Read<Byt
 fn own_input<'a>(alloc: Global, input: &'a [u8]) -> Result<Option<Tree<'a>>, NoMemory>
     ensures { IfOk result (λ tree. MatchOption tree ((t : Sentence) → IsOwnInput input.now t → ⊥) (IsOwnInput input.now)) }
 {
-    if cut(input).is_some() {
-        return Ok(None);
+    match cut(input) {
+        Some(_) => Ok(None),
+        None => short_tree(alloc, input),
     }
+}
+
+// The same of an input that no line divides.
+fn short_tree<'a>(alloc: Global, input: &'a [u8]) -> Result<Option<Tree<'a>>, NoMemory>
+    requires { IsUndivided input.now }
+    ensures { IfOk result (λ tree. MatchOption tree ((t : Sentence) → IsOwnInput input.now t → ⊥) (IsOwnInput input.now)) }
+{
     if input.len() > MOST_INTERFACE {
         return Ok(None);
     }

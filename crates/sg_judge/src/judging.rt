@@ -99,7 +99,8 @@ pub(crate) fn own_tree<'a>(alloc: Global, text: &'a [u8]) -> Result<Option<Tree<
     let tree = match parse(alloc, text) {
         Ok(tree) => tree,
         Err(ParseError::NoMemory) => return Err(NoMemory),
-        Err(ParseError::Lex { .. } | ParseError::Syntax { .. }) => return Ok(None),
+        Err(ParseError::Lex { .. }) => return Ok(None),
+        Err(ParseError::Syntax { .. }) => return Ok(None),
     };
     if is_own(&tree) {
         Ok(Some(tree))

@@ -1,5 +1,5 @@
 // What is told besides of what is first wrong with a text.
-ghost use Rattle.std.specs.Prelude.{◌≡◌, ◌++◌, OnOk, IfOk, IfErr};
+ghost use Rattle.std.specs.Prelude.{◌≡◌, ◌+◌, ◌^◌, ◌<◌, ◌++◌, OnOk, IfOk, IfErr, length};
 ghost use Rattle.std.specs.List.{flat_map};
 ghost use Rattle.sg_explain.specs.sg_facts.Facts.{Facts, facts_of};
 ghost use Rattle.sg_own.specs.Faults.{IsDescription};
@@ -61,7 +61,7 @@ fn put_walk_more(out: &mut Bytes, alloc: Global, tree: &Tree, at: usize) -> Resu
     match check(alloc, tree, &[shape]) {
         Ok(_) => put(out, &[b"it is sm_external: no walk begins with it\n"]),
         Err(CheckError::NoMemory) => Err(NoMemory),
-        Err(CheckError::Fault(fault)) => put_stuck(out, alloc, tree, fault.at, &[shape]),
+        Err(CheckError::Fault(_)) => put_stuck(out, alloc, tree, at, &[shape]),
     }
 }
 
@@ -122,6 +122,7 @@ fn put_fields(
     first: usize,
     fields: &[KnownField],
 ) -> Result<(), NoMemory>
+    requires { first + length fields.now < 2 ^ 64 }
     ensures { OnOk result (out.new ≡ out.old ++ fields_words (facts_of shape.now) first fields.now) }
 {
     match fields {
