@@ -8,4 +8,5 @@ pub mod Judging
 pub mod Named
 pub mod Refusals
 pub mod Running
+pub mod Saying
 pub mod Several

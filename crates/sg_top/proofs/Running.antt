@@ -30,6 +30,11 @@ pub of_one : {A E : Type 0} (r : Result A E) (P Q : A → Type 0) → ((a : A) �
 of_one (Ok a) P Q make p = make a p
 of_one (Err e) P Q make p = tt
 
+-- what two facts of an outcome make
+pub of_two : {A E : Type 0} (r : Result A E) (P Q R : A → Type 0) → ((a : A) → P a → Q a → R a) → IfOk r P → IfOk r Q → IfOk r R
+of_two (Ok a) P Q R make p q = make a p q
+of_two (Err e) P Q R make p q = tt
+
 -- what three facts of an outcome make
 pub of_three : {A E : Type 0} (r : Result A E) (P Q R S : A → Type 0) → ((a : A) → P a → Q a → R a → S a) → IfOk r P → IfOk r Q → IfOk r R → IfOk r S
 of_three (Ok a) P Q R S make p q r = make a p q r

@@ -1,9 +1,10 @@
 -- A script that is ready is played in one thread.
-use Rattle.std.proofs.Common.{◌∙◌, ap, map, refl, subst, sym}
+use Rattle.std.proofs.Common.{◌∙◌, ap, false, map, refl, subst, sym}
 use Rattle.sg_facts.specs.Facts.{facts_of}
 use Rattle.sg_facts.specs.Interface.{Declared}
-use Rattle.sg_input.specs.Inputs.{IsReady}
-use Rattle.sg_top.specs.Answer.{services}
+use Rattle.sg_input.specs.Inputs.{IsInputOf, IsReady}
+use Rattle.sg_input.specs.declared.read.Read.TheVariants.{Refused as refused}
+use Rattle.sg_top.specs.Answer.{services, IsPlayOutput}
 use Rattle.sg_top.specs.Inside.Plays.{IsPlayed}
 use Rattle.sg_top.proofs.Fitting.{ready_for, ready_playable, ready_service, ready_stops}
 use Rattle.sg_top.proofs.Running.{of_three, output_in_order}
@@ -48,3 +49,12 @@ returns-in_ok-played-in-Ready c =
     (c.kind_of-kind.ensures ∙ ap (λ (i : Declared). i.facts) c.interface.ensures.same) c.in_ok-played-in-Ready.ensures
     ran status text)
     c.reported.ensures.text c.reported.ensures.status c.reported.ensures.ran
+
+pub returns-in-Refused : goal.returns-in-Refused
+returns-in-Refused c =
+    subst (λ e. IsPlayOutput c.args.bytes.now false c.args.shows e c.refusing.result.status c.refusing.result.text) (sym c.refusing.ensures.ran) (
+      c.refusing.ensures.status,
+      subst (λ t. IsInputOf services c.args.bytes.now (refused t)) (sym c.refusing.ensures.line)
+          (subst (λ x. IsInputOf services c.args.bytes.now x) c.in-Refused.is
+          (subst (λ known. IsInputOf known c.args.bytes.now c.in_ok-accepted.field-0) c.shapes.ensures.facts c.in_ok-accepted.ensures.input)),
+    )
