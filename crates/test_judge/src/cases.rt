@@ -3,11 +3,37 @@ use sg_judge::{Read, verdict};
 use std::alloc::{AllocError, Global};
 use std::process::Abort;
 use std::test::Fail;
+use test_interfaces::{CHANNEL, DEVICE, LEASE, RWLOCK, SEMAPHORE, SOCKETS};
+
+/// The text that is changed.
+#[derive(Clone, Copy, Debug)]
+pub enum Base {
+    Semaphore,
+    Rwlock,
+    Channel,
+    Lease,
+    Device,
+    Sockets,
+}
+
+impl Base {
+    /// Its bytes.
+    pub fn text(self) -> &'static [u8] {
+        match self {
+            Base::Semaphore => SEMAPHORE,
+            Base::Rwlock => RWLOCK,
+            Base::Channel => CHANNEL,
+            Base::Lease => LEASE,
+            Base::Device => DEVICE,
+            Base::Sockets => SOCKETS,
+        }
+    }
+}
 
 /// A text that is made from another by putting something in the place of a piece, at the first place where that stands; and what `check` says.
 #[derive(Clone, Copy, Debug)]
 pub struct Case {
-    pub base: &'static [u8],
+    pub base: Base,
     pub piece: &'static str,
     pub instead: &'static str,
     pub said: &'static str,
@@ -20,19 +46,21 @@ pub(crate) fn changed(
     piece: &[u8],
     instead: &[u8],
 ) -> Result<Vec<u8>, AllocError> {
-    let mut text = Vec::new(alloc);
-    let mut rest = base;
-    'bytes: while !rest.is_empty() {
-        if let Some(behind) = rest.strip_prefix(piece) {
-            text.extend_from_slice(instead)?;
-            text.extend_from_slice(behind)?;
-            return Ok(text);
-        }
-        let (byte, more) = rest.split_at(1);
-        text.extend_from_slice(byte)?;
-        rest = more;
-    }
+    let at = place_of(base, piece);
+    let mut text = Vec::from_slice(alloc, base.get(..at).unwrap_or(b""))?;
+    text.extend_from_slice(instead)?;
+    text.extend_from_slice(base.get(at.saturating_add(piece.len())..).unwrap_or(b""))?;
     Ok(text)
+}
+
+// The first place at which a piece stands; the end of the text where it stands nowhere.
+fn place_of(text: &[u8], piece: &[u8]) -> usize {
+    for at in 0..text.len() {
+        if text.get(at..).unwrap_or(b"").starts_with(piece) {
+            return at;
+        }
+    }
+    text.len()
 }
 
 /// What is said of a text, among no services.
@@ -49,7 +77,7 @@ pub(crate) fn try_each(rt: &impl Abort, alloc: Global, cases: &[Case]) -> Result
     for case in cases {
         let text = changed(
             alloc,
-            case.base,
+            case.base.text(),
             case.piece.as_bytes(),
             case.instead.as_bytes(),
         )?;

@@ -1,18 +1,17 @@
 // The examples are accepted, and not upgraded.
-use crate::cases::said;
+use crate::cases::{Base, said};
 use sg_judge::{Read, upgraded};
 use std::alloc::Global;
 use std::process::Abort;
 use std::test::Fail;
-use test_interfaces::{CHANNEL, DEVICE, LEASE, RWLOCK, SEMAPHORE, SOCKETS};
 
-static EXAMPLES: [(&[u8], &str); 6] = [
-    (SEMAPHORE, "accepted semaphore\n"),
-    (RWLOCK, "accepted rwlock\n"),
-    (CHANNEL, "accepted channel\n"),
-    (LEASE, "accepted lease\n"),
-    (DEVICE, "accepted device\n"),
-    (SOCKETS, "accepted sockets\n"),
+static EXAMPLES: [(Base, &str); 6] = [
+    (Base::Semaphore, "accepted semaphore\n"),
+    (Base::Rwlock, "accepted rwlock\n"),
+    (Base::Channel, "accepted channel\n"),
+    (Base::Lease, "accepted lease\n"),
+    (Base::Device, "accepted device\n"),
+    (Base::Sockets, "accepted sockets\n"),
 ];
 
 // A text is accepted with this line, and not upgraded.
@@ -34,8 +33,8 @@ fn accepted(rt: &impl Abort, alloc: Global, text: &[u8], line: &str) -> Result<(
 #[test]
 fn examples_are_accepted(rt: HostRuntime) -> Result<(), Fail> {
     let alloc = rt.alloc();
-    for (text, line) in &EXAMPLES {
-        accepted(&rt, alloc, text, line)?;
+    for (base, line) in &EXAMPLES {
+        accepted(&rt, alloc, base.text(), line)?;
     }
     Ok(())
 }

@@ -1,15 +1,14 @@
 // What is explained of texts.
-use crate::cases::changed;
+use crate::cases::{Base, changed};
 use sg_judge::{Read, explain};
 use std::alloc::Global;
 use std::process::Abort;
 use std::test::Fail;
-use test_interfaces::{RWLOCK, SEMAPHORE};
 
 /// A text that is made from another by putting something in the place of a piece; and what is explained of it.
 #[derive(Clone, Copy, Debug)]
 struct Explained {
-    base: &'static [u8],
+    base: Base,
     piece: &'static str,
     instead: &'static str,
     told: &'static str,
@@ -17,7 +16,7 @@ struct Explained {
 
 static CASES: [Explained; 5] = [
     Explained {
-        base: SEMAPHORE,
+        base: Base::Semaphore,
         piece: "",
         instead: "",
         told: "\
@@ -28,7 +27,7 @@ static CASES: [Explained; 5] = [
             Else sem_down is done.\n",
     },
     Explained {
-        base: SEMAPHORE,
+        base: Base::Semaphore,
         piece: "sm_wakeup(sem_up);",
         instead: "",
         told: "\
@@ -40,7 +39,7 @@ static CASES: [Explained; 5] = [
             it may be let pass by sem_up\n",
     },
     Explained {
-        base: RWLOCK,
+        base: Base::Rwlock,
         piece: "sm_recover(rw_make, rw_owner);",
         instead: "sm_recover(rw_make, rw_owner);\nsm_recover(rw_make, rw_write);",
         told: "\
@@ -52,7 +51,7 @@ static CASES: [Explained; 5] = [
             replay of rw_write after rw_make rw_readers; readers 0 to 64; writer 0\n",
     },
     Explained {
-        base: SEMAPHORE,
+        base: Base::Semaphore,
         piece: "sm_block(sem_down);",
         instead: "sm_block(sem_down);\nsm_external(sem_make);",
         told: "\
@@ -64,7 +63,7 @@ static CASES: [Explained; 5] = [
             it is sm_external: no walk begins with it\n",
     },
     Explained {
-        base: SEMAPHORE,
+        base: Base::Semaphore,
         piece: "count is 0",
         instead: "cuont is 0",
         told: "\
@@ -80,7 +79,7 @@ static CASES: [Explained; 5] = [
 fn is_explained(rt: &impl Abort, alloc: Global, case: &Explained) -> Result<(), Fail> {
     let text = changed(
         alloc,
-        case.base,
+        case.base.text(),
         case.piece.as_bytes(),
         case.instead.as_bytes(),
     )?;

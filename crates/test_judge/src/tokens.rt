@@ -1,11 +1,19 @@
 // The examples with each token left out, doubled or replaced: whatever `check` says of such a text, `compile` and `explain` say it too.
+use crate::cases::Base;
 use sg_judge::{Read, compiled, explain, verdict};
 use std::alloc::{AllocError, Global};
 use std::process::Abort;
 use std::test::Fail;
-use test_interfaces::{CHANNEL, DEVICE, LEASE, RWLOCK, SEMAPHORE, SOCKETS, token_places};
+use test_interfaces::token_places;
 
-static EXAMPLES: [&[u8]; 6] = [SEMAPHORE, RWLOCK, CHANNEL, LEASE, DEVICE, SOCKETS];
+static EXAMPLES: [Base; 6] = [
+    Base::Semaphore,
+    Base::Rwlock,
+    Base::Channel,
+    Base::Lease,
+    Base::Device,
+    Base::Sockets,
+];
 
 // A text with other bytes in the place of so many.
 fn with(
@@ -73,7 +81,8 @@ fn try_token(
 #[test]
 fn commands_agree_on_each_token(rt: HostRuntime) -> Result<(), Fail> {
     let alloc = rt.alloc();
-    for text in &EXAMPLES {
+    for example in &EXAMPLES {
+        let text = example.text();
         let places = token_places(alloc, text)?;
         for (at, len) in places.as_slice() {
             try_token(&rt, alloc, text, *at, *len)?;
