@@ -1,6 +1,6 @@
 // The standard interfaces are those that the texts declare.
 ghost use Rattle.std.specs.Prelude.{◌≡◌, true};
-ghost use Rattle.sg_top.specs.sg_check_statements.Shapes.{is_shape};
+ghost use Rattle.sg_top.specs.sg_load.sg_check_statements.Shapes.{is_shape};
 ghost use Rattle.sg_top.specs.sg_load.Services.{facts_by};
 
 use sg_top::ServiceKind::{Events, Files, Locks, Pages, Threads, Timers};
