@@ -112,7 +112,8 @@ fn add_by(
         Some(next) => {
             let mut longer = walk;
             longer.push(fun)?;
-            found.add(next, longer)
+            found.add(next, longer)?;
+            Ok(())
         }
         None => Ok(()),
     }

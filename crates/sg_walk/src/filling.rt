@@ -48,7 +48,8 @@ fn put_made(
     // Nothing is done: the proof takes what is known of this value.
     let _declared = iface.declared;
     let found = arrivals_of(alloc, iface, steps, made)?;
-    put_all(iface, made, &found, walks)
+    put_all(iface, made, &found, walks)?;
+    Ok(())
 }
 
 // Puts the walks of arrivals where they restore something, those that came first before others.
