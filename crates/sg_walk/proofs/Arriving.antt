@@ -101,16 +101,12 @@ module _ (i : Declared) (made done fun : ℕ) (spot : Spot) (walk : List ℕ) (o
         let b = before_next (next, w) has in
         tried_same (λ go. record { spot = next; walk = w; among = has; is = shows; short = b.1; early = omega (arith, b.0) })
 
-    more : List (Spot × List ℕ)
-    more = old ++ (next, walk ++ fun ∷ []) ∷ []
-
     keeps : (x : Spot × List ℕ) → Contains old x → Contains (old ++ (next, walk ++ fun ∷ []) ∷ []) x
     keeps x has = Contains-append_left old ((next, walk ++ fun ∷ []) ∷ []) x has
 
     -- none had
     tried_new : length walk < 8 → AreFound i made done (fun + 1) (old ++ (next, walk ++ fun ∷ []) ∷ [])
     tried_new few =
-        let longer : List ℕ = walk ++ fun ∷ [] in
         let order : order_of (walk ++ fun ∷ []) ≡ 33 * order_of walk + fun = order_more 0 walk fun in
         let long : length (walk ++ fun ∷ []) ≡ length walk + 1 = length_push walk fun in
         let own : IsLedBy i made spot walk = was.led spot walk (done, stands, get_or_from_slice_get old done (spot, walk) (spot, walk) at) in

@@ -138,7 +138,6 @@ module _ (i : Declared) (made : ℕ) (spot : Spot) (walk : List ℕ) where
       → now ≡ option_or was (put_below n m s k) → new ≡ option_or now (if same_key (made, spot.state, n) (m, s, k) then Some walk else None)
       → new ≡ option_or was (put_below (n + 1) m s k)
   put_more n m s k was now new meets before put =
-      let below : Bool = nat_lt k n && ((made == m) && is_goal (shown i spot) (record { state = s; mask = k })) in
       put ∙ ap (λ o. option_or o (if same_key (made, spot.state, n) (m, s, k) then Some walk else None)) before
       ∙ or_assoc was (put_below n m s k) (if same_key (made, spot.state, n) (m, s, k) then Some walk else None)
       ∙ ap (option_or was) (or_either walk (nat_lt k n && ((made == m) && is_goal (shown i spot) (record { state = s; mask = k }))) (same_key (made, spot.state, n) (m, s, k))

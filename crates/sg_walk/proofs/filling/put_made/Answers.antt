@@ -16,7 +16,6 @@ pub returns-in_ok-put_all-clause-own : goal.returns-in_ok-put_all-clause-own
 returns-in_ok-put_all-clause-own c s k none =
     let same : c.iface.inside.declared ≡ c.args.iface.now.declared = ap (λ (i : Declared). i.declared) c.iface.view_is in
     let small : c.args.iface.now.declared < 2 ^ 32 = omega arith in
-    let first = first_walk c.args.iface.now (record { state = s; mask = k }) c.in_ok-found.found in
     subst (IsTheWalk c.args.iface.now c.args.made s k)
     (sym (own_put c.args.made (walk_at c.args.walks.now c.args.made s k) (walk_at c.put_all.new.walks c.args.made s k) (first_walk c.args.iface.now (record { state = s; mask = k }) c.in_ok-found.found)
     none (c.in_ok-put_all.ensures c.args.made s k)))
