@@ -14,7 +14,7 @@ use Rattle.sg_walk.specs.declared.spot.Spot.{Spot}
 use Rattle.sg_walk.specs.Inside.Spots.{is_goal, is_goal_at, reaches, shown}
 use Rattle.sg_walk.specs.Inside.Search.{IsLeast, NoWalkLeads}
 use Rattle.sg_walk.specs.Inside.Arrivals.{AreArrivals, Arrives, IsBefore, first_walk, order_of}
-use Rattle.sg_walk.proofs.Arriving.{none_found}
+use Rattle.sg_walk.proofs.GoingOn.{none_found}
 use Rattle.sg_walk.proofs.LeastWalks.{with_set, without_set}
 use Rattle.sg_walk.proofs.Orders.{funs_of, no_begin, no_worse_long, no_worse_of}
 use Rattle.sg_walk.proofs.ReachedStates.Closure.{one_value}

@@ -1,6 +1,5 @@
-pub mod Arriving
-pub mod Filling
 pub mod FirstArrivals
+pub mod GoingOn
 pub mod KnownEnds
 pub mod KnownSpots
 pub mod LeastWalks
@@ -8,6 +7,7 @@ pub mod LookedUp
 pub mod Marks
 pub mod Orders
 pub mod PairSets
+pub mod Putting
 pub mod ReachedStates
 pub mod Searching
 pub mod Sets

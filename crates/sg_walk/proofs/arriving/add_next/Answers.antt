@@ -1,7 +1,7 @@
 -- Function after function.
 use Rattle.std.proofs.Common.{◌≡◌, ◌<◌, ◌≤◌, ◌^◌, length, ap, arith}
 use Rattle.sg_facts.specs.Interface.{Declared}
-use Rattle.sg_walk.proofs.Arriving.{all_tried, passed, tried_more}
+use Rattle.sg_walk.proofs.GoingOn.{all_tried, passed, tried_more}
 use Rattle.sg_walk.proofs.arriving.add_next.Goals as goal
 
 pub funs-init : goal.funs-init

@@ -1,6 +1,6 @@
 -- Arrival after arrival.
 use Rattle.std.proofs.Common.{sym}
-use Rattle.sg_walk.proofs.Arriving.{all_found}
+use Rattle.sg_walk.proofs.GoingOn.{all_found}
 use Rattle.sg_walk.proofs.arriving.arrivals_from.Goals as goal
 
 pub arrivals-preserved : goal.arrivals-preserved

@@ -3,7 +3,7 @@ use Rattle.std.proofs.Common.{◌≡◌, ◌⊎◌, ◌+◌, ◌<◌, ◌≤◌,
 use Rattle.std.proofs.lemmas.Bool.{cases_lt}
 use Rattle.sg_facts.specs.Interface.{Declared}
 use Rattle.sg_walk.specs.LeastWalks.{IsTheWalk, walk_at}
-use Rattle.sg_walk.proofs.Filling.{done_more, due_more}
+use Rattle.sg_walk.proofs.Putting.{done_more, due_more}
 use Rattle.sg_walk.proofs.FirstArrivals.{no_walk_of}
 use Rattle.sg_walk.proofs.Orders.{zero_undeclared}
 use Rattle.sg_walk.proofs.Searching.{undeclared}

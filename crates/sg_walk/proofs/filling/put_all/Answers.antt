@@ -1,7 +1,7 @@
 -- Arrival after arrival.
 use Rattle.std.proofs.Common.{sym}
 use Rattle.sg_walk.specs.LeastWalks.{walk_at}
-use Rattle.sg_walk.proofs.Filling.{first_all, first_next, first_none}
+use Rattle.sg_walk.proofs.Putting.{first_all, first_next, first_none}
 use Rattle.sg_walk.proofs.ReachedStates.Closure.{ended}
 use Rattle.sg_walk.proofs.filling.put_all.Goals as goal
 

@@ -2,7 +2,7 @@
 use Rattle.std.proofs.Common.{◌≡◌, ◌-◌, ◌^◌, ℕ}
 use Rattle.std.specs.Option.{option_or}
 use Rattle.sg_walk.specs.LeastWalks.{walk_at}
-use Rattle.sg_walk.proofs.Filling.{first_of}
+use Rattle.sg_walk.proofs.Putting.{first_of}
 use Rattle.sg_walk.proofs.filling.put_all.Given as goal
 
 abbrev pub invariant-arrivals : goal.invariant-arrivals

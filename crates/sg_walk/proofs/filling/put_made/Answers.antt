@@ -3,7 +3,7 @@ use Rattle.std.proofs.Common.{◌≡◌, ◌<◌, ◌^◌, sym, ap, subst, arith
 use Rattle.sg_facts.specs.Interface.{Declared}
 use Rattle.sg_walk.specs.LeastWalks.{IsTheWalk, walk_at}
 use Rattle.sg_walk.specs.Inside.Arrivals.{first_walk}
-use Rattle.sg_walk.proofs.Filling.{others_stay, own_put}
+use Rattle.sg_walk.proofs.Putting.{others_stay, own_put}
 use Rattle.sg_walk.proofs.FirstArrivals.{the_walk}
 use Rattle.sg_walk.proofs.filling.put_made.Goals as goal
 

@@ -2,7 +2,7 @@
 use Rattle.std.proofs.Common.{◌≡◌, ◌+◌, ℕ, sym, ◌∙◌, subst, arith}
 use Rattle.std.specs.Option.{option_or}
 use Rattle.sg_walk.specs.LeastWalks.{walk_at}
-use Rattle.sg_walk.proofs.Filling.{put_all, put_below, put_more, put_none, put_same}
+use Rattle.sg_walk.proofs.Putting.{put_all, put_below, put_more, put_none, put_same}
 use Rattle.sg_walk.proofs.filling.put_one.Goals as goal
 use Rattle.sg_walk.proofs.filling.put_one.Goals.{then-is_goal+in_ok-put, else-is_goal}
 

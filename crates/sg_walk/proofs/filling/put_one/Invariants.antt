@@ -2,7 +2,7 @@
 use Rattle.std.proofs.Common.{◌≡◌, ℕ}
 use Rattle.std.specs.Option.{option_or}
 use Rattle.sg_walk.specs.LeastWalks.{walk_at}
-use Rattle.sg_walk.proofs.Filling.{put_below}
+use Rattle.sg_walk.proofs.Putting.{put_below}
 use Rattle.sg_walk.proofs.filling.put_one.Given as goal
 
 abbrev pub invariant-masks : goal.invariant-masks
