@@ -84,10 +84,7 @@ module _ (i : Declared) (made : ℕ) (spot : Spot) (walk : List ℕ) where
   joins : (n m s k : ℕ) → restores_number (shown i spot).marks n ≡ true → Joins (nat_lt k n) (nat_lt k (n + 1)) (n == k) (made == m) (spot.state == s) (restores_number (shown i spot).marks k)
   joins n m s k is = by (cases_order k n)
     where
-      abbrev J : Bool → Bool → Bool → Bool → Type 0
-      J before next here restored = Joins before next here (made == m) (spot.state == s) restored
-
-      by : (k ≡ n) ⊎ ((k < n) ⊎ (n < k)) → J (nat_lt k n) (nat_lt k (n + 1)) (n == k) (restores_number (shown i spot).marks k)
+      by : (k ≡ n) ⊎ ((k < n) ⊎ (n < k)) → Joins (nat_lt k n) (nat_lt k (n + 1)) (n == k) (made == m) (spot.state == s) (restores_number (shown i spot).marks k)
       by (inl same) =
           let before : nat_lt k n ≡ false = grind (arith, nat_tests) in
           let next : nat_lt k (n + 1) ≡ true = grind (arith, nat_tests) in
@@ -141,7 +138,7 @@ module _ (i : Declared) (made : ℕ) (spot : Spot) (walk : List ℕ) where
       put ∙ ap (λ o. option_or o (if same_key (made, spot.state, n) (m, s, k) then Some walk else None)) before
       ∙ or_assoc was (put_below n m s k) (if same_key (made, spot.state, n) (m, s, k) then Some walk else None)
       ∙ ap (option_or was) (or_either walk (nat_lt k n && ((made == m) && is_goal (shown i spot) (record { state = s; mask = k }))) (same_key (made, spot.state, n) (m, s, k))
-        ∙ ap (λ b. if b then Some walk else None) (joins n m s k (here_or_not n true meets)))
+      ∙ ap (λ b. if b then Some walk else None) (joins n m s k (here_or_not n true meets)))
 
   -- one number more, which isn't restored
   pub put_same : (n m s k : ℕ) (was now : Option (List ℕ)) → is_goal (shown i spot) (record { state = spot.state; mask = n }) ≡ false
@@ -187,17 +184,17 @@ one_more : (b g : Bool) (o : Option (List ℕ)) (walk : List ℕ)
 one_more true g o walk = refl
 one_more false g o walk = refl
 
+either_way : (b : Bool) (o : Option (List ℕ)) → o ≡ (if b then o else o)
+either_way true o = refl
+either_way false o = refl
+
 module _ (i : Declared) (made : ℕ) (found : List (Spot × List ℕ)) where
   -- the walk of the first of so many arrivals
   abbrev pub first_of : ℕ → ℕ → ℕ → ℕ → Option (List ℕ)
   first_of n m s k = if made == m then first_walk i (record { state = s; mask = k }) (take n found) else None
 
   pub first_none : (was : Option (List ℕ)) (m s k : ℕ) → was ≡ option_or was (first_of 0 m s k)
-  first_none None m s k = by (made == m)
-    where
-      by : (b : Bool) → None ≡ (if b then None {List ℕ} else None)
-      by true = refl
-      by false = refl
+  first_none None m s k = either_way (made == m) None
   first_none (Some w) m s k = refl
 
   pub first_next : (n m s k : ℕ) (spot : Spot) (walk : List ℕ) (was now new : Option (List ℕ)) → slice_get found n ≡ Some (spot, walk) → now ≡ option_or was (first_of n m s k)
@@ -206,7 +203,7 @@ module _ (i : Declared) (made : ℕ) (found : List (Spot × List ℕ)) where
       let goal : Goal = record { state = s; mask = k } in
       put ∙ ap (λ o. option_or o (walk_by i made spot walk m goal)) before ∙ or_assoc was (first_of n m s k) (walk_by i made spot walk m goal)
       ∙ ap (option_or was) (one_more (made == m) (is_goal (shown i spot) goal) (first_walk i goal (take n found)) walk
-        ∙ ap (λ o. if made == m then o else None) (sym (first_more i goal found n spot walk at)))
+      ∙ ap (λ o. if made == m then o else None) (sym (first_more i goal found n spot walk at)))
 
   pub first_all : (n m s k : ℕ) (was now : Option (List ℕ)) → length found ≤ n → now ≡ option_or was (first_of n m s k)
       → now ≡ option_or was (if made == m then first_walk i (record { state = s; mask = k }) found else None)
@@ -242,6 +239,6 @@ pub done_more : (i : Declared) (made : ℕ) (old new : List ((ℕ × ℕ × ℕ)
 done_more i made old new others own done due m s k few = elim (cases_eq made m) [
   | inl same ↦ subst (λ n. IsTheWalk i n s k (walk_at new n s k)) same (own s k (due made s k (omega arith)))
   | inr apart ↦
-      let less : m < made = elim (cases_lt m made) [ | inl low ↦ low | inr high ↦ let same : made ≡ m = omega (arith, high, few) in absurd (apart same) ] in
+      let less : m < made = elim (cases_lt m made) [ inl low ↦ low | inr high ↦ let same : made ≡ m = omega (arith, high, few) in absurd (apart same) ] in
       subst (IsTheWalk i m s k) (sym (others m s k apart)) (done m s k less)
 ]
