@@ -28,13 +28,12 @@ spot_more i s t [] fun leads goes =
     let same : s ≡ t = one_value s t leads in
     let one : spot_from i t (fun ∷ []) ≡ Some (next_spot i.facts fun t) = ap (λ b. if b then Some (next_spot i.facts fun t) else None) goes in
     subst (λ p. spot_from i p (fun ∷ []) ≡ Some (next_spot i.facts fun t)) (sym same) one
-spot_more i s t (f ∷ walk) fun leads goes = by (cases_Bool (may_go_on i s f))
-  where
-    by : (may_go_on i s f ≡ true) ⊎ (may_go_on i s f ≡ false) → spot_from i s (f ∷ (walk ++ fun ∷ [])) ≡ Some (next_spot i.facts fun t)
-    by (inl on) =
-        let rest : spot_from i (next_spot i.facts f s) walk ≡ Some t = rw on at leads in
-        ap (λ b. if b then spot_from i (next_spot i.facts f s) (walk ++ fun ∷ []) else None) on ∙ spot_more i (next_spot i.facts f s) t walk fun rest goes
-    by (inr halts) = let nowhere : None ≡ Some t = rw halts at leads in absurd (cc nowhere)
+spot_more i s t (f ∷ walk) fun leads goes = elim (cases_Bool (may_go_on i s f)) [
+  | inl on ↦
+      let rest : spot_from i (next_spot i.facts f s) walk ≡ Some t = rw on at leads in
+      ap (λ b. if b then spot_from i (next_spot i.facts f s) (walk ++ fun ∷ []) else None) on ∙ spot_more i (next_spot i.facts f s) t walk fun rest goes
+  | inr halts ↦ let nowhere : None ≡ Some t = rw halts at leads in absurd (cc nowhere)
+]
 
 led_on : (i : Declared) (made fun : ℕ) (spot next : Spot) (walk : List ℕ) → IsLedBy i made spot walk → may_go_on i (shown i spot) fun ≡ true
     → shown i next ≡ next_spot i.facts fun (shown i spot) → length walk < 8 → IsLedBy i made next (walk ++ fun ∷ [])
@@ -228,18 +227,17 @@ module _ (i : Declared) (found : List (Spot × List ℕ)) (complete : (spot : Sp
   walks_on : (spot : Spot) (walk : List ℕ) (rest : List ℕ) (t : Place) → Contains found (spot, walk) → length walk + length rest ≤ 8 → spot_from i (shown i spot) rest ≡ Some t
       → Arrives i found t (length walk + length rest) (order_after (order_of walk) rest)
   walks_on spot walk [] t has few leads = record { spot = spot; walk = walk; among = has; is = one_value (shown i spot) t leads; short = omega arith; early = omega arith }
-  walks_on spot walk (f ∷ rest) t has few leads = by (cases_Bool (may_go_on i (shown i spot) f))
-    where
-      by : (may_go_on i (shown i spot) f ≡ true) ⊎ (may_go_on i (shown i spot) f ≡ false) → Arrives i found t (length walk + length (f ∷ rest)) (order_after (order_of walk) (f ∷ rest))
-      by (inl goes) =
-          let onward : spot_from i (next_spot i.facts f (shown i spot)) rest ≡ Some t = rw goes at leads in
-          let a : Arrives i found (next_spot i.facts f (shown i spot)) (length walk + 1) (33 * order_of walk + f) = complete spot walk has (omega (arith, few)) f goes in
-          let short = a.short in
-          let on : Arrives i found t (length a.walk + length rest) (order_after (order_of a.walk) rest) =
-          walks_on a.spot a.walk rest t a.among (omega (arith, few, short)) (subst (λ p. spot_from i p rest ≡ Some t) (sym a.is) onward) in
-          arrives_later i found t (length a.walk + length rest) (order_after (order_of a.walk) rest) (length walk + length (f ∷ rest)) (order_after (order_of walk) (f ∷ rest)) on
-          (omega (arith, short)) (order_rises (order_of a.walk) (33 * order_of walk + f) rest a.early)
-      by (inr halts) = let nowhere : None ≡ Some t = rw halts at leads in absurd (cc nowhere)
+  walks_on spot walk (f ∷ rest) t has few leads = elim (cases_Bool (may_go_on i (shown i spot) f)) [
+    | inl goes ↦
+        let onward : spot_from i (next_spot i.facts f (shown i spot)) rest ≡ Some t = rw goes at leads in
+        let a : Arrives i found (next_spot i.facts f (shown i spot)) (length walk + 1) (33 * order_of walk + f) = complete spot walk has (omega (arith, few)) f goes in
+        let short = a.short in
+        let on : Arrives i found t (length a.walk + length rest) (order_after (order_of a.walk) rest) =
+        walks_on a.spot a.walk rest t a.among (omega (arith, few, short)) (subst (λ p. spot_from i p rest ≡ Some t) (sym a.is) onward) in
+        arrives_later i found t (length a.walk + length rest) (order_after (order_of a.walk) rest) (length walk + length (f ∷ rest)) (order_after (order_of walk) (f ∷ rest)) on
+        (omega (arith, short)) (order_rises (order_of a.walk) (33 * order_of walk + f) rest a.early)
+    | inr halts ↦ let nowhere : None ≡ Some t = rw halts at leads in absurd (cc nowhere)
+  ]
 
   all_arrive : (made : ℕ) → Arrives i found (first_spot i.facts made) 1 (order_of (made ∷ [])) → (walk : List ℕ) (s : Place) → begin_of walk ≡ made → length walk ≤ 8 → spot_of i walk ≡ Some s
       → Arrives i found s (length walk) (order_of walk)

@@ -93,30 +93,30 @@ comes_later : (a b : ℕ) (xs ys : List ℕ) → AreFuns xs → AreFuns ys → a
 comes_later a b [] [] fx fy less fits = less
 comes_later a b (x ∷ xs) [] fx fy less fits = absurd (omega (arith, fits))
 comes_later a b [] (y ∷ ys) fx fy less fits = comes_later a (33 * b + y) [] ys fx fy.2 (omega (arith, less)) (omega arith)
-comes_later a b (x ∷ xs) (y ∷ ys) fx fy less fits = by (cases_lt (length xs) (length ys))
-  where
-    by : (length xs < length ys) ⊎ (length ys ≤ length xs) → order_after a (x ∷ xs) < order_after b (y ∷ ys)
-    by (inl longer) = comes_later a (33 * b + y) (x ∷ xs) ys fx fy.2 (omega (arith, less)) (omega (arith, longer))
-    by (inr same) = comes_later (33 * a + x) (33 * b + y) xs ys fx.2 fy.2 (omega (arith, less, fx.1, fy.0)) (omega (arith, fits))
+comes_later a b (x ∷ xs) (y ∷ ys) fx fy less fits = elim (cases_lt (length xs) (length ys)) [
+  | inl longer ↦ comes_later a (33 * b + y) (x ∷ xs) ys fx fy.2 (omega (arith, less)) (omega (arith, longer))
+  | inr same ↦ comes_later (33 * a + x) (33 * b + y) xs ys fx.2 fy.2 (omega (arith, less, fx.1, fy.0)) (omega (arith, fits))
+]
 
 -- of lists as long that begin the same, what comes no later is so by its numbers
 in_order : (a : ℕ) (xs ys : List ℕ) → AreFuns xs → AreFuns ys → length xs ≡ length ys → order_after a xs ≤ order_after a ys → no_later xs ys ≡ true
 in_order a [] [] fx fy same up = refl
 in_order a [] (y ∷ ys) fx fy same up = refl
 in_order a (x ∷ xs) [] fx fy same up = absurd (omega (arith, same))
-in_order a (x ∷ xs) (y ∷ ys) fx fy same up = by (cases_lt x y) (cases_lt y x)
-  where
-    by : (x < y) ⊎ (y ≤ x) → (y < x) ⊎ (x ≤ y) → no_later (x ∷ xs) (y ∷ ys) ≡ true
-    by (inl less) other = let first : nat_lt x y ≡ true = grind (arith, nat_tests) in ap (λ b. b || ((x == y) && no_later xs ys)) first
-    by (inr far) (inl more) =
+in_order a (x ∷ xs) (y ∷ ys) fx fy same up = elim (cases_lt x y) [
+  | inl less ↦ let first : nat_lt x y ≡ true = grind (arith, nat_tests) in ap (λ b. b || ((x == y) && no_later xs ys)) first
+  | inr far ↦ elim (cases_lt y x) [
+    | inl more ↦
         let later : order_after (33 * a + y) ys < order_after (33 * a + x) xs = comes_later (33 * a + y) (33 * a + x) ys xs fy.2 fx.2 (omega (arith, more)) (omega (arith, same)) in
         absurd (omega (arith, later, up))
-    by (inr far) (inr near) =
+    | inr near ↦
         let e : x ≡ y = omega (arith, far, near) in
         let not_less : nat_lt x y ≡ false = grind (arith, nat_tests) in
         let one : (x == y) ≡ true = grind (arith, nat_tests) in
         let rest : no_later xs ys ≡ true = in_order (33 * a + x) xs ys fx.2 fy.2 (omega (arith, same)) (subst (λ n. order_after (33 * a + x) xs ≤ order_after (33 * a + n) ys) (sym e) up) in
         simp (not_less, one, rest)
+  ]
+]
 
 -- a longer list is later
 longer_later : (xs ys : List ℕ) → AreFuns xs → AreFuns ys → length xs < length ys → order_of xs < order_of ys

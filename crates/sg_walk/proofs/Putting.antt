@@ -4,7 +4,7 @@ use Rattle.std.specs.Prelude.{◌==◌, if◌then◌else◌, nat_lt, slice_get}
 use Rattle.std.specs.Option.{option_or}
 use Rattle.std.specs.declared.option.Option.{Option}
 use Rattle.std.proofs.lemmas.Bool.{and_parts, cases_Bool, cases_eq, cases_lt, cases_order}
-use Rattle.std.proofs.lemmas.Bool.Decides.{nat_tests}
+use Rattle.std.proofs.lemmas.Bool.Decides.{eqb_tells, nat_tests}
 use Rattle.std.proofs.lemmas.List.{take_all, take_more}
 use Rattle.std.proofs.lemmas.Option.{slice_get_within, get_or_from_slice_get}
 use Rattle.sg_facts.specs.Interface.{Declared}
@@ -29,13 +29,17 @@ or_either x false b = refl
 
 -- ---- the sets of one arrival
 
+some_sets : (count : ℕ) → 0 < 2 ^ count
+some_sets zero = omega arith
+some_sets (suc count) = let p : 2 ^ suc count ≡ 2 * 2 ^ count = omega arith in omega (arith, some_sets count, p)
+
 -- marks of so many fields restore numbers of so many bits
 pub few_bits : (count : ℕ) (marks : List FieldState) (k : ℕ) → restores_number (shown_marks count marks) k ≡ true → k < 2 ^ count
 few_bits zero marks k is = let none : k ≡ 0 = grind (arith, nat_tests, is) in omega (arith, none)
 few_bits (suc count) [] k is =
     let none : k ≡ 0 = grind (arith, nat_tests, is) in
     let p : 2 ^ suc count ≡ 2 * 2 ^ count = omega arith in
-    let some : 0 < 2 ^ count = omega arith in
+    let some : 0 < 2 ^ count = some_sets count in
     omega (arith, none, p, some)
 few_bits (suc count) (m ∷ marks) k is =
     let parts = and_parts (restores_field (known_of m) (k % 2 == 1)) (restores_number (shown_marks count marks) (k / 2)) is in
@@ -76,9 +80,6 @@ module _ (i : Declared) (made : ℕ) (spot : Spot) (walk : List ℕ) where
   -- the walk at numbers of sets below one
   abbrev pub put_below : ℕ → ℕ → ℕ → ℕ → Option (List ℕ)
   put_below n m s k = if nat_lt k n && ((made == m) && is_goal (shown i spot) (record { state = s; mask = k })) then Some walk else None
-
-  restores : ℕ → Bool
-  restores k = restores_number (shown i spot).marks k
 
   -- the next number is restored
   joins : (n m s k : ℕ) → restores_number (shown i spot).marks n ≡ true → Joins (nat_lt k n) (nat_lt k (n + 1)) (n == k) (made == m) (spot.state == s) (restores_number (shown i spot).marks k)
@@ -215,7 +216,7 @@ module _ (i : Declared) (made : ℕ) (found : List (Spot × List ℕ)) where
 -- the walks of other creations stay
 pub others_stay : (made m : ℕ) (was new o : Option (List ℕ)) → (made ≡ m → ⊥) → new ≡ option_or was (if made == m then o else None) → new ≡ was
 others_stay made m was new o other is =
-    let apart : (made == m) ≡ false = grind (arith, nat_tests, other) in
+    let apart : (made == m) ≡ false = elim (eqb_tells made m) [ inl same ↦ absurd (other same.1) | inr differ ↦ differ.0 ] in
     is ∙ ap (λ b. option_or was (if b then o else None)) apart ∙ or_none was
   where
     or_none : (a : Option (List ℕ)) → option_or a None ≡ a
