@@ -200,7 +200,7 @@ passed i made done fun spot walk found few at all was = record {
 }
 
 -- the first arrival is where the creation leads
-pub found_first : (i : Declared) (made : ℕ) (spot : Spot) → may_begin i made ≡ true → shown i spot ≡ first_spot i.facts made → AreFound i made 0 1 ((spot, made ∷ []) ∷ [])
+found_first : (i : Declared) (made : ℕ) (spot : Spot) → may_begin i made ≡ true → shown i spot ≡ first_spot i.facts made → AreFound i made 0 1 ((spot, made ∷ []) ∷ [])
 found_first i made spot begins shows = record {
   led = λ s w has. subst (λ a. IsLedBy i made a.0 a.1) (sym (only (spot, made ∷ []) (s, w) has)) (record {
     leads = ap (λ b. if b then Some (first_spot i.facts made) else None) begins ∙ ap Some (sym shows);
@@ -219,6 +219,15 @@ found_first i made spot begins shows = record {
       subst (λ a. (order_of (made ∷ []) < 33 * order_of a.1 + 1) × (length (made ∷ []) ≤ length a.1 + 1)) (sym mine) now in
       subst (λ a. (order_of a.1 < 33 * order_of w + 1) × (length a.1 ≤ length w + 1)) (sym its) this;
 }
+
+pub first_added : (i : Declared) (made : ℕ) (spot : Spot) (walk : List ℕ) (old new : List (Spot × List ℕ)) → may_begin i made ≡ true → shown i spot ≡ first_spot i.facts made
+    → walk ≡ made ∷ [] → old ≡ [] → AddsArrival old new spot walk → AreFound i made 0 1 new
+first_added i made spot walk old new begins shows alone none (inl (w, has, same)) =
+    let nowhere : Contains [] (spot, w) = subst (λ l. Contains l (spot, w)) none has in
+    absurd (omega (arith, nowhere.1))
+first_added i made spot walk old new begins shows alone none (inr longer) =
+    let whole : new ≡ (spot, made ∷ []) ∷ [] = longer ∙ ap (λ l. l ++ (spot, walk) ∷ []) none ∙ ap (λ w. (spot, w) ∷ []) alone in
+    subst (AreFound i made 0 1) (sym whole) (found_first i made spot begins shows)
 
 -- ---- all arrivals
 
