@@ -5,7 +5,7 @@ ghost use Rattle.sg_facts.specs.Walks.{first_spot};
 ghost use Rattle.sg_facts.specs.Inside.Walking.{may_begin};
 ghost use Rattle.sg_walk.specs.Inside.Spots.{shown};
 ghost use Rattle.sg_walk.specs.Inside.StepSets.{SamePairs};
-ghost use Rattle.sg_walk.specs.Inside.Arrivals.{AddsBy, AreArrivals, AreFound, GoesOn};
+ghost use Rattle.sg_walk.specs.Inside.Arrivals.{AddsBy, AreArrivals, AreFound};
 
 use crate::arrivals::Arrivals;
 use crate::spot::Spot;

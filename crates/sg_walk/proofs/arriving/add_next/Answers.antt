@@ -20,6 +20,6 @@ returns c = λ made done at was.
     passed c.args.iface.now made done c.funs.fun c.args.spot c.args.walk c.funs.found (omega arith) so_far.1
     (λ few. all_tried c.args.iface.now made done c.funs.fun c.args.spot c.args.walk c.funs.found small (omega arith) so_far.1 so_far.0) so_far.0
 
-pub returns-then-len : goal.returns-then-len
-returns-then-len c = λ made done at was.
+pub returns-then-len-ge-MOST : goal.returns-then-len-ge-MOST
+returns-then-len-ge-MOST c = λ made done at was.
     passed c.args.iface.now made done 1 c.args.spot c.args.walk c.args.found.now (omega arith) at (λ few. absurd (omega (arith, few, c.len.ensures))) was
