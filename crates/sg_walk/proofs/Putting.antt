@@ -157,7 +157,7 @@ module _ (i : Declared) (made : ℕ) (spot : Spot) (walk : List ℕ) where
       by (inr high) (inl is) = let few : k < 2 ^ length i.facts.fields = few_bits (length i.facts.fields) spot.marks k is in absurd (omega (arith, few, high, past))
       by (inr high) (inr not_so) =
           let above : nat_lt k n ≡ false = grind (arith, nat_tests) in
-          rw (above, not_so) (sym (skips_here (made == m) (spot.state == s)))
+          rw (above, not_so) (skips_here (made == m) (spot.state == s))
 
 -- ---- arrival after arrival
 
