@@ -32,7 +32,7 @@ mark_itself Unset = refl
 mark_itself Good = refl
 mark_itself Unknown = refl
 
-same_marks : (xs ys : List FieldState) → pointwise mark-eq.it xs ys ≡ true → xs ≡ ys
+pub same_marks : (xs ys : List FieldState) → pointwise mark-eq.it xs ys ≡ true → xs ≡ ys
 same_marks [] [] same = refl
 same_marks [] (y ∷ ys) same = absurd (cc same)
 same_marks (x ∷ xs) [] same = absurd (cc same)
@@ -42,7 +42,7 @@ same_marks (x ∷ xs) (y ∷ ys) same =
     let rest : xs ≡ ys = same_marks xs ys parts.1 in
     cc
 
-marks_themselves : (xs : List FieldState) → pointwise mark-eq.it xs xs ≡ true
+pub marks_themselves : (xs : List FieldState) → pointwise mark-eq.it xs xs ≡ true
 marks_themselves [] = refl
 marks_themselves (x ∷ xs) = rw (mark_itself x) (marks_themselves xs)
 

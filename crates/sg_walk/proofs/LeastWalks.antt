@@ -68,7 +68,7 @@ found_least i made s goal walk found left begins same alone few tried on =
 
 -- ---- with sets for their numbers
 
-with_set : (i : Declared) (made state mask : ℕ) (walk : List ℕ) → IsLeast i made (record { state = state; mask = mask }) walk
+pub with_set : (i : Declared) (made state mask : ℕ) (walk : List ℕ) → IsLeast i made (record { state = state; mask = mask }) walk
     → (set : List Bool) × (number_of set ≡ mask) × IsWalkOf i walk made state set
 with_set i made state mask walk least =
     let goal : Goal = record { state = state; mask = mask } in
@@ -90,7 +90,7 @@ least_with_set i made state mask (Ok (Some walk)) least = with_set i made state 
 least_with_set i made state mask (Ok None) least = tt
 least_with_set i made state mask (Err e) least = tt
 
-without_set : (i : Declared) (made state mask : ℕ) → NoWalkLeads i made (record { state = state; mask = mask })
+pub without_set : (i : Declared) (made state mask : ℕ) → NoWalkLeads i made (record { state = state; mask = mask })
     → (walk : List ℕ) (set : List Bool) → begin_of walk ≡ made → length walk ≤ most_calls → number_of set ≡ mask → restores i walk state set ≡ false
 without_set i made state mask unreached walk set begin short number = elim (cases_Bool (restores i walk state set)) [
   | inl is ↦

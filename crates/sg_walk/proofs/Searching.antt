@@ -28,7 +28,7 @@ and_false true = refl
 and_false false = refl
 
 -- there are 32 numbers of functions that can be declared
-undeclared : (i : Declared) (fun : ℕ) → i.declared < 2 ^ 32 → 33 ≤ fun → declares i fun ≡ false
+pub undeclared : (i : Declared) (fun : ℕ) → i.declared < 2 ^ 32 → 33 ≤ fun → declares i fun ≡ false
 undeclared i fun small past =
     ap (λ n. nat_le 1 fun && (n == 1)) (bit_at_above i.declared 32 (fun - 1) small (omega arith)) ∙ and_false (nat_le 1 fun)
 

@@ -94,8 +94,8 @@ pub fn close(iface: &Interface, found: &mut Found) -> Result<(), NoMemory>
     Ok(())
 }
 
-// The number of fields of a row.
-fn field_count(iface: &Interface) -> u8
+/// The number of fields of a row.
+pub fn field_count(iface: &Interface) -> u8
     requires few { HasFewFields iface.now }
     ensures { result ≡ length iface.now.facts.fields }
 {
