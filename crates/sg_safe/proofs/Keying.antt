@@ -173,6 +173,10 @@ any_more d s old new r is =
     ap (λ l. list_any (same_spot (shown d s)) (map (place_in d) l)) is ∙ ap (list_any (same_spot (shown d s))) (map_push (place_in d) old r)
     ∙ list_any-append (same_spot (shown d s)) (map (place_in d) old) (place_in d r ∷ [])
 
+or_none : (b : Bool) → (b || false) ≡ true → b ≡ true
+or_none true is = refl
+or_none false is = absurd (cc is)
+
 -- with a spot more, in the list and by its key
 pub found_more : (d : Described) (old new : Found) (r : Reached) (key : Spot) → HasKeys d old → key ≡ keyed (length d.facts.fields) r.spot → GainsSpot old.keys new.keys key
     → new.list ≡ old.list ++ r ∷ [] → HasKeys d new
@@ -192,11 +196,6 @@ found_more d old new r key keys is gained more = record {
       ]),
     );
 }
-  where
-    or_none : (b : Bool) → (b || false) ≡ true → b ≡ true
-    or_none true is = refl
-    or_none false is = absurd (cc is)
-
 -- ---- one spot is added, or none
 
 pub listed_one : (d : Described) (old : List Place) (s : Place) (has : Bool) → has ≡ list_any (same_spot s) old → has ≡ true → old ≡ add_unlost d old s

@@ -251,11 +251,11 @@ pub all_done : (d : Described) (old new : List Reached) (n : ℕ) → n ≡ leng
     → IsDone d n (map (place_in d) new)
 all_done d old new n size is =
     let spots = map (place_in d) old in
-    let end = at_end (flat_map (nexts d) spots) spots in
+    let last = at_end (flat_map (nexts d) spots) spots in
     let long : length spots ≡ n = length-map old (place_in d) ∙ sym size in
-    let front : take n (map (place_in d) new) ≡ spots = ap (take n) (is ∙ end.1) ∙ take_at spots end.0 n long in
+    let front : take n (map (place_in d) new) ≡ spots = ap (take n) (is ∙ last.1) ∙ take_at spots last.0 n long in
     record {
-      within = let more = ap length (is ∙ end.1) ∙ length-append spots end.0 in omega (arith, more, long);
+      within = let more = ap length (is ∙ last.1) ∙ length-append spots last.0 in omega (arith, more, long);
       listed = ap (λ l. are_among (map (place_in d) new) (flat_map (nexts d) l)) front ∙ ap (λ l. are_among l (flat_map (nexts d) spots)) is ∙ added (flat_map (nexts d) spots) spots;
     }
 
