@@ -114,7 +114,7 @@ gains old now new a is same = subst (λ ks. GainsSpot ks new a) same (λ q. is_n
 
 -- ---- keys
 
-mark_back : FieldMark → FieldState
+abbrev mark_back : FieldMark → FieldState
 mark_back m = elim m [ unset ↦ Unset | good ↦ Good | unknown ↦ Unknown ]
 
 back_again : (marks : List FieldState) → map mark_back (map known_of marks) ≡ marks
