@@ -182,20 +182,21 @@ pub found_more : (d : Described) (old new : Found) (r : Reached) (key : Spot) �
     → new.list ≡ old.list ++ r ∷ [] → HasKeys d new
 found_more d old new r key keys is gained more = record {
   same = λ s.
-    let n = length d.facts.fields in
-    let before = list_any (same_spot (shown d s)) (map (place_in d) old.list) in
-    let own = same_spot (shown d s) (place_in d r) in
-    let any = any_more d s old.list new.list r more in (
-      λ there. elim ((gained (keyed n s)).0 there) [
-        | inl old_one ↦ any ∙ ap (λ b. b || (own || false)) ((keys.same s).0 old_one)
-        | inr new_one ↦ any ∙ ap (λ b. before || (b || false)) (one_key n s r.spot (new_one ∙ is)) ∙ or_true before
-      ],
-      λ found. (gained (keyed n s)).1 (elim (one_of before (own || false) (sym any ∙ found)) [
-        | first old_one ↦ inl ((keys.same s).1 old_one)
-        | second new_one ↦ inr (key_of_same n s r.spot (or_none own new_one) ∙ sym is)
-      ]),
-    );
+      let n = length d.facts.fields in
+      let before = list_any (same_spot (shown d s)) (map (place_in d) old.list) in
+      let own = same_spot (shown d s) (place_in d r) in
+      let any = any_more d s old.list new.list r more in (
+        λ there. elim ((gained (keyed n s)).0 there) [
+          | inl old_one ↦ any ∙ ap (λ b. b || (own || false)) ((keys.same s).0 old_one)
+          | inr new_one ↦ any ∙ ap (λ b. before || (b || false)) (one_key n s r.spot (new_one ∙ is)) ∙ or_true before
+        ],
+        λ found. (gained (keyed n s)).1 (elim (one_of before (own || false) (sym any ∙ found)) [
+          | first old_one ↦ inl ((keys.same s).1 old_one)
+          | second new_one ↦ inr (key_of_same n s r.spot (or_none own new_one) ∙ sym is)
+        ]),
+      );
 }
+
 -- ---- one spot is added, or none
 
 pub listed_one : (d : Described) (old : List Place) (s : Place) (has : Bool) → has ≡ list_any (same_spot s) old → has ≡ true → old ≡ add_unlost d old s

@@ -219,11 +219,11 @@ none_added (s ∷ more) spots are =
 -- what isn't goes last
 at_end : (more spots : List Spot) → (rest : List Spot) × (add_spots spots more ≡ spots ++ rest)
 at_end [] spots = ([], sym (append-nil spots))
-at_end (s ∷ more) spots = at (list_any (same_spot s) spots)
+at_end (s ∷ more) spots = at (list_any (same_spot s) spots) (at_end more)
   where
-    at : (b : Bool) → (rest : List Spot) × (add_spots (cond b spots (spots ++ s ∷ [])) more ≡ spots ++ rest)
-    at true = at_end more spots
-    at false = let later = at_end more (spots ++ s ∷ []) in (s ∷ later.0, later.1 ∙ append_assoc spots (s ∷ []) later.0)
+    at : (b : Bool) → ((l : List Spot) → (rest : List Spot) × (add_spots l more ≡ l ++ rest)) → (rest : List Spot) × (add_spots (cond b spots (spots ++ s ∷ [])) more ≡ spots ++ rest)
+    at true later = later spots
+    at false later = let last = later (spots ++ s ∷ []) in (s ∷ last.0, last.1 ∙ append_assoc spots (s ∷ []) last.0)
 
 -- where one call more leads to from those from which it wasn't added yet
 latest_nexts : (d : Described) (done : ℕ) (old : List Spot) → IsDone d done old → add_spots old (flat_map (nexts d) (drop done old)) ≡ add_spots old (flat_map (nexts d) old)

@@ -173,11 +173,7 @@ fn key_of(count: usize, spot: Spot) -> Spot
 }
 
 // Adds a spot that isn't listed, unless a field is lost for good there.
-fn add_one(
-    found: &mut Found,
-    description: &Description,
-    reached: Reached,
-) -> Result<(), NoMemory>
+fn add_one(found: &mut Found, description: &Description, reached: Reached) -> Result<(), NoMemory>
     requires fields { HasFewFields (described_of description.now) }
     requires keys { HasKeys (described_of description.now) found.old }
     ensures spots { let d = described_of description.now in let all = map (place_in d) in
@@ -332,11 +328,7 @@ fn add_steps(
 }
 
 // Adds where walks lead to with one more call.
-fn add_nexts(
-    found: &mut Found,
-    description: &Description,
-    from: &[Reached],
-) -> Result<(), NoMemory>
+fn add_nexts(found: &mut Found, description: &Description, from: &[Reached]) -> Result<(), NoMemory>
     requires fields { HasFewFields (described_of description.now) }
     requires keys { HasKeys (described_of description.now) found.old }
     requires room { All (λ r. length r.walk < most_calls) from.now }
@@ -355,7 +347,7 @@ fn add_nexts(
     }
 }
 
-// Adds where walks lead to with one more call from those that were found after the first ones; from these it is done.
+// Adds where walks lead to with one more call, by the spots that were found last: from the first ones, so many, it was done.
 fn add_latest(
     alloc: Global,
     found: &mut Found,
@@ -379,7 +371,7 @@ fn add_latest(
 // The greatest number of calls after which a walk may still go on.
 const MOST_BEFORE: u8 = 7;
 
-// Where walks lead to that may go on, by where those of at most so many calls do, and from how many of these it is done.
+// Where walks lead to that may go on, by where those of at most so many calls do; from the first of these the next calls are done.
 fn further(
     alloc: Global,
     description: &Description,
