@@ -1,6 +1,7 @@
 -- States of triples, and whether these have walks.
-use Rattle.std.proofs.Common.{◌≡◌, ◌⊎◌, ℕ, suc, ◌+◌, ◌<◌, ◌≤◌, Bool, true, false, List, [], ◌∷◌, ◌++◌, None, length, map, take, get_or, refl, sym, ◌∙◌, ap, subst, inl, inr, arith}
-use Rattle.std.specs.Prelude.{◌↔◌, ◌==◌, if◌then◌else◌}
+use Rattle.std.proofs.Common.{◌≡◌, ◌⊎◌, ℕ, suc, ◌+◌, ◌<◌, ◌≤◌, Bool, true, false, List, [], ◌∷◌, ◌++◌, None, Some, length, map, take, get_or, refl, sym, ◌∙◌, ap, subst, inl, inr, arith}
+use Rattle.std.specs.Prelude.{◌↔◌, ◌==◌, if◌then◌else◌, is_some, IfNone, IfSome}
+use Rattle.std.specs.declared.option.Option.{Option}
 use Rattle.std.specs.List.{Contains}
 use Rattle.std.proofs.Math.ListN.{set}
 use Rattle.std.proofs.lemmas.Bool.{and_parts, cases_Bool}
@@ -10,7 +11,7 @@ use Rattle.sg_check_statements.specs.sg_facts.declared.shape.Effect.{Effect}
 use Rattle.sg_check_statements.specs.sg_facts.Facts.{Field, fun_at}
 use Rattle.sg_check_statements.specs.sg_facts.Fields.{number_of}
 use Rattle.sg_check_statements.specs.sg_facts.Interface.{Declared}
-use Rattle.sg_check_statements.specs.sg_facts.Walks.{FieldMark, IsReachable, Spot, first_spot, made, marks_after, moved, next_spot, restores, restores_fields, spot_from, unset}
+use Rattle.sg_check_statements.specs.sg_facts.Walks.{FieldMark, IsReachable, IsWalkOf, Spot, begin_of, first_spot, made, marks_after, most_calls, moved, next_spot, restores, restores_fields, spot_from, unset}
 use Rattle.sg_check_statements.specs.sg_facts.Inside.Walking.{may_begin, may_go_on, none_set, restores_at, restores_field}
 use Rattle.sg_walk.specs.declared.place.Triple.{Triple}
 use Rattle.std.proofs.lemmas.Option.{slice_get-get_or}
@@ -30,6 +31,15 @@ kept_number old new n other gains has = gains other ∙ or_left (has_number old 
 
 gained_number : (old new : List ℕ) (n other : ℕ) → GainsNumber old new n → n ≡ other → has_number new other ≡ true
 gained_number old new n other gains is = gains other ∙ or_right (has_number old other) (n == other) (number_same n other is)
+
+-- a triple has a walk where one stands at it among the least
+pub tells_walk : (i : Declared) (t : Triple) (found : Option (List ℕ)) (told : Bool) → told ≡ is_some found
+    → IfSome found (λ walk. (set : List Bool) × (number_of set ≡ t.mask) × IsWalkOf i walk t.made t.state set)
+    → IfNone found ((walk : List ℕ) (set : List Bool) → begin_of walk ≡ t.made → length walk ≤ most_calls → number_of set ≡ t.mask → restores i walk t.state set ≡ false)
+    → TellsWalk i t told
+tells_walk i t (Some walk) told same some none =
+    subst (TellsWalk i t) (sym same) (some.0, some.1, (walk, some.2.begins, some.2.restored, some.2.short))
+tells_walk i t None told same some none = subst (TellsWalk i t) (sym same) none
 
 module _ (triples : List Triple) (k : ℕ) (d : Triple) (within : k < length triples) where
   longer : take (k + 1) triples ≡ take k triples ++ get_or triples k d ∷ []

@@ -30,4 +30,4 @@ pub use sg_check_statements::{
     CheckError, CheckFault, CheckKind, END_OF_FUNS, Interface, NoMemory, Protos, Statement, Tables,
     Tree, TryCopy, WalkLine, WalkList, fun_number, parse, says_of,
 };
-pub use sg_walk::{Triple, reachable, restores, set_count, shortest};
+pub use sg_walk::{Triple, Walks, reachable, restores, set_count};

@@ -3,7 +3,7 @@ ghost use Rattle.std.specs.Prelude.{◌≡◌, ◌==◌, ◌&&◌, ◌||◌, ◌
 ghost use Rattle.std.specs.List.{Contains};
 ghost use Rattle.std.specs.Option.{option_copied, option_map};
 ghost use Rattle.sg_input.specs.sg_facts.Facts.{facts_of};
-ghost use Rattle.sg_input.specs.sg_facts.Interface.{HasFewFields};
+ghost use Rattle.sg_input.specs.sg_facts.Interface.{Declared, HasFewFields};
 ghost use Rattle.sg_input.specs.sg_check.Inside.Reached.{AreTriples};
 ghost use Rattle.sg_input.specs.sg_check_statements.Shapes.{are_shapes};
 ghost use Rattle.sg_input.specs.sg_check_statements.Faults.{IsFault};
@@ -11,6 +11,7 @@ ghost use Rattle.sg_input.specs.sg_check_statements.Flaws.{HasNoWalk, IsProtoWhe
 ghost use Rattle.sg_input.specs.sg_check_statements.Says.{service_of};
 ghost use Rattle.sg_input.specs.sg_check_statements.declared.fault.CheckKind.TheVariants.{NoWalk as no_walk};
 ghost use Rattle.sg_input.specs.sg_parse.declared.tree.Statement.{Statement as Written};
+ghost use Rattle.sg_input.specs.sg_walk.LeastWalks.{AreLeastWalks};
 ghost use Rattle.sg_input.specs.sg_walk.ReachedStates.Triples.{IsReachedTriple};
 ghost use Rattle.sg_explain.specs.Stuck.{IsFirstStuck, IsStuckLine};
 ghost use Rattle.sg_explain.specs.Inside.Pieces.{stuck_line};
@@ -19,8 +20,8 @@ ghost use Rattle.sg_explain.specs.Inside.Search.{GoesOn, IsFoundAt, IsFoundIn, T
 use crate::parts::put;
 use crate::rebuilt::put_come_to;
 use sg_input::{
-    Bytes, Interface, NoMemory, Shape, Statement, Tree, Triple, fun_number, interface_of,
-    reachable, shortest,
+    Bytes, Interface, NoMemory, Shape, Statement, Tree, Triple, Walks, fun_number, interface_of,
+    reachable,
 };
 use std::alloc::Global;
 
@@ -165,31 +166,22 @@ fn first_stuck(
     requires triples { AreTriples iface.now triples.now }
     ensures { IfOk result (IsFoundAt iface.now state) }
 {
+    let walks = Walks::new(alloc, iface)?;
     let mut first = None;
     'triples: for triple in triples {
-        let next = go_on(alloc, iface, state, first, *triple)?;
-        first = next;
+        first = go_on(&walks, state, first, *triple);
     }
     Ok(first)
 }
 
-// The first so far that no walk restores, where one triple more is looked at.
-fn go_on(
-    alloc: Global,
-    iface: &Interface,
-    state: usize,
-    first: Option<Triple>,
-    triple: Triple,
-) -> Result<Option<Triple>, NoMemory>
-    requires few { HasFewFields iface.now }
-    requires reached { IsReachedTriple iface.now triple }
-    ensures { IfOk result (GoesOn iface.now state first triple) }
+// The first so far that no walk restores, where one triple more is looked at, by the least walks of an interface.
+fn go_on(walks: &Walks, state: usize, first: Option<Triple>, triple: Triple) -> Option<Triple>
+    ensures { (i : Declared) → AreLeastWalks i walks.now → IsReachedTriple i triple → GoesOn i state first triple result }
 {
-    let is_stuck = is_stuck_in(alloc, iface, state, triple)?;
-    if is_stuck {
-        Ok(Some(earlier(first, triple)))
+    if is_stuck_in(walks, state, triple) {
+        Some(earlier(first, triple))
     } else {
-        Ok(first)
+        first
     }
 }
 
@@ -217,20 +209,13 @@ fn is_no_later(triple: Triple, other: Triple) -> bool
 }
 
 // Whether a triple is of a state, and no walk restores it.
-fn is_stuck_in(
-    alloc: Global,
-    iface: &Interface,
-    state: usize,
-    triple: Triple,
-) -> Result<bool, NoMemory>
-    requires few { HasFewFields iface.now }
-    requires reached { IsReachedTriple iface.now triple }
-    ensures { IfOk result (TellsStuckIn iface.now state triple) }
+fn is_stuck_in(walks: &Walks, state: usize, triple: Triple) -> bool
+    ensures { (i : Declared) → AreLeastWalks i walks.now → IsReachedTriple i triple → TellsStuckIn i state triple result }
 {
     if is_of(triple, state) {
-        is_stuck(alloc, iface, triple)
+        is_stuck(walks, triple)
     } else {
-        Ok(false)
+        false
     }
 }
 
@@ -242,11 +227,8 @@ fn is_of(triple: Triple, state: usize) -> bool
 }
 
 // Whether no walk restores a triple.
-fn is_stuck(alloc: Global, iface: &Interface, triple: Triple) -> Result<bool, NoMemory>
-    requires few { HasFewFields iface.now }
-    requires reached { IsReachedTriple iface.now triple }
-    ensures { IfOk result (TellsStuck iface.now triple) }
+fn is_stuck(walks: &Walks, triple: Triple) -> bool
+    ensures { (i : Declared) → AreLeastWalks i walks.now → IsReachedTriple i triple → TellsStuck i triple result }
 {
-    let found = shortest(alloc, iface, triple.made, triple.state, triple.mask)?;
-    Ok(found.is_none())
+    walks.get(triple.made, triple.state, triple.mask).is_none()
 }

@@ -67,6 +67,6 @@ pub use sg_script::{
     CallList, MultiScript, Script, ScriptError, ScriptFault, ScriptKind, read as read_script,
 };
 pub use sg_stub::{
-    Accepted, CheckError, CheckFault, CheckKind, Protos, Statement, Tree, Triple, check, compile,
-    fun_number, interface_of, reachable, restores, says_of, shortest,
+    Accepted, CheckError, CheckFault, CheckKind, Protos, Statement, Tree, Triple, Walks, check,
+    compile, fun_number, interface_of, reachable, restores, says_of,
 };

@@ -18,7 +18,8 @@ use Rattle.sg_check.specs.sg_facts.Fits.{Fits}
 use Rattle.sg_check.specs.sg_facts.Inside.Walking.{LeavesDeclared, is_for, line_order}
 use Rattle.sg_check.specs.sg_facts.Interface.{Declared, declares}
 use Rattle.sg_check.specs.sg_facts.Tables.{AreTables, walk_of}
-use Rattle.sg_check.specs.sg_facts.Walks.{IsReachable, IsWalkOf, made, moved}
+use Rattle.sg_check.specs.sg_facts.Walks.{IsReachable, IsWalkOf, made, moved, restores}
+use Rattle.sg_check.specs.sg_walk.LeastWalks.{AreLeastWalks, IsTheWalk, walk_at}
 use Rattle.sg_check.proofs.sg_facts.Halving.{not_found, of_before}
 use Rattle.sg_check.proofs.sg_walk.ReachedStates.Closure.{there}
 use Rattle.sg_check.proofs.sg_walk.ReachedStates.Marks.{only}
@@ -232,3 +233,28 @@ line_good i m s k found walk reached is least =
     let w = subst (λ o. IfSome o (λ x. (set : List Bool) × (number_of set ≡ k) × IsWalkOf i x m s set)) is least in
     let same : w.0 ≡ reached.0 = walked_set i m s reached.0 w.0 walk reached.2 w.2.restored (w.1 ∙ sym reached.1) in
     (reached.0, reached.1, reached.2, subst (IsWalkOf i walk m s) same w.2)
+
+-- a walk stands at each triple that is reached
+pub walk_stands : (i : Declared) (walks : List ((ℕ × ℕ × ℕ) × List ℕ)) (m s k : ℕ) → Fits i → AreLeastWalks i walks → IsReachedBy i m s k
+    → (walk : List ℕ) × (walk_at walks m s k ≡ Some walk)
+walk_stands i walks m s k fits are reached = by (walk_at walks m s k) refl
+  where
+    by : (o : Option (List ℕ)) → walk_at walks m s k ≡ o → (walk : List ℕ) × (walk_at walks m s k ≡ Some walk)
+    by (Some walk) is = (walk, is)
+    by None is =
+        let none : IsTheWalk i m s k None = subst (IsTheWalk i m s k) is (are m s k) in
+        let w = fits.walks m s reached.0 reached.2 in
+        let not_so : restores i w.0 s reached.0 ≡ false = none w.0 reached.0 w.1 w.3 reached.1 in
+        absurd (cc (not_so, w.2))
+
+-- and makes its line
+pub line_stands : (i : Declared) (walks : List ((ℕ × ℕ × ℕ) × List ℕ)) (m s k : ℕ) (line : WalkLine) → AreLeastWalks i walks → IsReachedBy i m s k
+    → walk_at walks m s k ≡ Some line.walk → line ≡ record { made = m; state = s; mask = k; walk = line.walk } → IsLineOf i m s k line
+line_stands i walks m s k line are reached at same =
+    let it : IsTheWalk i m s k (Some line.walk) = subst (IsTheWalk i m s k) at (are m s k) in
+    let made : IsLineOf i m s k (record { made = m; state = s; mask = k; walk = line.walk }) = record {
+      made_is = refl;
+      state_is = refl;
+      mask_is = refl;
+      good = line_good i m s k (Some line.walk) line.walk reached refl it;
+    } in subst (IsLineOf i m s k) (sym same) made

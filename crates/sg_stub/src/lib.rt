@@ -14,6 +14,6 @@ mod triples;
 pub use compiling::compile;
 pub use laws::one_table;
 pub use sg_check::{
-    Accepted, CheckError, CheckFault, CheckKind, Protos, Statement, Tree, Triple, check,
-    fun_number, interface_of, parse, reachable, restores, says_of, shortest,
+    Accepted, CheckError, CheckFault, CheckKind, Protos, Statement, Tree, Triple, Walks, check,
+    fun_number, interface_of, parse, reachable, restores, says_of,
 };

@@ -14,10 +14,9 @@ use Rattle.sg_facts.specs.Inside.Walking.{may_begin, may_go_on}
 use Rattle.sg_walk.specs.declared.spot.Spot.{Spot}
 use Rattle.sg_walk.specs.Inside.Spots.{shown}
 use Rattle.sg_walk.specs.Inside.Arrivals.{AddsArrival, AddsBy, AreArrivals, AreFound, Arrives, IsBefore, IsFollowed, IsLedBy, order_after, order_of}
-use Rattle.sg_walk.proofs.Orders.{no_begin, order_more, order_rises, stuck, zero_undeclared}
+use Rattle.sg_walk.proofs.Orders.{no_begin, order_more, order_rises, stuck, undeclared, zero_undeclared}
 use Rattle.sg_walk.proofs.ReachedStates.Closure.{ended, get_before, one_value}
 use Rattle.sg_walk.proofs.ReachedStates.Marks.{itself, only}
-use Rattle.sg_walk.proofs.Searching.{undeclared}
 
 -- ---- one call more
 

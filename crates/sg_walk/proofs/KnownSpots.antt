@@ -8,11 +8,33 @@ use Rattle.std.specs.declared.option.Option.{Option}
 use Rattle.std.proofs.lemmas.Bool.{and_parts}
 use Rattle.std.proofs.lemmas.Bool.Decides.{nat_tests}
 use Rattle.std.proofs.lemmas.Map.Views.{Contains-from_lookup}
+use Rattle.sg_walk.specs.declared.spot.FieldState.{FieldState}
+use Rattle.sg_walk.specs.declared.spot.FieldState.TheVariants.{Unset, Good, Unknown}
 use Rattle.sg_walk.specs.declared.spot.Spot.{Spot}
 use Rattle.sg_walk.specs.contracts.spot.FieldStatePartialEq.TheImpl.{eq-value as mark-eq}
 use Rattle.sg_walk.specs.contracts.spot.SpotPartialEq.TheImpl.{eq-value}
 use Rattle.sg_walk.specs.Inside.Arrivals.{AddsArrival}
-use Rattle.sg_walk.proofs.KnownEnds.{same_marks}
+
+same_mark : (a b : FieldState) → mark-eq.it a b ≡ true → a ≡ b
+same_mark Unset Unset same = refl
+same_mark Unset Good same = cc same
+same_mark Unset Unknown same = cc same
+same_mark Good Unset same = cc same
+same_mark Good Good same = refl
+same_mark Good Unknown same = cc same
+same_mark Unknown Unset same = cc same
+same_mark Unknown Good same = cc same
+same_mark Unknown Unknown same = refl
+
+same_marks : (xs ys : List FieldState) → pointwise mark-eq.it xs ys ≡ true → xs ≡ ys
+same_marks [] [] same = refl
+same_marks [] (y ∷ ys) same = absurd (cc same)
+same_marks (x ∷ xs) [] same = absurd (cc same)
+same_marks (x ∷ xs) (y ∷ ys) same =
+    let parts = and_parts (mark-eq.it x y) (pointwise mark-eq.it xs ys) same in
+    let one : x ≡ y = same_mark x y parts.0 in
+    let rest : xs ≡ ys = same_marks xs ys parts.1 in
+    cc
 
 same_parts : (a b : Spot) → a.state ≡ b.state → a.marks ≡ b.marks → a ≡ b
 same_parts a b state marks = rw (state, marks)

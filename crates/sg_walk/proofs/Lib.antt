@@ -1,6 +1,5 @@
 pub mod FirstArrivals
 pub mod GoingOn
-pub mod KnownEnds
 pub mod KnownSpots
 pub mod LeastWalks
 pub mod LookedUp
@@ -9,6 +8,5 @@ pub mod Orders
 pub mod PairSets
 pub mod Putting
 pub mod ReachedStates
-pub mod Searching
 pub mod Sets
 pub mod WalkTables

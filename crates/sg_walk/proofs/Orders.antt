@@ -1,17 +1,26 @@
 -- Walks in order: shorter ones first, and those as long by function numbers.
 use Rattle.std.proofs.Common.{◌≡◌, ◌⊎◌, ℕ, suc, ◌+◌, ◌*◌, ◌-◌, ◌<◌, ◌≤◌, ◌^◌, Bool, true, false, ◌&&◌, ◌||◌, List, [], ◌∷◌, ◌++◌, length, None, Some, refl, sym, ◌∙◌, ap, subst, inl, inr, arith}
-use Rattle.std.specs.Prelude.{◌==◌, if◌then◌else◌, nat_lt, not}
+use Rattle.std.specs.Prelude.{◌==◌, if◌then◌else◌, nat_le, nat_lt, not}
 use Rattle.std.specs.declared.option.Option.{Option}
 use Rattle.std.proofs.lemmas.Bool.{cases_Bool, cases_lt}
 use Rattle.std.proofs.lemmas.Bool.Decides.{nat_tests}
+use Rattle.std.proofs.lemmas.Nat.Bits.{bit_at_above}
 use Rattle.sg_facts.specs.Facts.{fun_at}
 use Rattle.sg_facts.specs.Interface.{Declared, declares, steps_on}
 use Rattle.sg_facts.specs.Walks.{Spot as Place, first_spot, next_spot, no_later, spot_from, spot_of}
 use Rattle.sg_facts.specs.Inside.Walking.{may_begin, may_go_on, no_worse}
 use Rattle.sg_walk.specs.Inside.Arrivals.{order_after, order_of}
-use Rattle.sg_walk.proofs.Searching.{undeclared}
 
 -- ---- numbers of functions
+
+and_false : (b : Bool) → (b && false) ≡ false
+and_false true = refl
+and_false false = refl
+
+-- there are 32 numbers of functions that can be declared
+pub undeclared : (i : Declared) (fun : ℕ) → i.declared < 2 ^ 32 → 33 ≤ fun → declares i fun ≡ false
+undeclared i fun small past =
+    ap (λ n. nat_le 1 fun && (n == 1)) (bit_at_above i.declared 32 (fun - 1) small (omega arith)) ∙ and_false (nat_le 1 fun)
 
 -- all are numbers of functions that can be declared
 abbrev pub AreFuns : List ℕ → Type 0

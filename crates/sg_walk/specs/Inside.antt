@@ -1,6 +1,5 @@
 -- How walks are sought, which no public clause cites.
 pub mod Arrivals
-pub mod Ends
 pub mod Search
 pub mod Spots
 pub mod StepSets

@@ -1,7 +1,9 @@
 // The least walks of an interface, found together and kept to be looked up.
-ghost use Rattle.std.specs.Prelude.{◌≡◌, ℕ, None, Some, IfOk, OnOk, OnErr, if◌then◌else◌};
+ghost use Rattle.std.specs.Prelude.{◌≡◌, ◌≤◌, ℕ, Bool, false, List, None, Some, length, IfNone, IfOk, IfSome, OnOk, OnErr, if◌then◌else◌};
 ghost use Rattle.std.specs.Option.{option_or};
-ghost use Rattle.sg_facts.specs.Interface.{HasFewFields};
+ghost use Rattle.sg_facts.specs.Fields.{number_of};
+ghost use Rattle.sg_facts.specs.Interface.{Declared, HasFewFields};
+ghost use Rattle.sg_facts.specs.Walks.{IsWalkOf, begin_of, most_calls, restores};
 ghost use Rattle.sg_walk.specs.LeastWalks.{AreLeastWalks, same_key, walk_at};
 
 use crate::filling::fill;
@@ -26,7 +28,8 @@ impl Model for Walks {
 }
 
 impl Walks {
-    /// The least walks of all that descriptors of an interface can come to: what `shortest` answers. Rows have at most 8 fields.
+    /// The least walks of an interface: of what each function makes, in each state, with each set of fields, the walk that restores
+    /// these. Rows have at most 8 fields.
     pub fn new(alloc: Global, iface: &Interface) -> Result<Walks, NoMemory>
         requires { HasFewFields iface.now }
         ensures { IfOk result (AreLeastWalks iface.now) }
@@ -45,8 +48,21 @@ impl Walks {
         }
     }
 
-    /// The walk of what a function made, in a state, with the set of fields that has a number: bit i for field i.
+    /// The walk of what a function made, in a state, with the set of fields that has a number (bit i for field i). Of an interface's
+    /// least walks it is the shortest that restores these, and of those as long the first by function numbers; None then says that no
+    /// walk of at most 8 calls restores them.
     pub fn get(&self, made: u8, state: u8, mask: u8) -> Option<Walk>
+        ensures at { result ≡ walk_at self.now made state mask }
+        ensures least { (i : Declared) → AreLeastWalks i self.now → IfSome result (λ walk.
+            (set : List Bool) × (number_of set ≡ mask) × IsWalkOf i walk made state set) }
+        ensures none { (i : Declared) → AreLeastWalks i self.now → IfNone result ((walk : List ℕ) (set : List Bool) → begin_of walk ≡ made
+            → length walk ≤ most_calls → number_of set ≡ mask → restores i walk state set ≡ false) }
+    {
+        self.at(made, state, mask)
+    }
+
+    // The walk that stands there.
+    fn at(&self, made: u8, state: u8, mask: u8) -> Option<Walk>
         ensures { result ≡ walk_at self.now made state mask }
     {
         match self.walks.get(&(made, state, mask)) {

@@ -2,7 +2,7 @@
 ghost use Rattle.sg_input.specs.sg_facts.Interface.{HasFewFields};
 
 use crate::interfaces::{Pairs, interface};
-use sg_input::{FunShape, Interface, Leaves, NoMemory, Parents, Shape, Walk, restores, shortest};
+use sg_input::{FunShape, Interface, Leaves, NoMemory, Parents, Shape, Walk, Walks, restores};
 use sg_load::kind::{
     EventService, LockService, MmService, RamfsService, SchedService, TimerService,
 };
@@ -190,8 +190,9 @@ fn try_cases(
 ) -> Result<(), NoMemory>
     requires { HasFewFields declared.now }
 {
+    let walks = Walks::new(alloc, declared)?;
     for (made, state, mask, want) in cases {
-        let found = shortest(alloc, declared, *made, *state, *mask)?;
+        let found = walks.get(*made, *state, *mask);
         let calls = found.as_ref().map(|walk| walk.as_slice());
         assert_eq!(rt; calls, *want, "made by {made}, in {state}, with {mask}");
     }

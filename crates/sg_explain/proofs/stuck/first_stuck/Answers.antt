@@ -6,12 +6,10 @@ use Rattle.sg_explain.proofs.stuck.first_stuck.Goals as goal
 pub triples-init : goal.triples-init
 triples-init c = none_yet c.args.iface.now c.args.state
 
-pub go_on-requires-clause-reached : goal.go_on-requires-clause-reached
-go_on-requires-clause-reached c = c.requires.triples.only _ (inside c.args.triples.now c.triples.triple-index _ c.triples-test.true)
-
 pub triples-preserved : goal.triples-preserved
 triples-preserved c =
-    one_more c.args.iface.now c.args.state c.args.triples.now c.triples.triple-index _ c.triples-test.true c.triples.first c.in_ok-next.next c.triples.invariant c.in_ok-next.ensures
+    one_more c.args.iface.now c.args.state c.args.triples.now c.triples.triple-index _ c.triples-test.true c.triples.first c.go_on.result c.triples.invariant
+    (c.go_on.ensures c.args.iface.now c.in_ok-walks.ensures (c.requires.triples.only _ (inside c.args.triples.now c.triples.triple-index _ c.triples-test.true)))
 
 pub returns : goal.returns
 returns c = all_looked_at c.args.iface.now c.args.state c.args.triples.now c.triples.triple-index c.requires.triples c.triples-test.false c.triples.first c.triples.invariant

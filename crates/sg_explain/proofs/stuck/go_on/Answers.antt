@@ -3,10 +3,10 @@ use Rattle.std.proofs.Common.{Some, ap, refl}
 use Rattle.sg_explain.proofs.Searching.{goes_free, goes_stuck}
 use Rattle.sg_explain.proofs.stuck.go_on.Goals as goal
 
-pub returns-then-is_stuck : goal.returns-then-is_stuck
-returns-then-is_stuck c =
-    goes_stuck c.args.iface.now c.args.state c.args.first _ c.args.triple c.in_ok-is_stuck.is_stuck c.if-is_stuck.true c.in_ok-is_stuck.ensures (ap Some c.earlier.ensures)
+pub returns-then-is_stuck_in : goal.returns-then-is_stuck_in
+returns-then-is_stuck_in c = λ i are reached.
+    goes_stuck i c.args.state c.args.first _ c.args.triple c.is_stuck_in.result c.if-is_stuck_in.true (c.is_stuck_in.ensures i are reached) (ap Some c.earlier.ensures)
 
-pub returns-else-is_stuck : goal.returns-else-is_stuck
-returns-else-is_stuck c =
-    goes_free c.args.iface.now c.args.state c.args.first _ c.args.triple c.in_ok-is_stuck.is_stuck c.if-is_stuck.false c.in_ok-is_stuck.ensures refl
+pub returns-else-is_stuck_in : goal.returns-else-is_stuck_in
+returns-else-is_stuck_in c = λ i are reached.
+    goes_free i c.args.state c.args.first _ c.args.triple c.is_stuck_in.result c.if-is_stuck_in.false (c.is_stuck_in.ensures i are reached) refl

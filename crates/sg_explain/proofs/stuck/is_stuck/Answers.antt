@@ -3,5 +3,4 @@ use Rattle.sg_explain.proofs.Searching.{tells_none}
 use Rattle.sg_explain.proofs.stuck.is_stuck.Goals as goal
 
 pub returns : goal.returns
-returns c =
-    tells_none c.args.iface.now c.args.triple c.in_ok-found.found c.is_none.result c.is_none.ensures c.requires.reached c.in_ok-found.ensures.least c.in_ok-found.ensures.none
+returns c = λ i are reached. tells_none i c.args.triple c.get.result c.is_none.result c.is_none.ensures reached (c.get.ensures.least i are) (c.get.ensures.none i are)

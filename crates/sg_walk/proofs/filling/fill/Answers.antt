@@ -5,8 +5,7 @@ use Rattle.sg_facts.specs.Interface.{Declared}
 use Rattle.sg_walk.specs.LeastWalks.{IsTheWalk, walk_at}
 use Rattle.sg_walk.proofs.Putting.{done_more, due_more}
 use Rattle.sg_walk.proofs.FirstArrivals.{no_walk_of}
-use Rattle.sg_walk.proofs.Orders.{zero_undeclared}
-use Rattle.sg_walk.proofs.Searching.{undeclared}
+use Rattle.sg_walk.proofs.Orders.{undeclared, zero_undeclared}
 use Rattle.sg_walk.proofs.filling.fill.Goals as goal
 
 pub made-init : goal.made-init
