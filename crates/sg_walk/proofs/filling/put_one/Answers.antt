@@ -1,5 +1,5 @@
 -- Set after set.
-use Rattle.std.proofs.Common.{◌≡◌, ◌+◌, ℕ, sym, ◌∙◌, subst, arith}
+use Rattle.std.proofs.Common.{◌≡◌, ◌+◌, ◌^◌, ℕ, length, sym, ◌∙◌, ap, subst, arith}
 use Rattle.std.specs.Option.{option_or}
 use Rattle.sg_walk.specs.LeastWalks.{walk_at}
 use Rattle.sg_walk.proofs.Putting.{put_all, put_below, put_more, put_none, put_same}
@@ -23,5 +23,7 @@ masks-preserved c m s k = elim c.if-is_goal.branch [
 
 pub returns : goal.returns
 returns c m s k =
+    let last : c.masks.number ≡ c.set_count-number-end.result = omega (arith, c.masks-test.false, c.masks.auto.number-end) in
+    let end : c.masks.number ≡ 2 ^ length c.args.iface.now.facts.fields = last ∙ c.set_count-number-end.ensures.value ∙ ap (λ n. 2 ^ n) c.field_count.ensures in
     put_all c.args.iface.now c.args.made c.args.spot c.args.walk c.masks.number m s k (walk_at c.args.walks.now m s k) (walk_at c.masks.walks m s k)
-    (omega (arith, c.set_count-number-end.ensures.value, c.field_count.ensures)) (c.masks.invariant m s k)
+    (omega (arith, end)) (c.masks.invariant m s k)
