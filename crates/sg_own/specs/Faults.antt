@@ -49,8 +49,8 @@ IsOwnFault tree (Walks kind) at =
     × (IsFault (itself tree) tree kind at
     ⊎ (((i : Declared) × IsAccepted (itself tree) tree i) × (external_place tree ≡ Some at) × (kind ≡ no_walk)))
 
--- a text of its own is accepted: it describes a service that is safe, and this is the interface that it declares, which can be recovered without
--- doing again what can't be done again
+-- a text of its own is accepted: it describes a service that is safe, and this is the interface that it declares, each state of which has
+-- a walk that doesn't do again what can't be done again
 pub record IsOwnAccepted (tree : Tree) (i : Declared) : Type 0 where
   pub described : IsDescription tree
   pub safe : IsSafe (described_of_text tree)

@@ -23,8 +23,8 @@ use sg_describe::{
 use sg_safe::{SafeError, Unsafe, safe};
 use std::alloc::Global;
 
-/// The interface that a text declares, where it describes a service of its own that can be recovered; else what is first wrong with it, at its
-/// first place, and, where the service can't be recovered, why. Where there is no memory for the work, the error is `NoMemory`.
+/// The interface that a text declares, where it describes a service of its own that is safe (`IsSafe`) and each state of which has a walk; else
+/// what is first wrong with it, at its first place, and, where the service isn't safe, why. Where there is no memory for the work, the error is `NoMemory`.
 pub fn check_own(alloc: Global, tree: &Tree) -> Result<Accepted, OwnError>
     ensures answer { MatchResult result (IsOwnAccepted tree.now) (IsOwnError tree.now) }
 {
@@ -68,7 +68,7 @@ fn own_description(alloc: Global, tree: &Tree, shape: &Shape) -> Result<Descript
     }
 }
 
-// A text of this shape that describes this service: it can be recovered, or why it can't.
+// A text of this shape that describes this service: it is safe, or why it isn't.
 fn own_safety(
     alloc: Global,
     tree: &Tree,
@@ -103,7 +103,7 @@ fn unsafe_error(tree: &Tree, shape: &Shape, reason: Unsafe) -> OwnError
     })
 }
 
-// The interface that a text of this shape declares, whose service can be recovered where each state has a walk; or what is wrong with that.
+// The interface that a text of this shape declares, whose service is safe, where each state has a walk; or what is wrong with that.
 fn own_walks(alloc: Global, tree: &Tree, shape: Shape) -> Result<Accepted, OwnError>
     requires shape { facts_of shape ≡ shape_of_text tree.now }
     requires described { IsDescription tree.now }

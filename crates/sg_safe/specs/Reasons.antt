@@ -170,7 +170,7 @@ IsTold d (Fails [] call) = Unit {0}
 IsTold d (Fails (fun ∷ walk) call) = LeadsTo d (fun ∷ walk) call
 IsTold d _ = Unit {0}
 
--- what is asked of a description that can be recovered, and that a reason refutes
+-- what is asked of a description that is safe, and that a reason refutes
 abbrev pub Refutes : Described → Unsafe → Type 0
 Refutes d (CountsFar x) = all_from (counts_slowly d) 0 d.most ≡ false
 Refutes d (Recounts fun x) = all_from (replays_slowly d) 1 d.facts.funs ≡ false

@@ -1,4 +1,4 @@
-// Whether a described service can be recovered, and if not, why.
+// Whether a described service is safe, and if not, why.
 ghost use Rattle.std.specs.Prelude.{◌≡◌, ◌≤◌, true, None, IfErr, IfOk, OnOk, length};
 ghost use Rattle.std.specs.Option.{option_or};
 ghost use Rattle.sg_known.specs.sg_facts.Limits.{most_funs};
@@ -16,8 +16,8 @@ use crate::waiting::first_overtaken;
 use sg_known::{Description, NoMemory, Survey, Walk, surveyed};
 use std::alloc::Global;
 
-/// A described service can be recovered: Ok exactly where it can and there is memory. Else the error tells the first reason why
-/// it can't, in the order of `Unsafe`, or that there was no memory. Of a description that keeps to what it has to by itself
+/// A described service is safe (`IsSafe`): Ok exactly where it is and there is memory. Else the error tells the first reason why
+/// it isn't, in the order of `Unsafe`, or that there was no memory. Of a description that keeps to what it has to by itself
 /// (`IsPlain`), with at most `MOST_FUNS` functions.
 pub fn safe(alloc: Global, description: &Description) -> Result<(), SafeError>
     requires plain { is_plain (described_of description.now) ≡ true }

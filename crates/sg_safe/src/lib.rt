@@ -1,6 +1,6 @@
-//! Whether a described service can be recovered, and if not, why.
+//! Whether a described service is safe, so that it can be recovered, and if not, why.
 //!
-//! - `check`: whether it can, or the first reason why it can't (`safe`)
+//! - `check`: whether it is, or the first reason why it isn't (`safe`)
 //! - `reason`: a reason (`Unsafe`, `SafeError`), a replayed call that may fail (`FailingCall`, `Obstacle`), and what is known where
 //!   a walk has come to before it (`KnownSpot`, `KnownField`)
 //! - `counting`: fields that count
