@@ -15,7 +15,7 @@ fn facts() -> &'static [u8] {
     SEMAPHORE.get(..HEAD).unwrap_or(b"")
 }
 
-static STATEMENTS: [Case; 43] = [
+static STATEMENTS: [Case; 49] = [
     (b"sm_external(f);", Tree),
     (b"desc_data_most(x, 0);", Tree),
     (b"desc_data_most(x, 0099999999999999999999);", Tree),
@@ -63,6 +63,16 @@ static STATEMENTS: [Case; 43] = [
     (b"int sm_external(spdid_t c);", Syntax(4)),
     (b"int f(desc_data_unique c);", Syntax(6)),
     (b"desc_data_retval_sub f(a b);", Syntax(21)),
+    // a field with a name that isn't one
+    (b"int f(a b, a desc_data(sm_external));", Syntax(23)),
+    (b"int f(a b, a desc_data(desc_data_most));", Syntax(23)),
+    (b"int f(a b, a desc_data(desc_data_unique));", Syntax(23)),
+    (b"int f(a b, a desc_data(sm_answer));", Syntax(23)),
+    (
+        b"int f(a b, a desc_data(desc_data_retval_sub));",
+        Syntax(23),
+    ),
+    (b"desc_data_clear(f, sm_answer);", Syntax(19)),
     (b"sm_answer(f) { give 1; /* never", Lex(23)),
     (b"sm_answer(f) { give # 1; }", Lex(20)),
 ];
@@ -289,6 +299,149 @@ fn each_token_of_an_answer_has_its_place(rt: HostRuntime) -> Result<(), Fail> {
         try_token(&rt, rt.alloc(), &token, *dropped)?;
     }
     assert!(rt; lexer.next().is_none(), "no token more");
+    Ok(())
+}
+
+// ---- words
+
+// The words of the rules, and how each is answered as an operand in `wait if WORD is 1;`, and in `wait if no row where WORD is 1;`.
+static WORDS: [(&[u8], Answer, Answer); 20] = [
+    (b"refuse", Syntax(8), Syntax(21)),
+    (b"wait", Syntax(8), Syntax(21)),
+    (b"give", Syntax(8), Syntax(21)),
+    (b"if", Syntax(8), Syntax(21)),
+    (b"is", Syntax(8), Syntax(21)),
+    (b"not", Syntax(8), Syntax(21)),
+    (b"below", Syntax(8), Syntax(21)),
+    (b"above", Syntax(8), Syntax(21)),
+    (b"plus", Syntax(8), Syntax(21)),
+    (b"minus", Syntax(8), Syntax(21)),
+    (b"least", Syntax(8), Syntax(21)),
+    (b"greatest", Syntax(17), Syntax(21)),
+    (b"caller", Tree, Syntax(21)),
+    (b"state", Tree, Tree),
+    (b"row", Syntax(8), Syntax(21)),
+    (b"where", Syntax(8), Syntax(21)),
+    (b"else", Syntax(8), Syntax(21)),
+    (b"first", Syntax(8), Syntax(21)),
+    (b"some", Syntax(13), Syntax(21)),
+    (b"no", Syntax(11), Syntax(21)),
+];
+
+// What stands before a name in a rule, where nothing else may stand, and what stands behind it.
+static AROUND: [(&[u8], &[u8]); 3] = [
+    (b"refuse ", b" if x is 1;}"),
+    (b"give 1 plus greatest ", b";}"),
+    (b"give first x where state is f else ", b";}"),
+];
+
+// The answer on the rules of a function, with this word between two pieces; its place is counted from where the rules open.
+fn answer_around(
+    alloc: Global,
+    before: &[u8],
+    word: &[u8],
+    behind: &[u8],
+) -> Result<Answer, AllocError> {
+    let mut text = Vec::from_slice(alloc, facts())?;
+    text.extend_from_slice(OPENED)?;
+    text.extend_from_slice(before)?;
+    text.extend_from_slice(word)?;
+    text.extend_from_slice(behind)?;
+    match answered(alloc, text.as_slice()) {
+        Syntax(at) => Ok(Syntax(at.saturating_sub(OPENED.len()))),
+        other => Ok(other),
+    }
+}
+
+// A word of the rules is no name in a rule.
+fn try_word(rt: &impl Abort, alloc: Global, word: &[u8]) -> Result<(), Fail> {
+    for (before, behind) in &AROUND {
+        let given = answer_around(alloc, before, word, behind)?;
+        assert!(rt; given == Syntax(before.len()), "{word:?} behind {before:?}");
+        let named = answer_around(alloc, before, b"name", behind)?;
+        assert!(rt; named == Tree, "a name behind {before:?}");
+    }
+    Ok(())
+}
+
+#[test]
+fn words_of_rules_are_no_names_in_rules(rt: HostRuntime) -> Result<(), Fail> {
+    for (word, operand, pick) in &WORDS {
+        try_word(&rt, rt.alloc(), word)?;
+        let given = answer_around(rt.alloc(), b"wait if ", word, b" is 1;}")?;
+        assert!(rt; given == *operand, "the operand {word:?}");
+        let given = answer_around(rt.alloc(), b"wait if no row where ", word, b" is 1;}")?;
+        assert!(rt; given == *pick, "the pick {word:?}");
+    }
+    Ok(())
+}
+
+// ---- brackets
+
+// What stands before 10,000 opening brackets, or stars or words in a row, and the piece that stands so often, and how the whole is
+// answered; places count from the end of the facts.
+static NESTED: [(&[u8], &[u8], Answer); 15] = [
+    (b"", b"{", Syntax(0)),
+    (b"", b"(", Syntax(0)),
+    (b"int ", b"(", Syntax(4)),
+    (b"int f(", b"(", Syntax(6)),
+    (b"int f(a ", b"desc_data(", Syntax(18)),
+    (b"desc_data_unique(", b"(", Syntax(17)),
+    (b"desc_data_most(x, ", b"(", Syntax(18)),
+    (b"sm_answer", b"(", Syntax(10)),
+    (b"sm_answer(f) ", b"{", Syntax(14)),
+    (b"sm_answer(f) { ", b"{", Syntax(15)),
+    (b"sm_answer(f) { give ", b"(", Syntax(20)),
+    (b"sm_answer(f) { wait if ", b"(", Syntax(23)),
+    (b"sm_answer(f) { wait if x is ", b"(", Syntax(28)),
+    (b"sm_answer(f) { wait if ", b"greatest ", Syntax(32)),
+    (b"sm_answer(f) { give first x where ", b"(", Syntax(34)),
+];
+
+// What stands before a piece that may stand 10,000 times, and behind.
+static REPEATED: [(&[u8], &[u8], &[u8]); 6] = [
+    (b"int f(a ", b"*", b"b);"),
+    (b"desc_data_unique(x", b", x", b");"),
+    (b"sm_answer(f) { give first x", b", x", b" else Held; }"),
+    (b"sm_answer(f) { wait if x is 1", b", x is 1", b"; }"),
+    (
+        b"sm_answer(f) { wait if no row where x is 1",
+        b", x is 1",
+        b"; }",
+    ),
+    (
+        b"sm_answer(f) { give row where x is 1",
+        b", x is 1",
+        b" else Held; }",
+    ),
+];
+
+// The answer behind the facts on a piece that stands 10,000 times between two others.
+fn answer_many(
+    alloc: Global,
+    before: &[u8],
+    piece: &[u8],
+    behind: &[u8],
+) -> Result<Answer, AllocError> {
+    let mut text = Vec::from_slice(alloc, facts())?;
+    text.extend_from_slice(before)?;
+    for _ in 0..10_000 {
+        text.extend_from_slice(piece)?;
+    }
+    text.extend_from_slice(behind)?;
+    Ok(answered(alloc, text.as_slice()))
+}
+
+#[test]
+fn nothing_nests(rt: HostRuntime) -> Result<(), Fail> {
+    for (before, piece, want) in &NESTED {
+        let given = answer_many(rt.alloc(), before, piece, b"")?;
+        assert!(rt; given == *want, "{piece:?} behind {before:?}");
+    }
+    for (before, piece, behind) in &REPEATED {
+        let given = answer_many(rt.alloc(), before, piece, behind)?;
+        assert!(rt; given == Tree, "{piece:?} behind {before:?}");
+    }
     Ok(())
 }
 

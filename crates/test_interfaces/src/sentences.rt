@@ -91,7 +91,7 @@ static ALONE: [Case; 32] = [
 // The number of bytes of the facts of locks, which stand before the first statement.
 const HEAD: usize = 202;
 
-static BEHIND_FACTS: [Case; 46] = [
+static BEHIND_FACTS: [Case; 49] = [
     (b"", Tree),
     (b"sm_block(f); sm_block(f);", Tree),
     (
@@ -148,6 +148,18 @@ static BEHIND_FACTS: [Case; 46] = [
     (b"sm_block(sm_external);", Tree),
     (b"sm_state(desc_data_most, desc_data_unique);", Tree),
     (b"refuse wait(give if, where *row);", Tree),
+    (
+        b"int f(a b, a desc_data(refuse), a desc_data(wait), a desc_data(give), a desc_data(if), a desc_data(is), a desc_data(not), a desc_data(below), a desc_data(above), a desc_data(plus), a desc_data(minus));",
+        Tree,
+    ),
+    (
+        b"int f(a b, a desc_data(least), a desc_data(greatest), a desc_data(caller), a desc_data(state), a desc_data(row), a desc_data(where), a desc_data(else), a desc_data(first), a desc_data(some), a desc_data(no));",
+        Tree,
+    ),
+    (
+        b"int f(a b, a desc_data(sm_external), a desc_data(desc_data_most), a desc_data(desc_data_unique), a desc_data(sm_answer));",
+        Tree,
+    ),
 ];
 
 // The number of bytes of the facts of events in version 2, and of these up to how descriptors are rebuilt.
@@ -155,7 +167,7 @@ const HEAD_2: usize = 246;
 
 const HEAD_2_UP_TO_RECOVERY: usize = 216;
 
-static BEHIND_FACTS_2: [Case; 17] = [
+static BEHIND_FACTS_2: [Case; 20] = [
     (b"", Tree),
     (b"desc_data_retval_sub(long, x) f(a b);", Tree),
     (b"desc_data_retval_sub(char **, x) f(a b);", Tree),
@@ -174,6 +186,18 @@ static BEHIND_FACTS_2: [Case; 17] = [
     (b"sm_block(sm_external);", Tree),
     (b"sm_state(desc_data_most, desc_data_unique);", Tree),
     (b"refuse wait(give if, where *row);", Tree),
+    (
+        b"int f(a b, a desc_data(refuse), a desc_data(wait), a desc_data(give), a desc_data(if), a desc_data(is), a desc_data(not), a desc_data(below), a desc_data(above), a desc_data(plus), a desc_data(minus));",
+        Tree,
+    ),
+    (
+        b"int f(a b, a desc_data(least), a desc_data(greatest), a desc_data(caller), a desc_data(state), a desc_data(row), a desc_data(where), a desc_data(else), a desc_data(first), a desc_data(some), a desc_data(no));",
+        Tree,
+    ),
+    (
+        b"int f(a b, a desc_data(sm_external), a desc_data(desc_data_most), a desc_data(desc_data_unique), a desc_data(sm_answer));",
+        Tree,
+    ),
 ];
 
 static BEHIND_FACTS_OF_BOTH: [Case; 8] = [

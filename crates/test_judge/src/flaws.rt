@@ -2,7 +2,7 @@
 use crate::cases::{Base, Case, try_each};
 use std::test::Fail;
 
-static CASES: [Case; 47] = [
+static CASES: [Case; 66] = [
     Case {
         base: Base::Semaphore,
         piece: "",
@@ -62,6 +62,90 @@ static CASES: [Case; 47] = [
         piece: "so_make(spdid_t spdid)",
         instead: "so_make(spdid_t spdid, char *desc_data(name))",
         said: "interface refused at 27:54: NotYet\n",
+    },
+    Case {
+        base: Base::Semaphore,
+        piece: "sm_block(sem_down);",
+        instead: "sm_block(sem_down);\nsm_needs_all(sem_down);",
+        said: "interface refused at 15:1: NotYet\n",
+    },
+    Case {
+        base: Base::Semaphore,
+        piece: "resc_has_data = false,\n    desc_recover = demand\n};",
+        instead: "resc_has_data = true,\n    desc_recover = demand\n};\nresc_data(sem_down);",
+        said: "interface refused at 9:21: NotYet\n",
+    },
+    Case {
+        base: Base::Semaphore,
+        piece: "desc_data_most(count, 65535);",
+        instead: "desc_data_unique(other, count);",
+        said: "interface refused at 26:18: NotYet\n",
+    },
+    Case {
+        base: Base::Sockets,
+        piece: "unsigned long so_make(spdid_t spdid);",
+        instead: "desc_data_unique(name);\nunsigned long so_make(spdid_t spdid, char *desc_data(name));",
+        said: "interface refused at 27:18: NotYet\n",
+    },
+    Case {
+        base: Base::Semaphore,
+        piece: "count is 0",
+        instead: "no row where count is 0",
+        said: "interface refused at 28:13: NotYet\n",
+    },
+    Case {
+        base: Base::Semaphore,
+        piece: "count is 0",
+        instead: "count is 0, no row where state is sem_make",
+        said: "interface refused at 28:25: NotYet\n",
+    },
+    Case {
+        base: Base::Semaphore,
+        piece: "wait if count is 0",
+        instead: "refuse Held if count above 0, some row where count is 0",
+        said: "interface refused at 28:35: NotYet\n",
+    },
+    Case {
+        base: Base::Semaphore,
+        piece: "wait if count is 0",
+        instead: "give 7 if some row where other is 0",
+        said: "interface refused at 28:15: NotYet\n",
+    },
+    Case {
+        base: Base::Semaphore,
+        piece: "count is 0",
+        instead: "count is 1 plus greatest count",
+        said: "interface refused at 28:38: NotYet\n",
+    },
+    Case {
+        base: Base::Semaphore,
+        piece: "wait if count is 0",
+        instead: "give greatest count",
+        said: "interface refused at 28:19: NotYet\n",
+    },
+    Case {
+        base: Base::Semaphore,
+        piece: "wait if count is 0",
+        instead: "give 1 least greatest other",
+        said: "interface refused at 28:27: NotYet\n",
+    },
+    Case {
+        base: Base::Semaphore,
+        piece: "wait if count is 0",
+        instead: "give row where other is 1 else Full",
+        said: "interface refused at 28:5: NotYet\n",
+    },
+    Case {
+        base: Base::Semaphore,
+        piece: "wait if count is 0",
+        instead: "give first count minus 1, state where count above 0 else NotFound",
+        said: "interface refused at 28:5: NotYet\n",
+    },
+    Case {
+        base: Base::Semaphore,
+        piece: "wait if count is 0;",
+        instead: "wait if count is 0;\n    give first count else NotFound;",
+        said: "interface refused at 29:5: NotYet\n",
     },
     Case {
         base: Base::Semaphore,
@@ -284,6 +368,36 @@ static CASES: [Case; 47] = [
         piece: "version = 3",
         instead: "version = 4",
         said: "interface refused at 2:15: Syntax\n",
+    },
+    Case {
+        base: Base::Lease,
+        piece: "sm_answer(lease_return)",
+        instead: "sm_answer(owner)",
+        said: "interface refused at 41:11: UnknownFunction\n",
+    },
+    Case {
+        base: Base::Sockets,
+        piece: "desc_data(peer));",
+        instead: "desc_data(caller));\nsm_answer(so_connect) {\n    refuse Held if caller is 64;\n}",
+        said: "interface refused at 32:5: Refusable\n",
+    },
+    Case {
+        base: Base::Sockets,
+        piece: "desc_data(peer));",
+        instead: "desc_data(state));\nsm_answer(so_connect) {\n    refuse Held if state is so_bind;\n}",
+        said: "interface refused at 32:5: Refusable\n",
+    },
+    Case {
+        base: Base::Sockets,
+        piece: "desc_data(peer));",
+        instead: "desc_data(peer));\nsm_answer(so_connect) {\n    refuse Held if peer is 64;\n}",
+        said: "accepted sockets\n",
+    },
+    Case {
+        base: Base::Sockets,
+        piece: "desc_data(peer));",
+        instead: "desc_data(so_bind));\nsm_answer(so_connect) {\n    refuse Held if state is so_bind;\n}",
+        said: "accepted sockets\n",
     },
 ];
 

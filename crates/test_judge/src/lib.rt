@@ -4,6 +4,7 @@
 //! - `cases`: texts with one piece changed, and the line that is said of each (`Case`, `try_each`); `flaws` lists them, kind by kind
 //! - `examples`: the examples
 //! - `explained`: what is explained of texts
+//! - `names`: the words of the rules as names of fields
 //! - `tokens`: the examples with each token left out, doubled or replaced
 #![tactic(auto)]
 
@@ -15,5 +16,7 @@ mod examples;
 mod explained;
 #[cfg(test)]
 mod flaws;
+#[cfg(test)]
+mod names;
 #[cfg(test)]
 mod tokens;

@@ -52,7 +52,7 @@ type Head = (
     &'static [u8],
 );
 
-static HEADS: [Head; 7] = [
+static HEADS: [Head; 9] = [
     ("check", "2", "002", Done, b"accepted lock\n"),
     ("check", "demand", "eager", Done, b"accepted lock\n"),
     (
@@ -82,6 +82,20 @@ static HEADS: [Head; 7] = [
         "subtree",
         Refused,
         b"interface refused at 5:18: WrongFact\n",
+    ),
+    (
+        "check",
+        "spdid_t spdid",
+        "spdid_t sm_answer",
+        Done,
+        b"accepted lock\n",
+    ),
+    (
+        "check",
+        "spdid_t spdid",
+        "spdid_t if",
+        Done,
+        b"accepted lock\n",
     ),
     (
         "compile",

@@ -8,6 +8,7 @@
 //! - `drawn`: pictures of runs: what stands beside the lanes, how texts stand in a document, and how long one is
 //! - `gate`: two clients in threads of their own, of which one waits for the other at the gate
 //! - `inputs`: runs whose inputs are made: long ones, other interfaces, and what is refused
+//! - `own`: a service of one's own at its limits, by a text as long as one may be
 //! - `several`: plays over several services
 //! - `stops`: runs with a stop at each point, and with two
 #![tactic(auto)]
@@ -22,6 +23,8 @@ mod faults;
 mod gate;
 #[cfg(test)]
 mod inputs;
+#[cfg(test)]
+mod own;
 #[cfg(test)]
 mod runs;
 #[cfg(test)]
