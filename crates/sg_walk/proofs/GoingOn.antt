@@ -1,20 +1,19 @@
 -- Walks from a creation that go on, one call after another, to where none came before.
-use Rattle.std.proofs.Common.{◌≡◌, ◌⊎◌, ℕ, ◌+◌, ◌*◌, ◌<◌, ◌≤◌, ◌^◌, Bool, true, false, List, [], ◌∷◌, ◌++◌, length, get_or, None, Some, refl, sym, ◌∙◌, ap, subst, inl, inr, arith}
+use Rattle.std.proofs.Common.{◌≡◌, ◌⊎◌, ℕ, ◌+◌, ◌*◌, ◌<◌, ◌≤◌, ◌^◌, true, false, List, [], ◌∷◌, ◌++◌, length, get_or, None, Some, refl, sym, ◌∙◌, ap, subst, inl, inr, arith}
 use Rattle.std.specs.Prelude.{if◌then◌else◌, slice_get}
 use Rattle.std.specs.List.{Contains}
-use Rattle.std.specs.declared.option.Option.{Option}
 use Rattle.std.proofs.lemmas.Bool.{cases_Bool, cases_lt}
 use Rattle.std.proofs.lemmas.List.{length_push}
 use Rattle.std.proofs.lemmas.List.Elements.{Contains-append_left, Contains-get_or, Contains-push, Contains-push_cases}
 use Rattle.std.proofs.lemmas.List.Quantifiers.{all_pairs_push}
 use Rattle.std.proofs.lemmas.Option.{slice_get-get_or, slice_get_within, get_or_from_slice_get}
-use Rattle.sg_facts.specs.Interface.{Declared, declares}
+use Rattle.sg_facts.specs.Interface.{Declared}
 use Rattle.sg_facts.specs.Walks.{Spot as Place, begin_of, first_spot, next_spot, spot_from, spot_of}
 use Rattle.sg_facts.specs.Inside.Walking.{may_begin, may_go_on}
 use Rattle.sg_walk.specs.declared.spot.Spot.{Spot}
 use Rattle.sg_walk.specs.Inside.Spots.{shown}
 use Rattle.sg_walk.specs.Inside.Arrivals.{AddsArrival, AddsBy, AreArrivals, AreFound, Arrives, IsBefore, IsFollowed, IsLedBy, order_after, order_of}
-use Rattle.sg_walk.proofs.Orders.{no_begin, order_more, order_rises, stuck, undeclared, zero_undeclared}
+use Rattle.sg_walk.proofs.Orders.{order_more, order_rises, stuck, undeclared, zero_undeclared}
 use Rattle.sg_walk.proofs.ReachedStates.Closure.{ended, get_before, one_value}
 use Rattle.sg_walk.proofs.ReachedStates.Marks.{itself, only}
 

@@ -1,5 +1,5 @@
 -- Function after function.
-use Rattle.std.proofs.Common.{◌≡◌, ◌<◌, ◌≤◌, ◌^◌, length, ap, arith}
+use Rattle.std.proofs.Common.{◌≡◌, ◌<◌, ◌^◌, ap, arith}
 use Rattle.sg_facts.specs.Interface.{Declared}
 use Rattle.sg_walk.proofs.GoingOn.{all_tried, passed, tried_more}
 use Rattle.sg_walk.proofs.arriving.add_next.Goals as goal

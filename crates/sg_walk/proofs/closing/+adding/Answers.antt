@@ -1,5 +1,5 @@
 -- Field by field.
-use Rattle.std.proofs.Common.{◌≡◌, ℕ, suc, ◌-◌, ◌%◌, Bool, true, false, map, sym, ◌∙◌, ap, subst, arith}
+use Rattle.std.proofs.Common.{◌≡◌, suc, ◌-◌, ◌%◌, true, false, map, sym, ◌∙◌, ap, subst, arith}
 use Rattle.std.specs.Prelude.{◌==◌}
 use Rattle.sg_facts.specs.Walks.{effect_on, may_leave}
 use Rattle.sg_walk.specs.ReachedStates.Inside.Places.{AddsJust, IsLedOn, IsLedWith}

@@ -1,8 +1,8 @@
 -- Creation after creation.
-use Rattle.std.proofs.Common.{◌≡◌, ◌⊎◌, ◌+◌, ◌<◌, ◌≤◌, ◌^◌, ℕ, None, sym, ◌∙◌, ap, subst, inl, inr, arith}
+use Rattle.std.proofs.Common.{◌≡◌, ◌<◌, ◌^◌, sym, ap, subst, inl, inr, arith}
 use Rattle.std.proofs.lemmas.Bool.{cases_lt}
 use Rattle.sg_facts.specs.Interface.{Declared}
-use Rattle.sg_walk.specs.LeastWalks.{IsTheWalk, walk_at}
+use Rattle.sg_walk.specs.LeastWalks.{IsTheWalk}
 use Rattle.sg_walk.proofs.Putting.{done_more, due_more}
 use Rattle.sg_walk.proofs.FirstArrivals.{no_walk_of}
 use Rattle.sg_walk.proofs.Orders.{undeclared, zero_undeclared}

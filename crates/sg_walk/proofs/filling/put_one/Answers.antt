@@ -1,5 +1,5 @@
 -- Set after set.
-use Rattle.std.proofs.Common.{◌≡◌, ◌+◌, ◌^◌, ℕ, length, sym, ◌∙◌, ap, subst, arith}
+use Rattle.std.proofs.Common.{◌≡◌, ◌+◌, ◌^◌, length, sym, ◌∙◌, ap, subst, arith}
 use Rattle.std.specs.Option.{option_or}
 use Rattle.sg_walk.specs.LeastWalks.{walk_at}
 use Rattle.sg_walk.proofs.Putting.{put_all, put_below, put_more, put_none, put_same}
