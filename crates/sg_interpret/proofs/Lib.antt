@@ -1,0 +1,4 @@
+pub mod Answering
+pub mod Applying
+pub mod Carrying
+pub mod Emptying
