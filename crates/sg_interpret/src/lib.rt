@@ -26,3 +26,4 @@ pub use describes::Describes;
 pub use entry::DescribedEntry;
 pub use image::DescribedImage;
 pub use service::DescribedService;
+pub use sg_described::Description;
