@@ -2,3 +2,4 @@ pub mod Answering
 pub mod Applying
 pub mod Carrying
 pub mod Emptying
+pub mod Picking

@@ -3,7 +3,7 @@ ghost use Rattle.std.specs.Prelude.{◌≡◌, true, IfOk};
 ghost use Rattle.sg_edge.specs.Stops.{AscendsAbove};
 ghost use Rattle.sg_interpret.specs.sg_described.Described.{described_of};
 ghost use Rattle.sg_interpret.specs.sg_described.Meaning.{described_parts, described_table};
-ghost use Rattle.sg_interpret.specs.sg_described.Safe.{is_safe, made_safe};
+ghost use Rattle.sg_interpret.specs.sg_described.Safe.{IsSafe, made_safe};
 ghost use Rattle.sg_shared.specs.Runs.{IsRunInOrder, IsRunOf};
 ghost use Rattle.sg_shared.specs.sg_sim.sg_plain.Answering.{no_query_waits};
 ghost use Rattle.sg_shared.specs.sg_sim.sg_plain.Playing.Playable.{IsPlayable};
@@ -30,7 +30,7 @@ pub fn simulate_described(
     accepted: &Accepted,
     script: Script,
 ) -> Result<Played, NoMemory>
-    requires safe { is_safe (described_of description) ≡ true }
+    requires safe { IsSafe (described_of description) }
     requires service { accepted.now.facts ≡ (described_of description).facts }
     requires waits { no_query_waits (described_of description).facts ≡ true }
     requires playable { IsPlayable accepted.now script }
@@ -92,7 +92,7 @@ pub fn share_described<R: Threads + Wait + Sync, G: Gate>(
     script: Script,
     gate: &G,
 ) -> Result<Played, NoMemory>
-    requires safe { is_safe (described_of description) ≡ true }
+    requires safe { IsSafe (described_of description) }
     requires service { accepted.now.facts ≡ (described_of description).facts }
     requires waits { no_query_waits (described_of description).facts ≡ true }
     requires playable { IsPlayable accepted.now script }
