@@ -46,9 +46,9 @@ module _ (d : Described) (call : Call) (state : ℕ) (fields : List ℕ) where
     overflows desc out = at v is does
       where
         at : (w : Option Verdict) → verdict_of e (rules_at d call.fun) ≡ w → lets_do w ≡ true → answer_in d call.fun desc e ≡ Some (IsRefused Overflow)
-        at None none lets = ap (answer_by d call.fun desc e) none ∙ ap (λ b. cond b (Some (Ok (said desc []))) (Some (IsRefused Overflow))) (ap (leaves_fit d call.fun e) (sym none) ∙ its_fit false out)
+        at None none lets = ap (answer_by d call.fun desc e) none ∙ ap (λ b. Some (cond b (Ok (said desc [])) (IsRefused Overflow))) (ap (leaves_fit d call.fun e) (sym none) ∙ its_fit false out)
         at (Some (Give t)) some lets =
-            ap (answer_by d call.fun desc e) some ∙ ap (λ b. cond b (Some (Ok (said desc (words_in e (Some (Give t)))))) (Some (IsRefused Overflow))) (ap (leaves_fit d call.fun e) (sym some) ∙ its_fit false out)
+            ap (answer_by d call.fun desc e) some ∙ ap (λ b. Some (cond b (Ok (said desc (words_in e (Some (Give t))))) (IsRefused Overflow))) (ap (leaves_fit d call.fun e) (sym some) ∙ its_fit false out)
         at (Some (Refuse code)) some lets = absurd (cc lets)
         at (Some Wait) some lets = absurd (cc lets)
 

@@ -33,7 +33,7 @@ few_most d plain = let low = few_fields d.facts plain.allowed in let same = plai
 
 -- ---- they are empty
 
-first_zeros : (n m : ℕ) → n ≤ m → take n (replicate m 0) ≡ replicate n 0
+first_zeros : (n m : ℕ) → n ≤ m → take {A = ℕ} n (replicate m 0) ≡ replicate n 0
 first_zeros zero m low = refl
 first_zeros (suc n) zero low = absurd (omega (arith, low))
 first_zeros (suc n) (suc m) low = ap (λ l. 0 ∷ l) (first_zeros n m (omega (arith, low)))

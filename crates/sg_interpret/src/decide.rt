@@ -46,14 +46,20 @@ fn made(call: &Call, answer: Answer) -> Decision<DescribedEntry>
     match answer {
         Answer::Refused(code) => Decision::Refuse(code),
         Answer::Waits => Decision::Block,
-        Answer::Done(left) => Decision::Make {
+        Answer::Done(
+            Left {
+                state,
+                fields,
+                word,
+            },
+        ) => Decision::Make {
             entry: DescribedEntry {
                 made: call.fun,
                 creator: call.client,
-                state: left.state,
-                fields: left.fields,
+                state,
+                fields,
             },
-            word: left.word,
+            word,
         },
     }
 }
@@ -74,15 +80,19 @@ fn left_of(entry: &DescribedEntry, ends: bool, left: Left) -> Decision<Described
     ensures { result ≡ on_entry entry.now ends (Answer.Done left) }
 {
     if ends {
-        Decision::Remove
-    } else {
-        Decision::Set {
-            entry: DescribedEntry {
-                state: left.state,
-                fields: left.fields,
-                ..*entry
-            },
-            word: left.word,
-        }
+        return Decision::Remove;
+    }
+    let Left {
+        state,
+        fields,
+        word,
+    } = left;
+    Decision::Set {
+        entry: DescribedEntry {
+            state,
+            fields,
+            ..*entry
+        },
+        word,
     }
 }
