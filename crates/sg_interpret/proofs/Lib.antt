@@ -1,0 +1,5 @@
+pub mod Answering
+pub mod Applying
+pub mod Carrying
+pub mod Emptying
+pub mod Picking

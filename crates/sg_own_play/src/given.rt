@@ -1,0 +1,24 @@
+// An accepted interface, given to a play.
+ghost use Rattle.std.specs.Prelude.{◌≡◌};
+
+use sg_shared::Accepted;
+
+/// What gives an accepted interface. A play of any service takes one by this trait, so that no lifetime stands in the
+/// types that it names.
+pub(crate) trait Given {
+    ghost use Rattle.sg_facts.specs.Interface.{Declared};
+
+    ghost iface: { Self → Declared };
+
+    /// The interface, lent.
+    fn given(&self) -> &Accepted
+        ensures { result.now ≡ iface self.now };
+}
+
+impl Given for Accepted {
+    ghost iface = { λ a. a };
+
+    fn given(&self) -> &Accepted {
+        self
+    }
+}
