@@ -18,11 +18,10 @@ use Rattle.sg_script.specs.declared.fault.ScriptError.{ScriptError}
 use Rattle.sg_script.specs.declared.fault.ScriptError.TheVariants.{NoMemory as no_room, Fault}
 use Rattle.sg_script.specs.declared.fault.ScriptFault.{ScriptFault}
 use Rattle.sg_script.specs.declared.script.Script.{Script}
-use Rattle.sg_script.specs.Reads.{IsReadingOf}
 use Rattle.sg_script.proofs.Unique.{one_reading}
 use Rattle.sg_input.specs.declared.read.Read.{Read}
 use Rattle.sg_input.specs.declared.read.Read.TheVariants.{Ready, Refused}
-use Rattle.sg_input.specs.Inputs.{AreTexts, IsInputOf, IsInterface, IsReadAs, IsReady, IsRefusedInput, most_interface, most_script}
+use Rattle.sg_input.specs.Inputs.{AreTexts, IsInputOf, IsInterface, IsReadAs, IsReady, IsRefusedInput, IsScriptOf, Judging, judged_by, most_interface, most_script}
 use Rattle.sg_input.specs.Inside.Parted.{HasLongText, HasNoDivider, IsBadInterface, IsRefusedFront}
 use Rattle.sg_input.proofs.OneCut.{one_cut}
 
@@ -51,18 +50,33 @@ not_refused services text i line (tree, p, is) said =
     let same : ◌≡◌ {A = Read (List ℕ)} (Ready (accepted_line i.facts.name)) (Refused line) =
     one_verdict services text (Ready (accepted_line i.facts.name)) (Refused line) (tree, i, p, is, refl) said in absurd cc
 
+-- ---- how texts are judged
+
+-- each text is judged in one way
+pub record IsOneJudging (judging : Judging) : Type 0 where
+  pub one : (text : List ℕ) (i j : Declared) → judging.accepts text i → judging.accepts text j → i ≡ j
+  pub line : (text line line' : List ℕ) → judging.refuses text line → judging.refuses text line' → line ≡ line'
+  pub apart : (text : List ℕ) (i : Declared) (line : List ℕ) → judging.accepts text i → judging.refuses text line → ⊥
+
+one_line_of : (services : List Facts) (text line line' : List ℕ) → IsVerdict services text (Refused line) → IsVerdict services text (Refused line') → line ≡ line'
+one_line_of services text line line' a b =
+    let same : ◌≡◌ {A = Read (List ℕ)} (Refused line) (Refused line') = one_verdict services text (Refused line) (Refused line') a b in cc same
+
+pub judged_alone : (services : List Facts) → IsOneJudging (judged_by services)
+judged_alone services = record { one = one_interface services; line = one_line_of services; apart = not_refused services }
+
 -- ---- the two texts
 
-module _ (most : ℕ) (services : List Facts) (input : List ℕ) where
+module _ (most : ℕ) (judging : Judging) (alone : IsOneJudging judging) (input : List ℕ) where
   same_interface : (a b a' b' : List ℕ) → AreTexts most input a b → AreTexts most input a' b' → a ≡ a'
   same_interface a b a' b' t t' = (one_cut input a b a' b' t.cut t'.cut).0
 
   same_second : (a b a' b' : List ℕ) → AreTexts most input a b → AreTexts most input a' b' → b ≡ b'
   same_second a b a' b' t t' = (one_cut input a b a' b' t.cut t'.cut).1
 
-  same_declared : (a b a' b' : List ℕ) (i j : Declared) → AreTexts most input a b → AreTexts most input a' b' → IsInterface services a i → IsInterface services a' j → i ≡ j
+  same_declared : (a b a' b' : List ℕ) (i j : Declared) → AreTexts most input a b → AreTexts most input a' b' → judging.accepts a i → judging.accepts a' j → i ≡ j
   same_declared a b a' b' i j t t' is is' =
-      one_interface services a i j is (subst (λ v. IsInterface services v j) (sym (same_interface a b a' b' t t')) is')
+      alone.one a i j is (subst (λ v. judging.accepts v j) (sym (same_interface a b a' b' t t')) is')
 
   too_long : (n m limit : ℕ) → n ≡ m → limit < n → m ≤ limit → ⊥
   too_long n m limit same gt le = omega (arith, same, gt, le)
@@ -75,22 +89,21 @@ module _ (most : ℕ) (services : List Facts) (input : List ℕ) where
         | inr gt ↦ too_long (length long.1) (length b) most (ap length both.1) gt t.second_fits
       ]
 
-  bad_interfaces : (line line' : List ℕ) → IsBadInterface most services input line → IsBadInterface most services input line' → line ≡ line'
+  bad_interfaces : (line line' : List ℕ) → IsBadInterface most judging input line → IsBadInterface most judging input line' → line ≡ line'
   bad_interfaces line line' a b =
-      let said = subst (λ v. IsVerdict services v (Refused line')) (sym (same_interface a.0 a.1 b.0 b.1 a.2 b.2)) b.3 in
-      let same : ◌≡◌ {A = Read (List ℕ)} (Refused line) (Refused line') = one_verdict services a.0 (Refused line) (Refused line') a.3 said in cc same
+      alone.line a.0 line line' a.3 (subst (λ v. judging.refuses v line') (sym (same_interface a.0 a.1 b.0 b.1 a.2 b.2)) b.3)
 
   -- an input that is refused whatever its second text is has no accepted interface beside a text that fits
-  pub not_front : (line a b : List ℕ) (i : Declared) → IsRefusedFront most services input line → AreTexts most input a b → IsInterface services a i → ⊥
+  pub not_front : (line a b : List ℕ) (i : Declared) → IsRefusedFront most judging input line → AreTexts most input a b → judging.accepts a i → ⊥
   not_front line a b i (inl (none, said)) t is = none a b t.cut.divides
   not_front line a b i (inr (inl (long, said))) t is = not_long a b long t
   not_front line a b i (inr (inr bad)) t is =
-      not_refused services a i line is (subst (λ v. IsVerdict services v (Refused line)) (same_interface bad.0 bad.1 a b bad.2 t) bad.3)
+      alone.apart a i line is (subst (λ v. judging.refuses v line) (same_interface bad.0 bad.1 a b bad.2 t) bad.3)
 
-  not_divided : (line : List ℕ) → HasNoDivider input → IsBadInterface most services input line → ⊥
+  not_divided : (line : List ℕ) → HasNoDivider input → IsBadInterface most judging input line → ⊥
   not_divided line none bad = none bad.0 bad.1 bad.2.cut.divides
 
-  one_front : (line line' : List ℕ) → IsRefusedFront most services input line → IsRefusedFront most services input line' → line ≡ line'
+  one_front : (line line' : List ℕ) → IsRefusedFront most judging input line → IsRefusedFront most judging input line' → line ≡ line'
   one_front line line' (inl (none, is)) (inl (none', is')) = is ∙ sym is'
   one_front line line' (inl (none, is)) (inr (inl (long, is'))) = absurd (none long.0 long.1 long.2.divides)
   one_front line line' (inl (none, is)) (inr (inr bad)) = absurd (not_divided line' none bad)
@@ -101,53 +114,45 @@ module _ (most : ℕ) (services : List Facts) (input : List ℕ) where
   one_front line line' (inr (inr bad)) (inr (inl (long, is'))) = absurd (not_long bad.0 bad.1 long bad.2)
   one_front line line' (inr (inr bad)) (inr (inr bad')) = bad_interfaces line line' bad bad'
 
-  -- ---- the input, where a text of the second kind stands for one thing or has one fault, and not both
-  module _ {A : Type 0} (Reads : Declared → List ℕ → A → Type 0) (Bad : Declared → List ℕ → List ℕ → Type 0)
-      (one_reading : (i : Declared) (text : List ℕ) (one other : A) → Reads i text one → Reads i text other → one ≡ other)
-      (one_fault : (i : Declared) (text line line' : List ℕ) → Bad i text line → Bad i text line' → line ≡ line')
-      (not_both : (i : Declared) (text : List ℕ) (read : A) (line : List ℕ) → Reads i text read → Bad i text line → ⊥) where
-    moved_bad : (a b a' b' : List ℕ) (i j : Declared) (line : List ℕ) → AreTexts most input a b → AreTexts most input a' b'
-        → IsInterface services a i → IsInterface services a' j → Bad j b' line → Bad i b line
-    moved_bad a b a' b' i j line t t' is is' bad =
-        subst (λ v. Bad v b line) (sym (same_declared a b a' b' i j t t' is is')) (subst (λ v. Bad j v line) (sym (same_second a b a' b' t t')) bad)
-
-    moved : (a b a' b' : List ℕ) (i j : Declared) (read : A) → AreTexts most input a b → AreTexts most input a' b'
-        → IsInterface services a i → IsInterface services a' j → Reads j b' read → Reads i b read
+  -- ---- the input, where a text of the second kind has one reading
+  module _ {A : Type 0} (Reads : Declared → List ℕ → Read A → Type 0)
+      (one_reading : (i : Declared) (text : List ℕ) (one other : Read A) → Reads i text one → Reads i text other → one ≡ other) where
+    moved : (a b a' b' : List ℕ) (i j : Declared) (read : Read A) → AreTexts most input a b → AreTexts most input a' b'
+        → judging.accepts a i → judging.accepts a' j → Reads j b' read → Reads i b read
     moved a b a' b' i j read t t' is is' reads =
         subst (λ v. Reads v b read) (sym (same_declared a b a' b' i j t t' is is')) (subst (λ v. Reads j v read) (sym (same_second a b a' b' t t')) reads)
 
     -- an input isn't refused and read
-    pub never_read : (line : List ℕ) (i : Declared) (read : A) → IsRefusedInput most Bad services input line → IsReadAs most Reads services input i read → ⊥
+    pub never_read : (line : List ℕ) (i : Declared) (read : A) → IsRefusedInput most Reads judging input line → IsReadAs most Reads judging input i read → ⊥
     never_read line i read (inl front) ready = not_front line ready.interface ready.second i front ready.texts ready.accepted
     never_read line i read (inr bad) ready =
-        not_both bad.3 bad.1 read line
-        (moved bad.0 bad.1 ready.interface ready.second bad.3 i read bad.2 ready.texts bad.4 ready.accepted ready.reads)
-        bad.5
+        let same : ◌≡◌ {A = Read A} (Ready read) (Refused line) =
+        one_reading bad.3 bad.1 (Ready read) (Refused line)
+        (moved bad.0 bad.1 ready.interface ready.second bad.3 i (Ready read) bad.2 ready.texts bad.4 ready.accepted ready.reads)
+        bad.5 in
+        absurd cc
 
     -- it is refused with one line
-    pub one_line : (line line' : List ℕ) → IsRefusedInput most Bad services input line → IsRefusedInput most Bad services input line' → line ≡ line'
+    pub one_line : (line line' : List ℕ) → IsRefusedInput most Reads judging input line → IsRefusedInput most Reads judging input line' → line ≡ line'
     one_line line line' (inl a) (inl b) = one_front line line' a b
     one_line line line' (inl a) (inr b) = absurd (not_front line b.0 b.1 b.3 a b.2 b.4)
     one_line line line' (inr a) (inl b) = absurd (not_front line' a.0 a.1 a.3 b a.2 a.4)
     one_line line line' (inr a) (inr b) =
-        one_fault a.3 a.1 line line' a.5 (moved_bad a.0 a.1 b.0 b.1 a.3 b.3 line' a.2 b.2 a.4 b.4 b.5)
+        let same : ◌≡◌ {A = Read A} (Refused line) (Refused line') =
+        one_reading a.3 a.1 (Refused line) (Refused line') a.5 (moved a.0 a.1 b.0 b.1 a.3 b.3 (Refused line') a.2 b.2 a.4 b.4 b.5) in
+        cc same
 
     -- it is read as one thing
-    pub one_read : (i j : Declared) (read read' : A) → IsReadAs most Reads services input i read → IsReadAs most Reads services input j read' → (i ≡ j) × (read ≡ read')
-    one_read i j read read' a b = (
-      same_declared a.interface a.second b.interface b.second i j a.texts b.texts a.accepted b.accepted,
-      one_reading i a.second read read' a.reads (moved a.interface a.second b.interface b.second i j read' a.texts b.texts a.accepted b.accepted b.reads),
-    )
+    pub one_read : (i j : Declared) (read read' : A) → IsReadAs most Reads judging input i read → IsReadAs most Reads judging input j read' → (i ≡ j) × (read ≡ read')
+    one_read i j read read' a b =
+        let same : ◌≡◌ {A = Read A} (Ready read) (Ready read') =
+        one_reading i a.second (Ready read) (Ready read') a.reads
+        (moved a.interface a.second b.interface b.second i j (Ready read') a.texts b.texts a.accepted b.accepted b.reads) in (
+          same_declared a.interface a.second b.interface b.second i j a.texts b.texts a.accepted b.accepted,
+          cc same,
+        )
 
 -- ---- scripts
-
--- a text is a script
-abbrev IsScript : Declared → List ℕ → Script → Type 0
-IsScript i text script = IsReadingOf i text (Ok script)
-
--- a text has this fault of a script first, and the line says so
-abbrev IsBadScript : Declared → List ℕ → List ℕ → Type 0
-IsBadScript i text line = (fault : ScriptFault) × IsReadingOf i text (Err (Fault fault)) × (line ≡ script_line text fault)
 
 abbrev Answer : Type 0
 Answer = Result Script ScriptError
@@ -158,38 +163,38 @@ read_well script e = absurd cc
 read_ill : (fault : ScriptFault) → ◌≡◌ {A = Answer} (Err (Fault fault)) (Err no_room) → ⊥
 read_ill fault e = absurd cc
 
-one_script : (i : Declared) (text : List ℕ) (one other : Script) → IsScript i text one → IsScript i text other → one ≡ other
-one_script i text one other r s =
-    let same : ◌≡◌ {A = Answer} (Ok one) (Ok other) = one_reading i text (Ok one) (Ok other) r s (read_well one) (read_well other) in cc same
-
-one_bad_script : (i : Declared) (text line line' : List ℕ) → IsBadScript i text line → IsBadScript i text line' → line ≡ line'
-one_bad_script i text line line' (one, r, is) (other, s, is') =
+-- a text is one script, or has one fault first
+one_script : (i : Declared) (text : List ℕ) (one other : Read Script) → IsScriptOf i text one → IsScriptOf i text other → one ≡ other
+one_script i text (Ready one) (Ready other) r s =
+    let same : ◌≡◌ {A = Answer} (Ok one) (Ok other) = one_reading i text (Ok one) (Ok other) r s (read_well one) (read_well other) in
+    let scripts : one ≡ other = cc same in
+    ap Ready scripts
+one_script i text (Ready script) (Refused line) r (fault, s, is) =
+    let same : ◌≡◌ {A = Answer} (Ok script) (Err (Fault fault)) = one_reading i text (Ok script) (Err (Fault fault)) r s (read_well script) (read_ill fault) in absurd cc
+one_script i text (Refused line) (Ready script) (fault, s, is) r =
+    let same : ◌≡◌ {A = Answer} (Ok script) (Err (Fault fault)) = one_reading i text (Ok script) (Err (Fault fault)) r s (read_well script) (read_ill fault) in absurd cc
+one_script i text (Refused line) (Refused line') (one, r, is) (other, s, is') =
     let same : ◌≡◌ {A = Answer} (Err (Fault one)) (Err (Fault other)) = one_reading i text (Err (Fault one)) (Err (Fault other)) r s (read_ill one) (read_ill other) in
     let faults : one ≡ other = cc same in
-    is ∙ ap (script_line text) faults ∙ sym is'
+    ap Refused (is ∙ ap (script_line text) faults ∙ sym is')
 
-not_faulty : (i : Declared) (text : List ℕ) (script : Script) (line : List ℕ) → IsScript i text script → IsBadScript i text line → ⊥
-not_faulty i text script line r (fault, s, is) =
-    let same : ◌≡◌ {A = Answer} (Ok script) (Err (Fault fault)) = one_reading i text (Ok script) (Err (Fault fault)) r s (read_well script) (read_ill fault) in absurd cc
+module _ (judging : Judging) (alone : IsOneJudging judging) (input : List ℕ) where
+  pub never_ready : (line : List ℕ) (i : Declared) (script : Script) → IsInputOf judging input (Refused line) → IsReady judging input i script → ⊥
+  never_ready line i script = never_read most_script judging alone input IsScriptOf one_script line i script
 
-pub never_ready : (services : List Facts) (input line : List ℕ) (i : Declared) (script : Script) → IsInputOf services input (Refused line) → IsReady services input i script → ⊥
-never_ready services input line i script = never_read most_script services input IsScript IsBadScript one_script one_bad_script not_faulty line i script
+  pub one_ready : (i j : Declared) (script script' : Script) → IsReady judging input i script → IsReady judging input j script' → (i ≡ j) × (script ≡ script')
+  one_ready i j script script' = one_read most_script judging alone input IsScriptOf one_script i j script script'
 
-pub one_ready : (services : List Facts) (input : List ℕ) (i j : Declared) (script script' : Script) → IsReady services input i script → IsReady services input j script'
-    → (i ≡ j) × (script ≡ script')
-one_ready services input i j script script' = one_read most_script services input IsScript IsBadScript one_script one_bad_script not_faulty i j script script'
+  pub one_input : (one other : Read (Declared × Script)) → IsInputOf judging input one → IsInputOf judging input other → one ≡ other
+  one_input (Refused line) (Refused line') a b = ap Refused (one_line most_script judging alone input IsScriptOf one_script line line' a b)
+  one_input (Refused line) (Ready (i, script)) a b = absurd (never_ready line i script a b)
+  one_input (Ready (i, script)) (Refused line) a b = absurd (never_ready line i script b a)
+  one_input (Ready (i, script)) (Ready (j, script')) a b =
+      let both = one_ready i j script script' a b in
+      ap (λ v. Ready (v, script)) both.0 ∙ ap (λ s. Ready (j, s)) both.1
 
-pub one_input : (services : List Facts) (input : List ℕ) (one other : Read (Declared × Script)) → IsInputOf services input one → IsInputOf services input other → one ≡ other
-one_input services input (Refused line) (Refused line') a b =
-    ap Refused (one_line most_script services input IsScript IsBadScript one_script one_bad_script not_faulty line line' a b)
-one_input services input (Refused line) (Ready (i, script)) a b = absurd (never_ready services input line i script a b)
-one_input services input (Ready (i, script)) (Refused line) a b = absurd (never_ready services input line i script b a)
-one_input services input (Ready (i, script)) (Ready (j, script')) a b =
-    let both = one_ready services input i j script script' a b in
-    ap (λ v. Ready (v, script)) both.0 ∙ ap (λ s. Ready (j, s)) both.1
-
--- where it is answered at all, it is that one
-pub only : (services : List Facts) (input : List ℕ) (answer : Result (Read (Declared × Script)) NoMemory) → IfOk answer (IsInputOf services input)
-    → (other : Read (Declared × Script)) → IsInputOf services input other → IfOk answer (λ v. v ≡ other)
-only services input (Ok v) is other said = one_input services input v other is said
-only services input (Err e) is other said = tt
+  -- where it is answered at all, it is that one
+  pub only : (answer : Result (Read (Declared × Script)) NoMemory) → IfOk answer (IsInputOf judging input)
+      → (other : Read (Declared × Script)) → IsInputOf judging input other → IfOk answer (λ v. v ≡ other)
+  only (Ok v) is other said = one_input v other is said
+  only (Err e) is other said = tt

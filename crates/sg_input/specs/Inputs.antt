@@ -42,57 +42,80 @@ pub record AreTexts (most : ℕ) (input interface second : List ℕ) : Type 0 wh
   pub interface_fits : length interface ≤ most_interface
   pub second_fits : length second ≤ most
 
--- a text is accepted, with this interface
+-- a text is accepted for one of these services, with this interface
 abbrev pub IsInterface : List Facts → List ℕ → Declared → Type 0
 IsInterface services text i = (tree : Tree) × Parses text (Ok tree) × IsAccepted (services_for services tree) tree i
 
+-- how the text of an interface is judged
+pub record Judging : Type 1 where
+  -- the services that there are
+  pub services : List Facts
+  -- a text is accepted, with this interface
+  pub accepts : List ℕ → Declared → Type 0
+  -- this line refuses a text
+  pub refuses : List ℕ → List ℕ → Type 0
+
+-- a text is judged against these services, and is of one of them
+abbrev pub judged_by : List Facts → Judging
+judged_by services = record { services = services; accepts = IsInterface services; refuses = λ text line. IsVerdict services text (Refused line) }
+
 -- an interface is accepted, and under it the second text stands for this
-pub record IsReadAs {A : Type 0} (most : ℕ) (Reads : Declared → List ℕ → A → Type 0) (services : List Facts) (input : List ℕ) (i : Declared) (read : A) : Type 0 where
+pub record IsReadAs {A : Type 0} (most : ℕ) (Reads : Declared → List ℕ → Read A → Type 0) (judging : Judging) (input : List ℕ) (i : Declared) (read : A) : Type 0 where
   pub interface : List ℕ
   pub second : List ℕ
   pub texts : AreTexts most input interface second
-  pub accepted : IsInterface services interface i
-  pub reads : Reads i second read
+  pub accepted : judging.accepts interface i
+  pub reads : Reads i second (Ready read)
 
 -- this line refuses an input, by the first of its faults
-abbrev pub IsRefusedInput : ℕ → (Declared → List ℕ → List ℕ → Type 0) → List Facts → List ℕ → List ℕ → Type 0
-IsRefusedInput most Bad services input line =
+abbrev pub IsRefusedInput : {A : Type 0} → ℕ → (Declared → List ℕ → Read A → Type 0) → Judging → List ℕ → List ℕ → Type 0
+IsRefusedInput most Reads judging input line =
     -- no line of it is `%%` alone
     ((((before behind : List ℕ) → Divides input before behind → ⊥) × (line ≡ codes "input refused: NoDivider" ++ line_end))
     -- or it is divided, and one of the two texts is too long
     ⊎ ((((interface : List ℕ) × (second : List ℕ) × IsCut input interface second
     × ((most_interface < length interface) ⊎ (most < length second))) × (line ≡ too_long_line))
     -- or the interface is refused with this line
-    ⊎ ((interface : List ℕ) × (second : List ℕ) × AreTexts most input interface second × IsVerdict services interface (Refused line))))
-    -- or an interface is accepted, and under it the second text is bad, as this line says
+    ⊎ ((interface : List ℕ) × (second : List ℕ) × AreTexts most input interface second × judging.refuses interface line)))
+    -- or an interface is accepted, and under it the second text is refused with this line
     ⊎ ((interface : List ℕ) × (second : List ℕ) × AreTexts most input interface second
-    × (i : Declared) × IsInterface services interface i × Bad i second line)
+    × (i : Declared) × judging.accepts interface i × Reads i second (Refused line))
 
 -- ---- scripts
 
--- an interface is accepted, and this is a script for it
-abbrev pub IsReady : List Facts → List ℕ → Declared → Script → Type 0
-IsReady services input i script = IsReadAs most_script (λ i text script. IsReadingOf i text (Ok script)) services input i script
+-- what a text is as a script for an interface: this script, or refused with this line, which tells its first fault
+abbrev pub IsScriptOf : Declared → List ℕ → Read Script → Type 0
+IsScriptOf i text (Ready script) = IsReadingOf i text (Ok script)
+IsScriptOf i text (Refused line) =
+    (fault : ScriptFault) × IsReadingOf i text (Err (Fault fault))
+    × (line ≡ refused_line (codes "script refused at ") text fault.at (script_kind_name fault.kind))
 
--- an input is ready with this interface and script, or it is refused with this line, which tells the script's first fault where it is that
-abbrev pub IsInputOf : List Facts → List ℕ → Read (Declared × Script) → Type 0
-IsInputOf services input (Ready (i, script)) = IsReady services input i script
-IsInputOf services input (Refused line) =
-    IsRefusedInput most_script (λ i text line. (fault : ScriptFault) × IsReadingOf i text (Err (Fault fault))
-    × (line ≡ refused_line (codes "script refused at ") text fault.at (script_kind_name fault.kind))) services input line
+-- an interface is accepted, and this is a script for it
+abbrev pub IsReady : Judging → List ℕ → Declared → Script → Type 0
+IsReady judging input i script = IsReadAs most_script IsScriptOf judging input i script
+
+-- an input is ready with this interface and script, or it is refused with this line
+abbrev pub IsInputOf : Judging → List ℕ → Read (Declared × Script) → Type 0
+IsInputOf judging input (Ready (i, script)) = IsReady judging input i script
+IsInputOf judging input (Refused line) = IsRefusedInput most_script IsScriptOf judging input line
 
 -- ---- printed runs
 
--- an interface is accepted, and this is the history that a run of its service printed
-abbrev pub IsRunReady : List Facts → List ℕ → Declared → List Entry → Type 0
-IsRunReady services input i history = IsReadAs most_run (λ i text history. IsReadOf (shows_named services i) i text (Ok history)) services input i history
+-- what a text is as a printed run of an interface: this history, or refused with this line, which tells its first fault
+abbrev pub IsHistoryOf : List Facts → Declared → List ℕ → Read (List Entry) → Type 0
+IsHistoryOf services i text (Ready history) = IsReadOf (shows_named services i) i text (Ok history)
+IsHistoryOf services i text (Refused line) =
+    (kind : EntriesKind) × (at : ℕ) × IsReadOf (shows_named services i) i text (Err (EntriesFault kind at))
+    × (line ≡ refused_line (codes "run refused at ") text at (entries_kind_name kind))
 
--- an input is ready with this interface and history, or it is refused with this line, which tells the run's first fault where it is that
-abbrev pub IsRunInputOf : List Facts → List ℕ → Read (Declared × Roomy Entry) → Type 0
-IsRunInputOf services input (Ready (i, history)) = IsRunReady services input i history.items
-IsRunInputOf services input (Refused line) =
-    IsRefusedInput most_run (λ i text line. (kind : EntriesKind) × (at : ℕ) × IsReadOf (shows_named services i) i text (Err (EntriesFault kind at))
-    × (line ≡ refused_line (codes "run refused at ") text at (entries_kind_name kind))) services input line
+-- an interface is accepted, and this is the history that a run of its service printed
+abbrev pub IsRunReady : Judging → List ℕ → Declared → List Entry → Type 0
+IsRunReady judging input i history = IsReadAs most_run (IsHistoryOf judging.services) judging input i history
+
+-- an input is ready with this interface and history, or it is refused with this line
+abbrev pub IsRunInputOf : Judging → List ℕ → Read (Declared × Roomy Entry) → Type 0
+IsRunInputOf judging input (Ready (i, history)) = IsRunReady judging input i history.items
+IsRunInputOf judging input (Refused line) = IsRefusedInput most_run (IsHistoryOf judging.services) judging input line
 
 -- two answers are the same: both refuse with one line, or both have one interface and one history
 abbrev pub IsSameRun : Read (Declared × Roomy Entry) → Read (Declared × Roomy Entry) → Type 0

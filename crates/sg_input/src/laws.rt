@@ -11,7 +11,7 @@ ghost use Rattle.sg_script.specs.declared.script.Script.{Script};
 ghost use Rattle.sg_input.specs.declared.read.Read.{Read};
 ghost use Rattle.sg_input.specs.declared.refusal.RefusalKind.{RefusalKind};
 ghost use Rattle.sg_input.specs.Divider.{IsCut};
-ghost use Rattle.sg_input.specs.Inputs.{IsInputOf, IsInterface};
+ghost use Rattle.sg_input.specs.Inputs.{IsInputOf, IsInterface, judged_by};
 ghost use Rattle.sg_input.specs.Verdicts.{IsRefused, IsVerdict, services_for};
 
 /// Of a text one thing alone can be said: it isn't accepted and refused, it is refused for one kind at one place, and there is
@@ -38,5 +38,5 @@ pub fn one_cut()
 
 /// An input is one thing: it is refused with one line, or ready with one interface and one script.
 pub fn one_input()
-    ensures { (services : List Facts) (input : List ℕ) (one other : Read (Declared × Script)) → IsInputOf services input one → IsInputOf services input other → one ≡ other }
+    ensures { (services : List Facts) (input : List ℕ) (one other : Read (Declared × Script)) → IsInputOf (judged_by services) input one → IsInputOf (judged_by services) input other → one ≡ other }
 {}

@@ -6,9 +6,10 @@
 //! - `read`: what a text or an input stands for, or the line that refuses it (`Read`)
 //! - `refusal`: why a text is refused (`RefusalKind`)
 //! - `places`: the line of a place (`line_of`), and the byte in its line (`column_of`)
-//! - `parted`: an input up to its second text
-//! - `reading`: what an input is, or the line that refuses it (`read_input`)
-//! - `run_input`: what an input with a printed run is, or the line that refuses it (`read_run`)
+//! - `parted`: the two texts of an input (`texts_of`), and an input up to the second
+//! - `reading`: what an input is, or the line that refuses it (`read_input`), and what a text is as a script (`script_of`)
+//! - `run_input`: what an input with a printed run is, or the line that refuses it (`read_run`), and what a text is as a printed run
+//!   (`history_of`)
 //! - `multi_input`: what an input for several services is, or the line that refuses it (`read_multi_input`)
 //! - `dividing`: the texts of an input that is divided more than once
 //! - `members`: the interfaces of such an input, each of another service
@@ -50,11 +51,12 @@ pub use limits::{
 pub use lines::{TOO_LONG, accepted_line, interface_line, refusal_line, script_line};
 pub use members::InterfaceList;
 pub use multi_input::read_multi_input;
+pub use parted::{InputTexts, texts_of};
 pub use places::{column_of, line_of};
 pub use read::Read;
-pub use reading::read_input;
+pub use reading::{read_input, script_of};
 pub use refusal::{RefusalKind, refusal_name};
-pub use run_input::read_run;
+pub use run_input::{history_of, read_run};
 pub use sg_entries::History;
 pub use sg_facts::{
     Bytes, Effect, FieldShape, FunShape, Interface, Kind, Leaves, MOST_FIELDS, NoMemory, PairList,

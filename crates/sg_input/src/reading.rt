@@ -5,13 +5,13 @@ ghost use Rattle.sg_facts.specs.Interface.{Declared};
 ghost use Rattle.sg_script.specs.declared.script.Script.{Script as OneScript};
 ghost use Rattle.sg_input.specs.sg_check_statements.Shapes.{are_shapes};
 ghost use Rattle.sg_input.specs.declared.read.Read.{Read as AnyRead};
-ghost use Rattle.sg_input.specs.Inputs.{AreTexts, IsInputOf, IsInterface, most_script};
+ghost use Rattle.sg_input.specs.Inputs.{AreTexts, IsInputOf, IsInterface, IsScriptOf, judged_by, most_script};
 
 use crate::limits::MOST_SCRIPT;
 use crate::lines::script_line;
 use crate::parted::{InputParts, input_parts};
 use crate::{Accepted, Read};
-use sg_facts::{NoMemory, Shape};
+use sg_facts::{Interface, NoMemory, Shape};
 use sg_script::{Script, ScriptError, read};
 use std::alloc::Global;
 
@@ -27,9 +27,9 @@ pub fn read_input(
     shapes: &[Shape],
 ) -> Result<Read<(Accepted, Script)>, NoMemory>
     requires { are_shapes (map facts_of shapes.now) ≡ true }
-    ensures input { IfOk result (IsInputOf (map facts_of shapes.now) input.now) }
+    ensures input { IfOk result (IsInputOf (judged_by (map facts_of shapes.now)) input.now) }
     // Nothing else may be answered.
-    ensures only { (other : AnyRead (Declared × OneScript)) → IsInputOf (map facts_of shapes.now) input.now other → IfOk result (λ made. made ≡ other) }
+    ensures only { (other : AnyRead (Declared × OneScript)) → IsInputOf (judged_by (map facts_of shapes.now)) input.now other → IfOk result (λ made. made ≡ other) }
 {
     input_of(alloc, input, shapes)
 }
@@ -41,26 +41,37 @@ fn input_of(
     shapes: &[Shape],
 ) -> Result<Read<(Accepted, Script)>, NoMemory>
     requires { are_shapes (map facts_of shapes.now) ≡ true }
-    ensures { IfOk result (IsInputOf (map facts_of shapes.now) input.now) }
+    ensures { IfOk result (IsInputOf (judged_by (map facts_of shapes.now)) input.now) }
 {
     match input_parts(alloc, input, MOST_SCRIPT, shapes)? {
-        Read::Ready(InputParts { accepted, second }) => read_script(alloc, accepted, second),
+        Read::Ready(InputParts { accepted, second }) => with_script(alloc, accepted, second),
         Read::Refused(line) => Ok(Read::Refused(line)),
     }
 }
 
 // What an input with this script is, whose interface is accepted.
-fn read_script(
+fn with_script(
     alloc: Global,
     accepted: Accepted,
     script: &[u8],
 ) -> Result<Read<(Accepted, Script)>, NoMemory>
     ensures { IfOk result (λ made. (input interface : List ℕ) (services : List Facts) → AreTexts most_script input interface script.now
-        → IsInterface services interface accepted → IsInputOf services input made) }
+        → IsInterface services interface accepted → IsInputOf (judged_by services) input made) }
 {
-    match read(alloc, script, accepted.interface()) {
-        Ok(script) => Ok(Read::Ready((accepted, script))),
+    match script_of(alloc, script, accepted.interface())? {
+        Read::Ready(script) => Ok(Read::Ready((accepted, script))),
+        Read::Refused(line) => Ok(Read::Refused(line)),
+    }
+}
+
+/// What a text is as a script for an interface: the script, or the line that refuses it, with its first flaw. The only error is want of
+/// memory.
+pub fn script_of(alloc: Global, text: &[u8], iface: &Interface) -> Result<Read<Script>, NoMemory>
+    ensures { IfOk result (IsScriptOf iface.now text.now) }
+{
+    match read(alloc, text, iface) {
+        Ok(script) => Ok(Read::Ready(script)),
         Err(ScriptError::NoMemory) => Err(NoMemory),
-        Err(ScriptError::Fault(fault)) => Ok(Read::Refused(script_line(alloc, script, fault)?)),
+        Err(ScriptError::Fault(fault)) => Ok(Read::Refused(script_line(alloc, text, fault)?)),
     }
 }

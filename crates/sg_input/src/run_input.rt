@@ -6,15 +6,15 @@ ghost use Rattle.sg_facts.specs.declared.entry.Entry.{Entry};
 ghost use Rattle.sg_facts.specs.sg_base.Room.{Roomy};
 ghost use Rattle.sg_input.specs.sg_check_statements.Shapes.{are_shapes};
 ghost use Rattle.sg_input.specs.declared.read.Read.{Read as AnyRead};
-ghost use Rattle.sg_input.specs.Inputs.{AreTexts, IsInterface, IsRunInputOf, IsSameRun, most_run};
-ghost use Rattle.sg_input.specs.Judged.{MayBeJudged};
+ghost use Rattle.sg_input.specs.Inputs.{AreTexts, IsHistoryOf, IsInterface, IsRunInputOf, IsSameRun, judged_by, most_run};
+ghost use Rattle.sg_input.specs.Judged.{MayBeJudged, MayBeJudgedUnder, items_in};
 
 use crate::limits::MOST_RUN;
 use crate::lines::run_line;
 use crate::parted::{InputParts, input_parts};
 use crate::{Accepted, Read};
 use sg_entries::{EntriesError, History, read_entries};
-use sg_facts::{NoMemory, Shape};
+use sg_facts::{Interface, NoMemory, Shape};
 use std::alloc::Global;
 
 /// What an input is whose second text is a printed run, where its interface may be of one of these shapes: an interface that is
@@ -29,9 +29,9 @@ pub fn read_run(
     shapes: &[Shape],
 ) -> Result<Read<(Accepted, History)>, NoMemory>
     requires { are_shapes (map facts_of shapes.now) ≡ true }
-    ensures input { IfOk result (IsRunInputOf (map facts_of shapes.now) input.now) }
+    ensures input { IfOk result (IsRunInputOf (judged_by (map facts_of shapes.now)) input.now) }
     // Nothing else may be answered.
-    ensures only { (other : AnyRead (Declared × Roomy Entry)) → IsRunInputOf (map facts_of shapes.now) input.now other → IfOk result (λ made. IsSameRun made other) }
+    ensures only { (other : AnyRead (Declared × Roomy Entry)) → IsRunInputOf (judged_by (map facts_of shapes.now)) input.now other → IfOk result (λ made. IsSameRun made other) }
     ensures may { IfOk result MayBeJudged }
 {
     run_input_of(alloc, input, shapes)
@@ -44,30 +44,46 @@ fn run_input_of(
     shapes: &[Shape],
 ) -> Result<Read<(Accepted, History)>, NoMemory>
     requires { are_shapes (map facts_of shapes.now) ≡ true }
-    ensures input { IfOk result (IsRunInputOf (map facts_of shapes.now) input.now) }
+    ensures input { IfOk result (IsRunInputOf (judged_by (map facts_of shapes.now)) input.now) }
     ensures may { IfOk result MayBeJudged }
 {
     match input_parts(alloc, input, MOST_RUN, shapes)? {
-        Read::Ready(InputParts { accepted, second }) => read_entries_of(
-            alloc, accepted, second, shapes,
-        ),
+        Read::Ready(InputParts { accepted, second }) => with_run(alloc, accepted, second, shapes),
         Read::Refused(line) => Ok(Read::Refused(line)),
     }
 }
 
 // What an input with this printed run is, whose interface is accepted as one of these shapes.
-fn read_entries_of(
+fn with_run(
     alloc: Global,
     accepted: Accepted,
     run: &[u8],
     shapes: &[Shape],
 ) -> Result<Read<(Accepted, History)>, NoMemory>
     ensures input { IfOk result (λ made. (input interface : List ℕ) → AreTexts most_run input interface run.now
-        → IsInterface (map facts_of shapes.now) interface accepted → IsRunInputOf (map facts_of shapes.now) input made) }
+        → IsInterface (map facts_of shapes.now) interface accepted → IsRunInputOf (judged_by (map facts_of shapes.now)) input made) }
     ensures may { IfOk result MayBeJudged }
 {
-    match read_entries(alloc, run, accepted.interface(), shapes) {
-        Ok(history) => Ok(Read::Ready((accepted, history))),
+    match history_of(alloc, run, accepted.interface(), shapes)? {
+        Read::Ready(history) => Ok(Read::Ready((accepted, history))),
+        Read::Refused(line) => Ok(Read::Refused(line)),
+    }
+}
+
+/// What a text is as a printed run of an interface: the history, or the line that refuses it, with the first fault of its entries. A function
+/// that the interface doesn't declare shows its bytes where one of these shapes has it so. Each call of the history is one that a client
+/// may make, and there are no more than a script may have. The only error is want of memory.
+pub fn history_of(
+    alloc: Global,
+    run: &[u8],
+    iface: &Interface,
+    shapes: &[Shape],
+) -> Result<Read<History>, NoMemory>
+    ensures history { IfOk result (λ made. IsHistoryOf (map facts_of shapes.now) iface.now run.now (items_in made)) }
+    ensures may { IfOk result (MayBeJudgedUnder iface.now) }
+{
+    match read_entries(alloc, run, iface, shapes) {
+        Ok(history) => Ok(Read::Ready(history)),
         Err(EntriesError::NoMemory) => Err(NoMemory),
         Err(EntriesError::Fault { kind, at }) => {
             Ok(Read::Refused(run_line(alloc, run, kind, at)?))
