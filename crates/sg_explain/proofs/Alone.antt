@@ -4,8 +4,8 @@ use Rattle.std.specs.Prelude.{codes}
 use Rattle.sg_input.specs.sg_facts.Facts.{Facts}
 use Rattle.sg_input.specs.sg_facts.Interface.{Declared}
 use Rattle.sg_input.specs.sg_facts.Words.{line_end}
-use Rattle.sg_input.proofs.OneInput.{never_ready, not_refused}
-use Rattle.sg_input.specs.Inputs.{IsInputOf, IsInterface, IsReady}
+use Rattle.sg_input.proofs.OneInput.{judged_alone, never_ready, not_refused}
+use Rattle.sg_input.specs.Inputs.{IsInputOf, IsInterface, IsReady, judged_by}
 use Rattle.sg_input.specs.Lines.{too_long_line}
 use Rattle.sg_input.specs.Verdicts.{IsVerdict}
 use Rattle.sg_input.specs.declared.read.Read.TheVariants.{Refused}
@@ -19,7 +19,7 @@ module _ (services : List Facts) (input : List ℕ) where
   other_lines same = let letter : 84 ≡ 78 = ap (λ l. get_or l 15 0) same in omega (arith, letter)
 
   -- it isn't refused as one with a line that divides it and a text that is too long
-  not_divided : IsUndivided input → IsInputOf services input (Refused too_long_line) → ⊥
+  not_divided : IsUndivided input → IsInputOf (judged_by services) input (Refused too_long_line) → ⊥
   not_divided undivided (inl (inl (none, said))) = other_lines said
   not_divided undivided (inl (inr (inl (long, said)))) = undivided long.0 long.1 long.2.divides
   not_divided undivided (inl (inr (inr bad))) = undivided bad.0 bad.1 bad.2.cut.divides
@@ -40,16 +40,16 @@ module _ (services : List Facts) (input : List ℕ) where
   -- ---- an input with a script
 
   -- the line of its interface refuses it
-  refused_with : (text line : List ℕ) (i : Declared) (script : Script) → IsReady services input i script → IsInterfaceText input text → IsVerdict services text (Refused line)
-      → IsInputOf services input (Refused line)
+  refused_with : (text line : List ℕ) (i : Declared) (script : Script) → IsReady (judged_by services) input i script → IsInterfaceText input text → IsVerdict services text (Refused line)
+      → IsInputOf (judged_by services) input (Refused line)
   refused_with text line i script ready (inl (none, fits, same)) verdict = absurd (none ready.interface ready.second ready.texts.cut.divides)
   refused_with text line i script ready (inr (second, texts)) verdict = inl (inr (inr (text, second, texts, verdict)))
 
-  input_alone : (line : List ℕ) (i : Declared) (script : Script) → IsReady services input i script → IsExplained services input (Refused line) → ⊥
+  input_alone : (line : List ℕ) (i : Declared) (script : Script) → IsReady (judged_by services) input i script → IsExplained services input (Refused line) → ⊥
   input_alone line i script ready (inl (inl (none, long), is)) = none ready.interface ready.second ready.texts.cut.divides
-  input_alone line i script ready (inl (inr refused, is)) = never_ready services input too_long_line i script refused ready
-  input_alone line i script ready (inr (inl bad)) = never_ready services input bad.line i script (refused_with bad.text bad.line i script ready bad.its bad.verdict) ready
-  input_alone line i script ready (inr (inr bad)) = never_ready services input bad.line i script bad.refused ready
+  input_alone line i script ready (inl (inr refused, is)) = never_ready (judged_by services) (judged_alone services) input too_long_line i script refused ready
+  input_alone line i script ready (inr (inl bad)) = never_ready (judged_by services) (judged_alone services) input bad.line i script (refused_with bad.text bad.line i script ready bad.its bad.verdict) ready
+  input_alone line i script ready (inr (inr bad)) = never_ready (judged_by services) (judged_alone services) input bad.line i script bad.refused ready
 
   pub explained_alone : (told line : List ℕ) → ExplainsGood services input told → IsExplained services input (Refused line) → ⊥
   explained_alone told line good bad = elim good.counted [

@@ -10,7 +10,7 @@ use Rattle.sg_input.specs.sg_facts.Interface.{Declared}
 use Rattle.sg_input.specs.sg_facts.Tables.{AreTables}
 use Rattle.sg_input.specs.sg_facts.declared.tables.WalkLine.{WalkLine}
 use Rattle.sg_input.specs.Divider.{IsCut}
-use Rattle.sg_input.specs.Inputs.{AreTexts, IsInputOf, IsInterface, most_interface, most_script}
+use Rattle.sg_input.specs.Inputs.{AreTexts, IsInputOf, IsInterface, judged_by, most_interface, most_script}
 use Rattle.sg_input.specs.Lines.{refused_line, script_kind_name, too_long_line}
 use Rattle.sg_input.specs.declared.read.Read.{Read}
 use Rattle.sg_input.specs.declared.read.Read.TheVariants.{Ready, Refused}
@@ -60,7 +60,7 @@ module _ (services : List Facts) (input : List ℕ) where
   long_text (Ok (Refused told)) undivided long is = inl (inl (undivided, long), is)
   long_text (Err e) undivided long is = tt
 
-  long_input : (told : Read (List ℕ)) → IsInputOf services input (Refused too_long_line) → TellsLength told → IsExplained services input told
+  long_input : (told : Read (List ℕ)) → IsInputOf (judged_by services) input (Refused too_long_line) → TellsLength told → IsExplained services input told
   long_input (Ready told) long is = absurd is
   long_input (Refused told) long is = inl (inr long, is)
 

@@ -14,7 +14,7 @@ use Rattle.sg_input.specs.sg_script.declared.fault.ScriptError.TheVariants.{Faul
 use Rattle.sg_input.specs.sg_script.declared.fault.ScriptFault.{ScriptFault}
 use Rattle.sg_input.specs.sg_script.declared.script.Script.{Script}
 use Rattle.sg_input.specs.Divider.{Divides}
-use Rattle.sg_input.specs.Inputs.{AreTexts, IsInputOf, IsInterface, IsReady, most_interface, most_script}
+use Rattle.sg_input.specs.Inputs.{AreTexts, IsInputOf, IsInterface, IsReady, judged_by, most_interface, most_script}
 use Rattle.sg_input.specs.Lines.{too_long_line}
 use Rattle.sg_input.specs.Verdicts.{IsRefused, IsVerdict}
 use Rattle.sg_input.specs.declared.read.Read.{Read}
@@ -64,7 +64,7 @@ pub record ExplainsInterface (services : List Facts) (input told : List ℕ) : T
 -- the script of an input is refused: its line, and why
 pub record ExplainsScript (services : List Facts) (input told : List ℕ) : Type 0 where
   pub line : List ℕ
-  pub refused : IsInputOf services input (Refused line)
+  pub refused : IsInputOf (judged_by services) input (Refused line)
   pub interface : List ℕ
   pub script : List ℕ
   pub texts : AreTexts most_script input interface script
@@ -85,12 +85,12 @@ pub record ExplainsGood (services : List Facts) (input told : List ℕ) : Type 0
   pub walks : List WalkLine
   pub tables : AreTables i walks
   pub counts : List ℕ
-  pub counted : (IsUndivided input × (counts ≡ [])) ⊎ ((script : Script) × IsReady services input i script × (counts ≡ counts_line script))
+  pub counted : (IsUndivided input × (counts ≡ [])) ⊎ ((script : Script) × IsReady (judged_by services) input i script × (counts ≡ counts_line script))
   pub is : told ≡ concat (line ∷ flat_map (rebuilt_line i.facts) walks ∷ counts ∷ [])
 
 -- this is explained of an input: nothing is wrong with it; or it is too long, or its interface or its script is refused
 abbrev pub IsExplained : List Facts → List ℕ → Read (List ℕ) → Type 0
 IsExplained services input (Ready told) = ExplainsGood services input told
 IsExplained services input (Refused told) =
-    (((IsUndivided input × (most_interface < length input)) ⊎ IsInputOf services input (Refused too_long_line)) × (told ≡ too_long_line ++ too_long_words))
+    (((IsUndivided input × (most_interface < length input)) ⊎ IsInputOf (judged_by services) input (Refused too_long_line)) × (told ≡ too_long_line ++ too_long_words))
     ⊎ (ExplainsInterface services input told ⊎ ExplainsScript services input told)

@@ -108,8 +108,8 @@ fn with_counts(alloc: Global, accepted: &Accepted, script: &Script) -> Result<By
     Ok(told)
 }
 
-// The line that refuses an input for a fault of its script, with why.
-fn with_fault(alloc: Global, script: &[u8], fault: ScriptFault) -> Result<Bytes, NoMemory>
+/// The line that refuses an input for a fault of its script, with why.
+pub fn with_fault(alloc: Global, script: &[u8], fault: ScriptFault) -> Result<Bytes, NoMemory>
     ensures { IfOk result (λ told. told ≡ refused_line (codes "script refused at ") script.now fault.at (script_kind_name fault.kind)
         ++ why_at script.now fault.at (script_words fault.kind)) }
 {

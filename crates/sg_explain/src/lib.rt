@@ -19,14 +19,16 @@ mod rebuilt;
 mod stuck;
 mod words;
 
-pub use explaining::{explain, told_of};
+pub use explaining::{explain, told_of, with_fault};
 pub use parts::put;
 pub use reasons::put_why;
-pub use rebuilt::put_names;
+pub use rebuilt::{put_counts, put_names};
 pub use sg_input::{
-    Accepted, Bytes, Lexer, MOST_INTERFACE, NoMemory, ParseError, Read, RefusalKind, Rule, Shape,
-    Statement, Tests, Tree, accepted_line, compile, compiled, cut, interface_line, is_own, parse,
-    print_tables, put_rule, put_term, put_tests, refusal_line, refusal_name, upgraded, verdict,
+    Accepted, Bytes, History, InputTexts, Interface, Lexer, MOST_INTERFACE, MOST_RUN, MOST_SCRIPT,
+    NoMemory, ParseError, Read, RefusalKind, Rule, Script, ScriptError, ScriptFault, Shape,
+    Statement, Tests, Tree, accepted_line, compile, compiled, cut, examine, history_of,
+    interface_line, is_own, parse, print_tables, put_rule, put_term, put_tests, read_script,
+    refusal_line, refusal_name, script_of, texts_of, upgraded, verdict,
 };
 pub use stuck::put_stuck;
 pub use words::{Sentences, TOO_LONG_EXPLAINED, check_words};

@@ -106,7 +106,7 @@ fn put_field(out: &mut Bytes, is_set: bool, name: &[u8]) -> Result<(), NoMemory>
 }
 
 /// Adds how many clients, calls and stops a script has.
-pub(crate) fn put_counts(out: &mut Bytes, alloc: Global, script: &Script) -> Result<(), NoMemory>
+pub fn put_counts(out: &mut Bytes, alloc: Global, script: &Script) -> Result<(), NoMemory>
     ensures { OnOk result (out.new ≡ out.old ++ counts_line script.now) }
 {
     let clients = client_count(script);
