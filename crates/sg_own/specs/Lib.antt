@@ -1,5 +1,6 @@
 pub mod Faults
 pub mod OwnErrors
+pub mod OwnInterfaces
 pub mod SafePlaces
 pub use Rattle.sg_describe.specs as sg_describe
 pub use Rattle.sg_describe.specs.sg_described as sg_described

@@ -11,8 +11,9 @@ ghost use Rattle.sg_describe.specs.sg_shape.ShapeOfText.{shape_of_text};
 ghost use Rattle.sg_describe.specs.DescribedText.{described_of_text};
 ghost use Rattle.sg_own.specs.declared.fault.OwnError.TheVariants.{Fault};
 ghost use Rattle.sg_safe.specs.Reasons.{IsReason, unsafe_in};
-ghost use Rattle.sg_own.specs.Faults.{IsDescription, IsOwnAccepted, external_in, external_place, itself};
+ghost use Rattle.sg_own.specs.Faults.{IsDescription, external_in, external_place, itself};
 ghost use Rattle.sg_own.specs.OwnErrors.{IsOwnError};
+ghost use Rattle.sg_own.specs.OwnInterfaces.{IsOwnInterface};
 
 use crate::fault::{OwnError, OwnFault, OwnKind};
 use crate::places::{kind_of, reason_place};
@@ -23,10 +24,20 @@ use sg_describe::{
 use sg_safe::{SafeError, Unsafe, safe};
 use std::alloc::Global;
 
-/// The interface that a text declares, where it describes a service of its own that is safe (`IsSafe`) and each state of which has a walk; else
-/// what is first wrong with it, at its first place, and, where the service isn't safe, why. Where there is no memory for the work, the error is `NoMemory`.
-pub fn check_own(alloc: Global, tree: &Tree) -> Result<Accepted, OwnError>
-    ensures answer { MatchResult result (IsOwnAccepted tree.now) (IsOwnError tree.now) }
+/// The interface of a text that describes a service of its own and is accepted, with what the text describes.
+#[derive(Debug, Drop)]
+pub struct OwnInterface {
+    /// The interface.
+    pub accepted: Accepted,
+    /// What its service does. Its lists are kept to the end of the program.
+    pub description: Description,
+}
+
+/// The interface that a text declares, with what it describes, where it describes a service of its own that is safe (`IsSafe`) and each state of
+/// which has a walk; else what is first wrong with it, at its first place, and, where the service isn't safe, why. Where there is no memory for
+/// the work, the error is `NoMemory`.
+pub fn check_own(alloc: Global, tree: &Tree) -> Result<OwnInterface, OwnError>
+    ensures answer { MatchResult result (IsOwnInterface tree.now) (IsOwnError tree.now) }
 {
     let shape = own_shape(alloc, tree)?;
     let description = own_description(alloc, tree, &shape)?;
@@ -34,7 +45,10 @@ pub fn check_own(alloc: Global, tree: &Tree) -> Result<Accepted, OwnError>
     let accepted = own_walks(alloc, tree, shape)?;
     match external_place(tree) {
         Some(at) => Err(fault(OwnKind::Walks(CheckKind::NoWalk), at)),
-        None => Ok(accepted),
+        None => Ok(OwnInterface {
+            accepted,
+            description,
+        }),
     }
 }
 
