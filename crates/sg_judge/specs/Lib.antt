@@ -1,4 +1,5 @@
 pub mod AnswerLines
+pub mod AnyInputs
 pub mod Inside
 pub mod Names
 pub mod OwnExplained

@@ -1,6 +1,6 @@
--- What is explained of any input: of a text that describes a service of its own too.
-use Rattle.std.specs.Prelude.{ℕ, ◌≡◌, ◌≤◌, ◌⊎◌, List, [], ◌∷◌, ◌++◌, codes, length}
-use Rattle.std.specs.List.{concat, flat_map}
+-- What is explained of any input: of one whose interface describes a service of its own too.
+use Rattle.std.specs.Prelude.{ℕ, ◌≡◌, ◌⊎◌, List, [], ◌++◌, Err, codes}
+use Rattle.std.specs.List.{flat_map}
 use Rattle.sg_explain.specs.sg_facts.Facts.{Facts}
 use Rattle.sg_explain.specs.sg_facts.Interface.{Declared}
 use Rattle.sg_explain.specs.sg_facts.Tables.{AreTables}
@@ -9,8 +9,12 @@ use Rattle.sg_explain.specs.sg_facts.declared.tables.WalkLine.{WalkLine}
 use Rattle.sg_explain.specs.sg_input.sg_print.sg_parse.declared.tree.Tree.{Tree}
 use Rattle.sg_own.specs.sg_check_statements.Faults.{IsAccepted, IsFault}
 use Rattle.sg_own.specs.sg_check_statements.declared.fault.CheckKind.TheVariants.{NoWalk}
-use Rattle.sg_explain.specs.sg_input.Inputs.{most_interface}
+use Rattle.sg_explain.specs.sg_input.Inputs.{AreTexts, IsInputOf, IsReady, most_script}
 use Rattle.sg_explain.specs.sg_input.Lines.{refused_line}
+use Rattle.sg_explain.specs.sg_input.sg_script.Reads.{IsReadingOf}
+use Rattle.sg_explain.specs.sg_input.sg_script.declared.fault.ScriptError.TheVariants.{Fault}
+use Rattle.sg_explain.specs.sg_input.sg_script.declared.fault.ScriptFault.{ScriptFault}
+use Rattle.sg_explain.specs.sg_input.sg_script.declared.script.Script.{Script}
 use Rattle.sg_explain.specs.sg_input.declared.read.Read.{Read}
 use Rattle.sg_explain.specs.sg_input.declared.read.Read.TheVariants.{Ready, Refused}
 use Rattle.sg_own.specs.Faults.{IsOwnAccepted, IsOwnFault, itself}
@@ -21,9 +25,11 @@ use Rattle.sg_own.specs.sg_shape.ShapeOfText.{shape_of_text}
 use Rattle.sg_own.specs.sg_safe.Reasons.{IsReason, unsafe_in}
 use Rattle.sg_own.specs.sg_safe.declared.reason.Unsafe.{Unsafe}
 use Rattle.sg_judge.specs.Names.{own_name}
+use Rattle.sg_explain.specs.Words.{script_words}
+use Rattle.sg_judge.specs.AnyInputs.{any_judging}
 use Rattle.sg_judge.specs.Said.{IsOwnText}
-use Rattle.sg_explain.specs.Explained.{IsExplained, IsUndivided, why_at}
-use Rattle.sg_explain.specs.Rebuilt.{rebuilt_line}
+use Rattle.sg_explain.specs.Explained.{IsExplained, IsInterfaceText, IsUndivided, why_at}
+use Rattle.sg_explain.specs.Rebuilt.{counts_line, rebuilt_line}
 use Rattle.sg_explain.specs.Stuck.{IsStuckLine}
 use Rattle.sg_judge.specs.AnswerLines.{answers_in}
 use Rattle.sg_judge.specs.OwnWords.{own_words}
@@ -47,7 +53,7 @@ IsOwnMore tree (Safety kind) at more =
 IsOwnMore tree (Walks NoWalk) at more = IsWalkMore tree at more
 IsOwnMore tree kind at more = more ≡ []
 
--- a text is refused: its line, and why
+-- the text of an interface is refused: its line, and why
 pub record ExplainsOwnFault (text : List ℕ) (tree : Tree) (told : List ℕ) : Type 0 where
   pub kind : OwnKind
   pub at : ℕ
@@ -56,27 +62,41 @@ pub record ExplainsOwnFault (text : List ℕ) (tree : Tree) (told : List ℕ) : 
   pub besides : IsOwnMore tree kind at more
   pub is : told ≡ refused_line (codes "interface refused at ") text at (own_name kind) ++ (why_at text at (own_words kind) ++ more)
 
--- a text is accepted: its line, how all that its descriptors can come to is rebuilt, and how its functions answer
-pub record ExplainsOwn (tree : Tree) (told : List ℕ) : Type 0 where
+-- the script of an input is refused: its line, and why
+pub record ExplainsOwnScript (services : List Facts) (input text : List ℕ) (tree : Tree) (told : List ℕ) : Type 0 where
+  pub line : List ℕ
+  pub refused : IsInputOf (any_judging services) input (Refused line)
+  pub script : List ℕ
+  pub texts : AreTexts most_script input text script
+  pub i : Declared
+  pub accepted : IsOwnAccepted tree i
+  pub fault : ScriptFault
+  pub reads : IsReadingOf i script (Err (Fault fault))
+  pub is : told ≡ line ++ why_at script fault.at (script_words fault.kind)
+
+-- nothing is wrong with an input: the line of its interface, how all that its descriptors can come to is rebuilt, how its functions answer, and
+-- the counts of its script
+pub record ExplainsOwn (services : List Facts) (input : List ℕ) (tree : Tree) (told : List ℕ) : Type 0 where
   pub i : Declared
   pub accepted : IsOwnAccepted tree i
   pub walks : List WalkLine
   pub tables : AreTables i walks
-  pub is : told ≡ (codes "accepted " ++ i.facts.name ++ line_end) ++ (flat_map (rebuilt_line i.facts) walks ++ flat_map answers_in tree.statements)
+  pub counts : List ℕ
+  pub counted : (IsUndivided input × (counts ≡ [])) ⊎ ((script : Script) × IsReady (any_judging services) input i script × (counts ≡ counts_line script))
+  pub is : told ≡ ((codes "accepted " ++ i.facts.name ++ line_end) ++ (flat_map (rebuilt_line i.facts) walks ++ flat_map answers_in tree.statements)) ++ counts
 
--- this is explained of a text that describes a service of its own
-abbrev pub IsOwnExplained : List ℕ → Tree → Read (List ℕ) → Type 0
-IsOwnExplained text tree (Ready told) = ExplainsOwn tree told
-IsOwnExplained text tree (Refused told) = ExplainsOwnFault text tree told
+-- this is explained of an input whose interface describes a service of its own
+abbrev pub IsOwnExplained : List Facts → List ℕ → List ℕ → Tree → Read (List ℕ) → Type 0
+IsOwnExplained services input text tree (Ready told) = ExplainsOwn services input tree told
+IsOwnExplained services input text tree (Refused told) = ExplainsOwnFault text tree told ⊎ ExplainsOwnScript services input text tree told
 
--- an input is the text alone of a service of its own, and isn't too long
-pub record IsOwnInput (input : List ℕ) (tree : Tree) : Type 0 where
-  pub undivided : IsUndivided input
-  pub short : length input ≤ most_interface
-  pub own : IsOwnText input tree
+-- the text of the interface of an input that isn't too long describes a service of its own
+pub record IsOwnInput (input text : List ℕ) (tree : Tree) : Type 0 where
+  pub its : IsInterfaceText input text
+  pub own : IsOwnText text tree
 
 -- this is explained of an input
 abbrev pub IsExplainedAny : List Facts → List ℕ → Read (List ℕ) → Type 0
 IsExplainedAny services input answer =
-    ((tree : Tree) × IsOwnInput input tree × IsOwnExplained input tree answer)
-    ⊎ (((tree : Tree) → IsOwnInput input tree → ⊥) × IsExplained services input answer)
+    ((text : List ℕ) × (tree : Tree) × IsOwnInput input text tree × IsOwnExplained services input text tree answer)
+    ⊎ (((text : List ℕ) (tree : Tree) → IsOwnInput input text tree → ⊥) × IsExplained services input answer)

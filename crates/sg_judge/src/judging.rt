@@ -1,24 +1,24 @@
 // What is said of the text of an interface, whatever its version.
 ghost use Rattle.std.specs.Prelude.{◌≡◌, ℕ, Ok, List, MatchOption, codes, map, true, IfOk};
 ghost use Rattle.std.specs.Result.{MatchResult};
-ghost use Rattle.sg_explain.specs.sg_facts.Facts.{facts_of};
+ghost use Rattle.sg_explain.specs.sg_facts.Facts.{Facts, facts_of};
 ghost use Rattle.sg_explain.specs.sg_input.sg_check_statements.Shapes.{are_shapes};
 ghost use Rattle.sg_explain.specs.sg_input.declared.read.Read.{Read as AnyRead};
-ghost use Rattle.sg_own.specs.Faults.{IsOwnAccepted};
 ghost use Rattle.sg_judge.specs.Said.{IsChecked, IsOfServices, IsOwnText, IsRenewed, IsTabled};
 ghost use Rattle.sg_judge.specs.Said.{IsOwnSaid, OwnAccepted, OwnTables, version_place};
 ghost use Rattle.sg_explain.specs.sg_input.Lines.{refused_line};
 ghost use Rattle.sg_explain.specs.sg_input.Verdicts.{refusal_name};
 ghost use Rattle.sg_explain.specs.sg_input.declared.refusal.RefusalKind.TheVariants.{Syntax};
-ghost use Rattle.sg_judge.specs.Inside.Examined.{IsOwnExamined};
+ghost use Rattle.sg_judge.specs.Inside.Examined.{IsAnyExamined, IsOwnExamined};
 ghost use Rattle.sg_judge.specs.Inside.Places.{place_after};
 
+use crate::inputs::AnyInterface;
 use crate::lines::own_line;
 use sg_explain::{
-    Accepted, Bytes, Lexer, NoMemory, ParseError, Read, RefusalKind, Shape, Tree, accepted_line,
-    compile, is_own, parse, print_tables, refusal_line,
+    Bytes, Lexer, NoMemory, ParseError, Read, RefusalKind, Shape, Tree, accepted_line, compile,
+    examine, is_own, parse, print_tables, refusal_line,
 };
-use sg_own::{OwnError, check_own};
+use sg_own::{OwnError, OwnInterface, check_own};
 use std::alloc::Global;
 
 // The tokens before the number of a version: `service_global_info = { version =`.
@@ -115,8 +115,8 @@ fn own_verdict(alloc: Global, text: &[u8], tree: &Tree) -> Result<Read<Bytes>, N
     ensures { IfOk result (IsOwnSaid OwnAccepted text.now) }
 {
     match examined(alloc, text, tree)? {
-        Read::Ready(accepted) => {
-            let service = accepted.interface().shape.name;
+        Read::Ready(own) => {
+            let service = own.accepted.interface().shape.name;
             Ok(Read::Ready(accepted_line(alloc, service)?))
         }
         Read::Refused(line) => Ok(Read::Refused(line)),
@@ -129,8 +129,8 @@ fn own_tables(alloc: Global, text: &[u8], tree: &Tree) -> Result<Read<Bytes>, No
     ensures { IfOk result (IsOwnSaid OwnTables text.now) }
 {
     match examined(alloc, text, tree)? {
-        Read::Ready(accepted) => {
-            let tables = compile(alloc, &accepted)?;
+        Read::Ready(own) => {
+            let tables = compile(alloc, &own.accepted)?;
             Ok(Read::Ready(print_tables(alloc, &tables)?))
         }
         Read::Refused(line) => Ok(Read::Refused(line)),
@@ -162,12 +162,61 @@ fn place_after(lexer: &mut Lexer, passed: usize) -> usize
     }
 }
 
-// The interface of such a text, or the line that refuses it.
-fn examined(alloc: Global, text: &[u8], tree: &Tree) -> Result<Read<Accepted>, NoMemory>
+/// The interface of a text, with what it describes where its service is its own; or the line that refuses it, as `verdict` says. The shapes are
+/// as for `verdict`. The only error is want of memory.
+pub(crate) fn examine_any(
+    alloc: Global,
+    text: &[u8],
+    shapes: &[Shape],
+) -> Result<Read<AnyInterface>, NoMemory>
+    requires { are_shapes (map facts_of shapes.now) ≡ true }
+    ensures { IfOk result (IsAnyExamined (map facts_of shapes.now) text.now) }
+{
+    match own_tree(alloc, text)? {
+        Some(tree) => own_interface(alloc, text, &tree),
+        None => interface_of_services(alloc, text, shapes),
+    }
+}
+
+// The same of a text that describes a service of its own, whatever the services.
+fn own_interface(alloc: Global, text: &[u8], tree: &Tree) -> Result<Read<AnyInterface>, NoMemory>
+    requires { IsOwnText text.now tree.now }
+    ensures { IfOk result (λ made. (services : List Facts) → IsAnyExamined services text.now made) }
+{
+    match examined(alloc, text, tree)? {
+        Read::Ready(own) => Ok(Read::Ready(AnyInterface {
+            accepted: own.accepted,
+            own: Some(own.description),
+        })),
+        Read::Refused(line) => Ok(Read::Refused(line)),
+    }
+}
+
+// The same of a text that describes none.
+fn interface_of_services(
+    alloc: Global,
+    text: &[u8],
+    shapes: &[Shape],
+) -> Result<Read<AnyInterface>, NoMemory>
+    requires shapes { are_shapes (map facts_of shapes.now) ≡ true }
+    requires other { IsOfServices text.now }
+    ensures { IfOk result (IsAnyExamined (map facts_of shapes.now) text.now) }
+{
+    match examine(alloc, text, shapes)? {
+        Read::Ready(accepted) => Ok(Read::Ready(AnyInterface {
+            accepted,
+            own: None,
+        })),
+        Read::Refused(line) => Ok(Read::Refused(line)),
+    }
+}
+
+// The interface of a text that describes a service of its own, or the line that refuses it.
+fn examined(alloc: Global, text: &[u8], tree: &Tree) -> Result<Read<OwnInterface>, NoMemory>
     ensures { IfOk result (IsOwnExamined text.now tree.now) }
 {
     match check_own(alloc, tree) {
-        Ok(accepted) => Ok(Read::Ready(accepted)),
+        Ok(own) => Ok(Read::Ready(own)),
         Err(OwnError::NoMemory) => Err(NoMemory),
         Err(OwnError::Fault(fault)) => {
             Ok(Read::Refused(own_line(alloc, text, fault.kind, fault.at)?))

@@ -1,18 +1,21 @@
-//! What is said of the text of an interface, whatever its version: a text of version 3 describes a service of its own and is judged by itself.
+//! What is said of the text of an interface, whatever its version, and what an input is: a text of version 3 describes a service of its own and is judged by itself.
 //!
 //! - `judging`: the verdict on a text, its tables, and its canonical text (`verdict`, `compiled`, `upgraded`)
+//! - `inputs`: what an input is, or the line that refuses it (`read_any_input`, `read_any_run`), and whose service its interface is of
+//!   (`AnyInterface`)
 //! - `explaining`: what is explained of an input (`explain`): `words` has the sentences of each kind of fault, `reasons` why a described service
 //!   can't be recovered, `answers` how functions answer
 //! - `lines`: the line that refuses a text which describes a service of its own; `names`: the names of what can be wrong with one
-//! - `laws`: of a text one thing alone can be said (`one_verdict`)
+//! - `laws`: of a text one thing alone can be said (`one_verdict`), and an input is one thing (`one_any_input`)
 //!
-//! `specs/Said.antt` says what is said of a text, and `specs/OwnExplained.antt` what is explained of one; `specs/Names.antt` and
+//! `specs/Said.antt` says what is said of a text, `specs/AnyInputs.antt` what an input is, and `specs/OwnExplained.antt` what is explained of one; `specs/Names.antt` and
 //! `specs/OwnWords.antt` have the names and the sentences of each kind of fault, `specs/AnswerLines.antt` those of rules, and
 //! `specs/ReasonLines.antt` the lines of reasons.
 #![tactic(auto)]
 
 mod answers;
 mod explaining;
+mod inputs;
 mod judging;
 mod laws;
 mod lines;
@@ -21,6 +24,8 @@ mod reasons;
 mod words;
 
 pub use explaining::explain;
+pub use inputs::{AnyInterface, read_any_input, read_any_run};
 pub use judging::{compiled, upgraded, verdict};
-pub use laws::one_verdict;
+pub use laws::{one_any_input, one_verdict};
 pub use sg_explain::{Read, TOO_LONG_EXPLAINED};
+pub use sg_own::Description;

@@ -1,0 +1,14 @@
+-- The script of an interface that is accepted.
+use Rattle.std.proofs.Common.{map, subst}
+use Rattle.std.proofs.lemmas.Result.{IfOk-weaker}
+use Rattle.sg_explain.specs.sg_facts.Facts.{facts_of}
+use Rattle.sg_explain.specs.sg_input.Inputs.{most_script}
+use Rattle.sg_judge.specs.AnyInputs.{IsAnyInputOf}
+use Rattle.sg_judge.specs.Inside.Examined.{AreAnyParts}
+use Rattle.sg_judge.proofs.inputs.input_of.Goals as goal
+
+pub returns-in-Ready : goal.returns-in-Ready
+returns-in-Ready c =
+    let services = map facts_of c.args.shapes.now in
+    let parts = subst (AreAnyParts most_script services c.args.input.now) c.in-Ready.is c.in_ok-any.ensures in
+    IfOk-weaker c.with_script.result _ (IsAnyInputOf services c.args.input.now) (λ made h. h c.args.input.now parts.0 services parts.1 parts.2) c.with_script.ensures
