@@ -1,11 +1,13 @@
 -- What is explained of an input whose interface describes a service of its own, put together.
 use Rattle.std.proofs.Common.{◌≡◌, inl, inr, ℕ, ◌≤◌, List, [], ◌++◌, refl, sym, ◌∙◌, ap, subst, length, append-nil}
 use Rattle.std.specs.Prelude.{Ok, Err, codes}
+use Rattle.std.specs.List.{flat_map}
 use Rattle.sg_explain.specs.Explained.{IsExplained, IsInterfaceText, IsUndivided, why_at}
-use Rattle.sg_explain.specs.Rebuilt.{counts_line}
+use Rattle.sg_explain.specs.Rebuilt.{counts_line, rebuilt_line}
 use Rattle.sg_explain.specs.Words.{script_words}
 use Rattle.sg_explain.specs.sg_facts.Facts.{Facts}
 use Rattle.sg_explain.specs.sg_facts.Interface.{Declared}
+use Rattle.sg_explain.specs.sg_facts.Words.{line_end}
 use Rattle.sg_explain.specs.sg_input.Divider.{IsCut}
 use Rattle.sg_explain.specs.sg_input.Inputs.{AreTexts, most_interface, most_script}
 use Rattle.sg_explain.specs.sg_input.Lines.{refused_line, script_kind_name}
@@ -18,6 +20,7 @@ use Rattle.sg_explain.specs.sg_input.sg_script.declared.fault.ScriptFault.{Scrip
 use Rattle.sg_explain.specs.sg_input.sg_script.declared.script.Script.{Script}
 use Rattle.sg_explain.proofs.sg_input.OneCut.{one_cut}
 use Rattle.sg_own.specs.Faults.{IsOwnAccepted}
+use Rattle.sg_judge.specs.AnswerLines.{answers_in}
 use Rattle.sg_judge.specs.Inside.Told.{AreShort, TellsOwn}
 use Rattle.sg_judge.specs.OwnExplained.{ExplainsOwn, ExplainsOwnScript, IsExplainedAny, IsOwnExplained, IsOwnInput}
 use Rattle.sg_judge.specs.Said.{IsOfServices, IsOwnText}
@@ -56,7 +59,7 @@ module _ (services : List Facts) (input : List ℕ) where
     tables = tables;
     counts = [];
     counted = inl (undivided, refl);
-    is = is ∙ sym (append-nil _);
+    is = is ∙ sym (append-nil ((codes "accepted " ++ i.facts.name ++ line_end) ++ (flat_map (rebuilt_line i.facts) walks ++ flat_map answers_in tree.statements)));
   }
 
   -- ---- an interface and a script
