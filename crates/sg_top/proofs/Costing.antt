@@ -9,7 +9,7 @@ use Rattle.sg_facts.specs.Tables.{AreTables}
 use Rattle.sg_facts.specs.Trace.{run_of}
 use Rattle.sg_facts.specs.declared.tables.WalkLine.{WalkLine}
 use Rattle.sg_input.specs.sg_script.declared.script.Script.{Script}
-use Rattle.sg_load.specs.Services.{answering, facts_by, standard}
+use Rattle.sg_load.specs.Services.{answering, standard}
 use Rattle.sg_load.specs.declared.kind.ServiceKind.{ServiceKind}
 use Rattle.sg_load.specs.sg_plain.Playing.Playable.{IsPlayable}
 use Rattle.sg_report.specs.sg_hist.Recovered.{Stubs, waiting}
@@ -19,8 +19,10 @@ use Rattle.sg_explore.specs.sg_shared.Runs.{IsRunOf}
 use Rattle.sg_load.specs.sg_plain.Answering.{Answering}
 use Rattle.sg_top.specs.Headline.{HasFewReplays}
 use Rattle.sg_input.proofs.sg_stub.OneTable.{one_table}
-use Rattle.sg_top.proofs.EachKind.{allowed_kind, allowed_standard}
-use Rattle.sg_top.specs.Inside.Plays.{IsPlayOf}
+use Rattle.sg_top.proofs.EachKind.{allowed_standard}
+use Rattle.sg_top.proofs.Serving.{allowed_served}
+use Rattle.sg_top.specs.declared.served.Served.{Served}
+use Rattle.sg_top.specs.Inside.Plays.{IsOfServed, IsPlayOf, answering_at}
 use Rattle.sg_report.specs.sg_hist.Clients.{AreNumbered}
 use Rattle.sg_facts.specs.sg_base.Lists.{Each}
 
@@ -35,8 +37,8 @@ few_of i service script ended playable allowed run =
           (scripts_numbered i script ended.history.items playable run.calls) (scripts_are_calls i script ended.history.items playable run.calls run.recovered.2.tables.fits),
     )
 
-pub few_replays : (i : Declared) (kind : ServiceKind) (script : Script) (ended : Ended) → IsPlayable i script → facts_by kind ≡ i.facts → IsRunOf i (answering kind) script ended → HasFewReplays i ended
-few_replays i kind script ended playable its = few_of i (answering kind) script ended playable (allowed_kind i.facts kind its)
+pub few_replays : (i : Declared) (served : Served) (script : Script) (ended : Ended) → IsPlayable i script → IsOfServed i served → IsRunOf i (answering_at served) script ended → HasFewReplays i ended
+few_replays i served script ended playable of = few_of i (answering_at served) script ended playable (allowed_served i served of)
 
 pub few_of_load : (kind : ServiceKind) (script : Script) (ended : Ended) → IsPlayable (standard kind) script → IsRunOf (standard kind) (answering kind) script ended → HasFewReplays (standard kind) ended
 few_of_load kind script ended playable = few_of (standard kind) (answering kind) script ended playable (allowed_standard kind)

@@ -129,3 +129,21 @@ has_kind facts played none = let one = of_kind facts played in none one.0 (sym (
 -- their functions have names
 pub named_played : (facts : Facts) → IsPlayed facts → AreNamed facts.funs
 named_played facts played = let one = of_kind facts played in subst (λ (f : Facts). AreNamed f.funs) one.1 (named one.0)
+
+-- ---- of services that are played
+
+-- a service is that of a kind
+abbrev IsServiceOfKind : Answering → Type 0
+IsServiceOfKind service = (kind : ServiceKind) × (answering kind ≡ service)
+
+-- services that are played are those of kinds
+kind_at : (service : Answering) → Contains played_services service → IsServiceOfKind service
+kind_at service played = All-contains IsServiceOfKind played_services service (All-map IsServiceOfKind answering kinds (λ k d within. (slice_index_or kinds k d, refl))) played
+
+-- those that have the same facts are one
+pub same_service : (one other : Answering) → Contains played_services one → Contains played_services other → one.facts ≡ other.facts → one ≡ other
+same_service one other played played' facts =
+    let a = kind_at one played in
+    let b = kind_at other played' in
+    let names : (facts_by a.0).name ≡ (facts_by b.0).name = ap (λ (s : Answering). s.facts.name) a.1 ∙ ap (λ (f : Facts). f.name) facts ∙ sym (ap (λ (s : Answering). s.facts.name) b.1) in
+    sym a.1 ∙ ap answering (same_name a.0 b.0 names) ∙ b.1

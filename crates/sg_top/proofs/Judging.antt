@@ -1,52 +1,62 @@
 -- What is said of a history that an input prints is what the program may answer.
-use Rattle.std.proofs.Common.{◌≡◌, ℕ, ◌≤◌, List, inl, inr, length, ◌∙◌, ap, sym, subst}
-use Rattle.sg_facts.specs.Facts.{Facts}
+use Rattle.std.proofs.Common.{◌≡◌, ℕ, List, inl, inr, ◌∙◌, ap, sym, subst}
 use Rattle.sg_facts.specs.Interface.{Declared}
-use Rattle.sg_facts.specs.Limits.{most_script_calls}
 use Rattle.sg_facts.specs.declared.entry.Entry.{Entry}
-use Rattle.sg_facts.specs.sg_base.Lists.{Each}
 use Rattle.sg_facts.specs.sg_base.Room.{Roomy}
 use Rattle.sg_input.specs.declared.read.Read.{Read}
 use Rattle.sg_input.specs.declared.read.Read.TheVariants.{Ready, Refused}
-use Rattle.sg_input.specs.Inputs.{IsRunInputOf, IsRunReady}
-use Rattle.sg_input.specs.Judged.{MayBeJudged}
+use Rattle.sg_input.specs.Inputs.{IsRunInputOf}
+use Rattle.sg_judge.specs.Said.{IsOwnText}
+use Rattle.sg_judge.specs.sg_own.sg_describe.DescribedText.{described_of_text}
+use Rattle.sg_judge.proofs.AnyInputs.{any_judged_alone}
 use Rattle.sg_verify.specs.Lines.{verdict_line_of}
 use Rattle.sg_verify.specs.Verdicts.{IsVerdictOf}
 use Rattle.sg_verify.specs.declared.verdict.Verdict.{Verdict}
-use Rattle.sg_report.specs.sg_hist.Clients.{MayBeMade}
+use Rattle.sg_input.proofs.OneCut.{one_cut}
+use Rattle.sg_input.proofs.OneInput.{one_tree}
 use Rattle.sg_input.proofs.OneRun.{never_ready, one_ready}
 use Rattle.sg_verify.proofs.Verdicts.{one_said as one_verdict}
-use Rattle.sg_top.proofs.Fitting.{interface_service}
-use Rattle.sg_top.proofs.EachKind.{its_facts, same_name}
-use Rattle.sg_load.specs.Services.{answering, facts_by}
-use Rattle.sg_load.specs.declared.kind.ServiceKind.{ServiceKind}
-use Rattle.sg_top.specs.Answer.{IsJudgedAs, IsOutput, services}
+use Rattle.sg_top.proofs.EachKind.{same_service}
+use Rattle.sg_load.specs.Services.{played_services}
+use Rattle.sg_load.specs.sg_plain.Answering.{Answering}
+use Rattle.sg_top.specs.Answer.{IsJudgedAs, IsOutput, judging, services}
+use Rattle.sg_top.specs.Headline.{IsServedBy, described_answering}
 use Rattle.sg_top.specs.Inside.Pieces.{IsIllegal, IsVerified, verdict_status}
-use Rattle.sg_top.specs.Inside.Plays.{IsPlayed}
+use Rattle.sg_top.specs.Inside.Plays.{MayBeJudgedOn, answering_at}
+use Rattle.sg_top.specs.Inside.Ready.{IsReadyRun, IsServedRun}
 use Rattle.sg_top.specs.declared.command.Command.{Command}
 use Rattle.sg_top.specs.declared.command.Command.TheVariants.{Verify}
 use Rattle.sg_top.specs.declared.output.Ran.{Ran}
+use Rattle.sg_top.specs.declared.ready.ReadyRun.{ReadyRun}
+use Rattle.sg_top.specs.declared.served.Served.{Served}
 use Rattle.sg_top.specs.declared.status.Status.{Status}
 use Rattle.sg_top.specs.declared.status.Status.TheVariants.{Illegal}
 
 -- ---- one thing is said of an input
 
--- a service's facts tell its kind
-one_kind : (a b : ServiceKind) (facts facts' : Facts) → (answering a).facts ≡ facts → (answering b).facts ≡ facts' → facts ≡ facts' → a ≡ b
-one_kind a b facts facts' its its' same = same_name a b (ap (λ (f : Facts). f.name) (its_facts a ∙ its ∙ same ∙ sym its' ∙ sym (its_facts b)))
+-- the text of an interface is of one service, by the facts of the interface
+one_service : (text text' : List ℕ) (s s' : Answering) → text ≡ text' → s.facts ≡ s'.facts → IsServedBy played_services text s → IsServedBy played_services text' s' → s ≡ s'
+one_service text text' s s' same facts (inl (none, played)) (inl (none', played')) = same_service s s' played played' facts
+one_service text text' s s' same facts (inl (none, played)) (inr (tree, own, is)) = absurd (none tree (subst (λ t. IsOwnText t tree) (sym same) own))
+one_service text text' s s' same facts (inr (tree, own, is)) (inl (none, played)) = absurd (none tree (subst (λ t. IsOwnText t tree) same own))
+one_service text text' s s' same facts (inr (tree, own, is)) (inr (tree', own', is')) =
+    let moved : IsOwnText text tree' = subst (λ t. IsOwnText t tree') (sym same) own' in
+    is ∙ ap (λ t. described_answering (described_of_text t)) (one_tree text tree tree' own.parses moved.parses) ∙ sym is'
 
 one_said : (bytes : List ℕ) (status status' : Status) (output output' : List ℕ) (a : IsJudgedAs bytes status output) (b : IsJudgedAs bytes status' output') → a.said ≡ b.said
 one_said bytes status status' output output' a b =
-    let both = one_ready services bytes a.i b.i a.history b.history a.ready b.ready in
-    let kinds = one_kind a.kind b.kind a.i.facts b.i.facts a.its b.its (ap (λ (i : Declared). i.facts) both.0) in
-    one_verdict b.i (answering b.kind).ask b.history a.said b.said
-    (subst (λ h. IsVerdictOf b.i (answering b.kind).ask h a.said) both.1
-    (subst (λ i. IsVerdictOf i (answering b.kind).ask a.history a.said) both.0
-    (subst (λ k. IsVerdictOf a.i (answering k).ask a.history a.said) kinds a.is))) b.is
+    let both = one_ready judging (any_judged_alone services) bytes a.i b.i a.history b.history a.ready b.ready in
+    let texts = one_cut bytes a.ready.interface a.ready.second b.ready.interface b.ready.second a.ready.texts.cut b.ready.texts.cut in
+    let served = one_service a.ready.interface b.ready.interface a.service b.service texts.0
+    (a.its ∙ ap (λ (i : Declared). i.facts) both.0 ∙ sym b.its) a.is_served b.is_served in
+    one_verdict b.i b.service.ask b.history a.said b.said
+    (subst (λ h. IsVerdictOf b.i b.service.ask h a.said) both.1
+    (subst (λ i. IsVerdictOf i b.service.ask a.history a.said) both.0
+    (subst (λ (s : Answering). IsVerdictOf a.i s.ask a.history a.said) served a.is))) b.is
 
 verified_so : (bytes : List ℕ) (wanted : Status) (output line : List ℕ) → IsVerified bytes wanted output → IsJudgedAs bytes Illegal line → wanted ≡ Illegal
 verified_so bytes wanted output line (inl judged) bad = judged.answered ∙ ap verdict_status (one_said bytes wanted Illegal output line judged bad) ∙ sym bad.answered
-verified_so bytes wanted output line (inr refused) bad = absurd (never_ready services bytes output bad.i bad.history refused.1 bad.ready)
+verified_so bytes wanted output line (inr refused) bad = absurd (never_ready judging (any_judged_alone services) bytes output bad.i bad.history refused.1 bad.ready)
 
 -- where a history isn't legal, an output for its bytes says so
 pub judged_so : (command : Command) (bytes : List ℕ) (ran : Ran) (wanted : Status) (output line : List ℕ)
@@ -57,40 +67,34 @@ judged_so command bytes ran wanted output line is (verifies, short, bad) =
 
 -- ---- what is made of an input
 
--- an input that is ready, whose facts are shown under another name
-pub printed_for : (bytes : List ℕ) (facts : List Facts) (made : Read (Declared × Roomy Entry)) (i : Declared) (history : Roomy Entry) → facts ≡ services → made ≡ Ready (i, history)
-    → IsRunInputOf facts bytes made → IsRunReady services bytes i history.items
-printed_for bytes facts made i history known is all =
-    let ready : IsRunReady facts bytes i history.items = subst (IsRunInputOf facts bytes) is all in
-    subst (λ f. IsRunReady f bytes i history.items) known ready
+-- an input that is ready with an interface of this service and a history
+abbrev run_with : Served → Declared → Roomy Entry → ReadyRun
+run_with served i history = record { served = served; accepted = i; history = history }
 
--- one that is refused, whose facts and line are shown under other names
-pub refused_for : (bytes : List ℕ) (facts : List Facts) (made : Read (Declared × Roomy Entry)) (line written : List ℕ) → facts ≡ services → made ≡ Refused line → written ≡ line
-    → IsRunInputOf facts bytes made → IsRunInputOf services bytes (Refused written)
-refused_for bytes facts made line written known is same all =
-    let bad : IsRunInputOf facts bytes (Refused line) = subst (IsRunInputOf facts bytes) is all in
-    subst (λ l. IsRunInputOf services bytes (Refused l)) (sym same) (subst (λ f. IsRunInputOf f bytes (Refused line)) known bad)
+module _ (bytes : List ℕ) (served : Served) (i : Declared) (history : Roomy Entry) (made : Read ReadyRun) (is : made ≡ Ready (run_with served i history)) (all : IsServedRun bytes made) where
+  its_ready : IsReadyRun bytes (run_with served i history)
+  its_ready = subst (IsServedRun bytes) is all
 
-pub printed_service : (bytes : List ℕ) (i : Declared) (history : List Entry) → IsRunReady services bytes i history → IsPlayed i.facts
-printed_service bytes i history ready = interface_service ready.interface i ready.accepted
+  -- its calls may be judged, by tables whose interface is its own
+  pub may_judge : (j : Declared) → j ≡ i → MayBeJudgedOn j served history.items
+  may_judge j same = subst (λ (k : Declared). MayBeJudgedOn k served history.items) (sym same) (record { of = its_ready.served.of; calls = its_ready.may.0; few = its_ready.may.1 })
 
--- its calls may be judged
-pub may_be : (made : Read (Declared × Roomy Entry)) (i : Declared) (history : Roomy Entry) → made ≡ Ready (i, history) → MayBeJudged made
-    → Each (λ e. MayBeMade i e.call) history.items × (length history.items ≤ most_script_calls)
-may_be made i history is all = subst MayBeJudged is all
+  -- what is said of it
+  pub judged_output : (said : Verdict) (status : Status) (written : List ℕ) → IsVerdictOf i (answering_at served).ask history.items said
+      → status ≡ verdict_status said → written ≡ verdict_line_of i.facts history.items said → IsVerified bytes status written
+  judged_output said status written verdict its_status line = inl (record {
+    i = i;
+    history = history.items;
+    ready = its_ready.ready;
+    service = answering_at served;
+    is_served = its_ready.served.answers;
+    its = sym its_ready.served.of.its;
+    said = said;
+    is = verdict;
+    answered = its_status;
+    line = line;
+  })
 
--- what is said of it
-pub judged_output : (bytes : List ℕ) (i : Declared) (kind : ServiceKind) (history : List Entry) (said : Verdict) (status : Status) (written : List ℕ)
-    → IsRunReady services bytes i history → facts_by kind ≡ i.facts → IsVerdictOf i (answering kind).ask history said
-    → status ≡ verdict_status said → written ≡ verdict_line_of i.facts history said → IsVerified bytes status written
-judged_output bytes i kind history said status written ready its is its_status line = inl (record {
-  i = i;
-  history = history;
-  ready = ready;
-  kind = kind;
-  its = sym (its_facts kind) ∙ its;
-  said = said;
-  is = is;
-  answered = its_status;
-  line = line;
-})
+-- the line of one that is refused, where the line is shown under another name
+pub refused_run : (bytes line written : List ℕ) (made : Read ReadyRun) → made ≡ Refused line → written ≡ line → IsServedRun bytes made → IsRunInputOf judging bytes (Refused written)
+refused_run bytes line written made is same all = subst (λ l. IsRunInputOf judging bytes (Refused l)) (sym same) (subst (IsServedRun bytes) is all)

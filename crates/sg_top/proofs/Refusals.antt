@@ -2,6 +2,7 @@
 use Rattle.std.proofs.Common.{◌≡◌, ℕ, ◌≤◌, inl, inr, Bool, false, true, List, arith, length}
 use Rattle.sg_report.specs.sg_hist.declared.ended.Ended.{Ended}
 use Rattle.sg_judge.proofs.Alone.{any_alone}
+use Rattle.sg_judge.proofs.AnyInputs.{any_judged_alone}
 use Rattle.sg_facts.specs.Interface.{Declared}
 use Rattle.sg_input.specs.sg_script.declared.multi.MultiScript.{MultiScript}
 use Rattle.sg_input.specs.declared.read.Read.{Read}
@@ -22,7 +23,7 @@ use Rattle.sg_top.specs.declared.output.Ran.{Ran}
 use Rattle.sg_top.specs.declared.output.Ran.TheVariants.{Nothing, One, Several}
 use Rattle.sg_top.specs.declared.status.Status.{Status}
 use Rattle.sg_top.specs.declared.status.Status.TheVariants.{Refused}
-use Rattle.sg_top.specs.Answer.{IsMultiOutput, IsOutput, IsRefusal, has_input, most_bytes, report_shown, services, IsPlayOutput}
+use Rattle.sg_top.specs.Answer.{IsMultiOutput, IsOutput, IsRefusal, has_input, judging, most_bytes, report_shown, services, IsPlayOutput}
 use Rattle.sg_top.specs.Inside.Pieces.{IsRefusedAs}
 
 -- a text isn't accepted and refused
@@ -41,11 +42,11 @@ not_unupgraded text line output good bad =
     let same : ◌≡◌ {A = Read (List ℕ)} (ready output) (refused line) = one_renewed services text (ready output) (refused line) good bad in absurd cc
 
 -- an input that is played isn't refused
-not_unplayed : (bytes line output : List ℕ) (in_threads : Bool) (shows : Shows) (ended : Ended) → IsRunOfInput played_services bytes in_threads shows ended output → IsInputOf services bytes (refused line) → ⊥
-not_unplayed bytes line output in_threads shows ended run bad = never_ready services bytes line run.i run.script bad run.ready
+not_unplayed : (bytes line output : List ℕ) (in_threads : Bool) (shows : Shows) (ended : Ended) → IsRunOfInput played_services bytes in_threads shows ended output → IsInputOf judging bytes (refused line) → ⊥
+not_unplayed bytes line output in_threads shows ended run bad = never_ready judging (any_judged_alone services) bytes line run.i run.script bad run.ready
 
 played_alone : (bytes : List ℕ) (in_threads : Bool) (shows : Shows) (ran : Ran) (status : Status) (output line : List ℕ) → (status ≡ Refused → ⊥)
-    → IsPlayOutput bytes in_threads shows ran status output → IsInputOf services bytes (refused line) → ⊥
+    → IsPlayOutput bytes in_threads shows ran status output → IsInputOf judging bytes (refused line) → ⊥
 played_alone bytes in_threads shows Nothing status output line good is bad = good is.0
 played_alone bytes in_threads shows (One e) status output line good is bad = not_unplayed bytes line output in_threads shows e is.1 bad
 played_alone bytes in_threads shows (Several came) status output line good is bad = is
@@ -69,8 +70,8 @@ good_alone Check bytes ran status output line good (none, inl accepts) bad = not
 good_alone Compile bytes ran status output line good (none, inl accepts) bad = not_untabled bytes line output accepts.1 bad
 good_alone Upgrade bytes ran status output line good (none, inl accepts) bad = not_unupgraded bytes line output accepts.1 bad
 good_alone Explain bytes ran status output line good (none, inl explained) bad = any_alone services bytes output line explained.1 bad
-good_alone (Explore most) bytes ran status output line good (none, inl explored) bad = never_ready services bytes line explored.i explored.script bad explored.ready
-good_alone Verify bytes ran status output line good (none, inl judged) bad = never_printed services bytes line judged.i judged.history bad judged.ready
+good_alone (Explore most) bytes ran status output line good (none, inl explored) bad = never_ready judging (any_judged_alone services) bytes line explored.i explored.script bad explored.ready
+good_alone Verify bytes ran status output line good (none, inl judged) bad = never_printed judging (any_judged_alone services) bytes line judged.i judged.history bad judged.ready
 good_alone Check bytes ran status output line good (none, inr other) bad = good other.0
 good_alone Compile bytes ran status output line good (none, inr other) bad = good other.0
 good_alone Upgrade bytes ran status output line good (none, inr other) bad = good other.0

@@ -7,6 +7,7 @@ use Rattle.std.specs.declared.alloc.Global.{Global}
 use Rattle.std.specs.List.{list_any}
 use Rattle.sg_facts.specs.Facts.{Facts}
 use Rattle.sg_edge.specs.Edge.{Rose, ConsumesAtMost}
+use Rattle.sg_judge.specs.AnyInputs.{any_judging}
 use Rattle.sg_judge.specs.OwnExplained.{IsExplainedAny}
 use Rattle.sg_judge.specs.sg_explain.Words.{too_long_words}
 use Rattle.sg_explore.specs.Explored.{IsExplored}
@@ -17,26 +18,26 @@ use Rattle.sg_report.specs.sg_hist.declared.ended.Ended.{Ended}
 use Rattle.sg_input.specs.declared.read.Read.{Read}
 use Rattle.sg_input.specs.declared.read.Read.TheVariants.{Ready as ready, Refused as refused}
 use Rattle.sg_judge.specs.Said.{IsChecked, IsRenewed, IsTabled}
-use Rattle.sg_input.specs.Inputs.{IsInputOf, IsReady, IsRunInputOf, IsRunReady, most_interface, most_run, most_script}
+use Rattle.sg_input.specs.Inputs.{IsInputOf, IsReady, IsRunInputOf, IsRunReady, Judging, most_interface, most_run, most_script}
 use Rattle.sg_input.specs.MultiInputs.{IsMultiInputOf}
 use Rattle.sg_multi.specs.Played.{MultiCame}
 use Rattle.sg_multi.specs.declared.ended.MultiEnd.{MultiEnd}
 use Rattle.sg_multi.specs.declared.ended.MultiEnd.TheVariants.{Done as MultiDone, Blocked as MultiBlocked}
 use Rattle.sg_input.specs.Lines.{too_long_line}
 use Rattle.sg_input.specs.sg_lex.Table.{IsNumber}
-use Rattle.sg_load.specs.Services.{answering, facts_by, played_services}
+use Rattle.sg_load.specs.Services.{facts_by, played_services}
+use Rattle.sg_load.specs.sg_plain.Answering.{Answering}
 use Rattle.sg_report.specs.sg_hist.Recovered.{is_blocked}
 use Rattle.sg_facts.specs.sg_base.Counts.{last_count}
 use Rattle.sg_input.specs.sg_lex.Numbers.{value_of_digits}
 use Rattle.sg_input.specs.sg_script.declared.script.Script.{Script}
 use Rattle.sg_facts.specs.Interface.{Declared}
 use Rattle.sg_facts.specs.declared.entry.Entry.{Entry}
-use Rattle.sg_load.specs.declared.kind.ServiceKind.{ServiceKind}
 use Rattle.sg_verify.specs.Lines.{verdict_line_of}
 use Rattle.sg_verify.specs.Verdicts.{IsVerdictOf}
 use Rattle.sg_verify.specs.declared.verdict.Verdict.{Verdict}
 use Rattle.sg_verify.specs.declared.verdict.Verdict.TheVariants.{Legal}
-use Rattle.sg_top.specs.Headline.{IsPlayOfMembers, IsRunOfLoad, IsRunOfInput}
+use Rattle.sg_top.specs.Headline.{IsPlayOfMembers, IsRunOfLoad, IsRunOfInput, IsServedBy}
 use Rattle.sg_top.specs.declared.command.Command.{Command}
 use Rattle.sg_top.specs.declared.command.Command.TheVariants.{Play, Run, Check, Compile, Upgrade, Explain, Explore, Verify, Multi, Load}
 use Rattle.sg_top.specs.declared.output.Ran.{Ran}
@@ -111,33 +112,39 @@ too_long_output command = elim command [ Explain ↦ too_long_line ++ too_long_w
 abbrev pub services : List Facts
 services = map (λ s. s.facts) played_services
 
+-- how the text of an interface is judged: against these, or by itself
+abbrev pub judging : Judging
+judging = any_judging services
+
 -- the status of a play that came to its end: whether some client waits there
 abbrev pub ended_status : List (ℕ × End) → Status
 ended_status ends = if list_any (λ e. is_blocked e.1) ends then Waits else Done
 
--- an input is an interface of one of the services and a history that a run of the service printed, and this is said of the history,
--- with its status and line
+-- an input is an interface of one of the services, or of the one that it describes, and a history that a run of the service printed, and this is
+-- said of the history, with its status and line
 pub record IsJudgedAs (bytes : List ℕ) (status : Status) (output : List ℕ) : Type 0 where
   pub i : Declared
   pub history : List Entry
-  pub ready : IsRunReady services bytes i history
-  pub kind : ServiceKind
-  pub its : (answering kind).facts ≡ i.facts
+  pub ready : IsRunReady judging bytes i history
+  pub service : Answering
+  pub is_served : IsServedBy played_services ready.interface service
+  pub its : service.facts ≡ i.facts
   pub said : Verdict
-  pub is : IsVerdictOf i (answering kind).ask history said
+  pub is : IsVerdictOf i service.ask history said
   pub answered : status ≡ (elim said as (λ v. Status) [ Legal ↦ Done | _ ↦ Illegal ])
   pub line : output ≡ verdict_line_of i.facts history said
 
--- an input is an interface of one of the services and a script for it, and this was found by runs of the script with other stops: its text,
--- and the status, which says whether some client waits at the end of some run
+-- an input is an interface of one of the services, or of the one that it describes, and a script for it, and this was found by runs of the script
+-- with other stops: its text, and the status, which says whether some client waits at the end of some run
 pub record IsExploredAs (bytes : List ℕ) (most : ℕ) (status : Status) (output : List ℕ) : Type 0 where
   pub i : Declared
   pub script : Script
-  pub ready : IsReady services bytes i script
-  pub kind : ServiceKind
-  pub its : (answering kind).facts ≡ i.facts
+  pub ready : IsReady judging bytes i script
+  pub service : Answering
+  pub is_served : IsServedBy played_services ready.interface service
+  pub its : service.facts ≡ i.facts
   pub found : Explored
-  pub runs : IsExplored i (answering kind) script most found
+  pub runs : IsExplored i service script most found
   pub answered : status ≡ (if found.waits then Waits else Done)
   pub text : output ≡ found.text
 
@@ -151,7 +158,7 @@ report_shown trace = if trace then Trace else Report
 
 -- the output of a play, and its status: what is printed of the run, or the line of an input that is refused
 abbrev pub IsPlayOutput : List ℕ → Bool → Shows → Ran → Status → List ℕ → Type 0
-IsPlayOutput bytes in_threads shows Nothing status output = (status ≡ Refused) × IsInputOf services bytes (refused output)
+IsPlayOutput bytes in_threads shows Nothing status output = (status ≡ Refused) × IsInputOf judging bytes (refused output)
 IsPlayOutput bytes in_threads shows (One ended) status output = (status ≡ ended_status ended.ends) × IsRunOfInput played_services bytes in_threads shows ended output
 IsPlayOutput bytes in_threads shows (Several came) status output = ⊥
 
@@ -177,9 +184,9 @@ IsOutput Compile bytes ran status output = (ran ≡ Nothing) × IsOfText (IsTabl
 IsOutput Upgrade bytes ran status output = (ran ≡ Nothing) × IsOfText (IsRenewed services bytes) status output
 IsOutput Explain bytes ran status output = (ran ≡ Nothing) × IsOfText (IsExplainedAny services bytes) status output
 IsOutput (Explore most) bytes ran status output =
-    (ran ≡ Nothing) × (IsExploredAs bytes most status output ⊎ ((status ≡ Refused) × IsInputOf services bytes (refused output)))
+    (ran ≡ Nothing) × (IsExploredAs bytes most status output ⊎ ((status ≡ Refused) × IsInputOf judging bytes (refused output)))
 IsOutput Verify bytes ran status output =
-    (ran ≡ Nothing) × (IsJudgedAs bytes status output ⊎ ((status ≡ Refused) × IsRunInputOf services bytes (refused output)))
+    (ran ≡ Nothing) × (IsJudgedAs bytes status output ⊎ ((status ≡ Refused) × IsRunInputOf judging bytes (refused output)))
 IsOutput (Load service number) bytes ran status output = ⊥
 
 -- the output of a command without an input, its status and its run
@@ -192,13 +199,13 @@ IsOwnOutput command ran status output = ⊥
 abbrev pub IsRefusal : Command → List ℕ → List ℕ → Type 0
 IsRefusal command bytes output =
     ((length bytes ≤ most_bytes command) × (elim command as (λ c. Type 0) [
-      | Play shows ↦ IsInputOf services bytes (refused output)
-      | Run trace ↦ IsInputOf services bytes (refused output)
+      | Play shows ↦ IsInputOf judging bytes (refused output)
+      | Run trace ↦ IsInputOf judging bytes (refused output)
       | Compile ↦ IsTabled services bytes (refused output)
       | Upgrade ↦ IsRenewed services bytes (refused output)
       | Explain ↦ IsExplainedAny services bytes (refused output)
-      | Explore most ↦ IsInputOf services bytes (refused output)
-      | Verify ↦ IsRunInputOf services bytes (refused output)
+      | Explore most ↦ IsInputOf judging bytes (refused output)
+      | Verify ↦ IsRunInputOf judging bytes (refused output)
       | Multi trace ↦ IsMultiInputOf services bytes (refused output)
       | Load service number ↦ ⊥
       | _ ↦ IsChecked services bytes (refused output)

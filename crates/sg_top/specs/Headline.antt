@@ -1,5 +1,5 @@
 -- What is promised of a run of an input, over one service or over several, and of a load.
-use Rattle.std.specs.Prelude.{ℕ, ◌≡◌, Bool, true, false, List, ◌∷◌, ◌++◌, map}
+use Rattle.std.specs.Prelude.{ℕ, ◌≡◌, ◌⊎◌, Bool, true, false, List, ◌∷◌, ◌++◌, map}
 use Rattle.std.specs.List.{AllZip, Contains}
 use Rattle.sg_cost.specs.Costs.{AreFew, costs_at}
 use Rattle.sg_cost.specs.Lines.{cost_text_of}
@@ -11,6 +11,12 @@ use Rattle.sg_facts.specs.declared.tables.WalkLine.{WalkLine}
 use Rattle.sg_report.specs.sg_hist.Recovered.{Stubs}
 use Rattle.sg_report.specs.sg_hist.declared.ended.Ended.{Ended}
 use Rattle.sg_input.specs.Inputs.{IsReady}
+use Rattle.sg_input.specs.sg_parse.declared.tree.Tree.{Tree}
+use Rattle.sg_interpret.specs.sg_described.Described.{Described}
+use Rattle.sg_interpret.specs.sg_described.Meaning.{described_parts, described_table}
+use Rattle.sg_judge.specs.AnyInputs.{any_judging}
+use Rattle.sg_judge.specs.Said.{IsOfServices, IsOwnText}
+use Rattle.sg_judge.specs.sg_own.sg_describe.DescribedText.{described_of_text}
 use Rattle.sg_load.specs.Generated.{generated}
 use Rattle.sg_load.specs.Services.{answering, facts_by, standard}
 use Rattle.sg_load.specs.declared.kind.ServiceKind.{ServiceKind}
@@ -43,15 +49,28 @@ IsShown Columns i ended written = AreColumnsOf i.facts ended written
 IsShown Costs i ended written =
     (walks : List WalkLine) × AreTables i walks × (written ≡ cost_text_of i.facts (costs_at i walks ended.history.items (run_of ended.trace)))
 
+-- ---- services
+
+-- a described service, as plays speak of it
+abbrev pub described_answering : Described → Answering
+described_answering d = record { facts = d.facts; ask = described_table d; parts = described_parts d }
+
+-- the text of an interface is of this service: it is one of these, or the one that the text describes
+abbrev pub IsServedBy : List Answering → List ℕ → Answering → Type 0
+IsServedBy services text service =
+    (IsOfServices text × Contains services service)
+    ⊎ ((tree : Tree) × IsOwnText text tree × (service ≡ described_answering (described_of_text tree)))
+
 -- ---- inputs
 
--- an input is an interface of one of these services and a script for it, and this is a run of it, in threads or in one thread, with its output
+-- an input is an interface of one of these services, or of the one that it describes, and a script for it, and this is a run of it, in threads or
+-- in one thread, with its output
 pub record IsRunOfInput (services : List Answering) (bytes : List ℕ) (in_threads : Bool) (shows : Shows) (ended : Ended) (written : List ℕ) : Type 0 where
   pub i : Declared
   pub script : Script
-  pub ready : IsReady (map (λ s. s.facts) services) bytes i script
+  pub ready : IsReady (any_judging (map (λ s. s.facts) services)) bytes i script
   pub service : Answering
-  pub is_served : Contains services service
+  pub is_served : IsServedBy services ready.interface service
   pub its : service.facts ≡ i.facts
   pub run : IsRunOf i service script ended
   -- in one thread the turns are those of the play without stops until the service stops

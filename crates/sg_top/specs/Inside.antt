@@ -2,5 +2,6 @@
 pub mod Delivery
 pub mod Pieces
 pub mod Plays
+pub mod Ready
 pub mod Several
 pub mod Words

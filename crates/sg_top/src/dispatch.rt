@@ -1,4 +1,4 @@
-// The way to the service of a kind: one for what is done in one thread, and one for each of what is done in several.
+// The way to a service: one for what is done in one thread, and one for each of what is done in several.
 ghost use Rattle.std.specs.Prelude.{◌≡◌, ◌≤◌, true, IfOk};
 ghost use Rattle.sg_edge.specs.Stops.{AscendsAbove};
 ghost use Rattle.sg_explore.specs.Explored.{IsExplored};
@@ -7,7 +7,10 @@ ghost use Rattle.sg_explore.specs.sg_shared.Runs.{IsRunOf};
 ghost use Rattle.sg_load.specs.Services.{answering, facts_by};
 ghost use Rattle.sg_load.specs.sg_plain.Answering.{no_query_waits};
 ghost use Rattle.sg_load.specs.sg_plain.Playing.Playable.{IsPlayable};
+ghost use Rattle.sg_top.specs.Inside.Plays.{IsFit, MayBePlayedOn, answering_at};
 
+use crate::own::{at_own, explore_own, share_own};
+use crate::served::Served;
 use sg_edge::Gate;
 use sg_explore::{Explored, Played, Progress, explore, share};
 use sg_facts::{NoMemory, Service};
@@ -20,7 +23,7 @@ use std::alloc::Global;
 use std::sync::Wait;
 use std::thread::Threads;
 
-/// What can be done in one thread with any service: it is written once, for a type, and done by `at_service` with the service of a kind.
+/// What can be done in one thread with any service: it is written once, for a type, and done by `at_served` with the service of an interface.
 pub trait Job: Sized {
     ghost use Rattle.sg_load.specs.sg_plain.Answering.{Answering};
 
@@ -40,8 +43,20 @@ pub trait Job: Sized {
         ensures { gives self (record { facts = S.facts; ask = S.ask; parts = S.parts }) result };
 }
 
-/// Does a job with the service of a kind.
-pub fn at_service<J: Job>(kind: ServiceKind, job: J) -> J::Output
+/// Does a job with the service of an interface.
+pub fn at_served<J: Job>(served: Served, job: J) -> J::Output
+    requires fit { IsFit served }
+    requires asks { J.asks job (answering_at served) }
+    ensures { J.gives job (answering_at served) result }
+{
+    match served {
+        Served::BuiltIn(kind) => at_service(kind, job),
+        Served::Own(description) => at_own(description, job),
+    }
+}
+
+// Does a job with the service of a kind.
+fn at_service<J: Job>(kind: ServiceKind, job: J) -> J::Output
     requires { J.asks job (answering kind) }
     ensures { J.gives job (answering kind) result }
 {
@@ -59,7 +74,25 @@ pub fn at_service<J: Job>(kind: ServiceKind, job: J) -> J::Output
 
 /// The run of a script under an accepted interface of a service, with a thread for each client, which passes the gate around each of its
 /// calls.
-pub fn share_kind<R: Threads + Wait + Sync, G: Gate>(
+pub fn share_served<R: Threads + Wait + Sync, G: Gate>(
+    rt: &R,
+    alloc: Global,
+    served: Served,
+    accepted: &Accepted,
+    script: Script,
+    gate: &G,
+) -> Result<Played, NoMemory>
+    requires { MayBePlayedOn accepted.now served script }
+    ensures { IfOk result (IsRunOf accepted.now (answering_at served) script) }
+{
+    match served {
+        Served::BuiltIn(kind) => share_kind(rt, alloc, kind, accepted, script, gate),
+        Served::Own(description) => share_own(rt, alloc, description, accepted, script, gate),
+    }
+}
+
+// The same on the service of a kind.
+fn share_kind<R: Threads + Wait + Sync, G: Gate>(
     rt: &R,
     alloc: Global,
     kind: ServiceKind,
@@ -84,7 +117,29 @@ pub fn share_kind<R: Threads + Wait + Sync, G: Gate>(
 
 /// What is found by runs of a script with other stops, under an accepted interface of a service: with a stop at each point, and with each
 /// two up to a point.
-pub fn explore_kind<R: Threads + Sync, P: Progress>(
+pub fn explore_served<R: Threads + Sync, P: Progress>(
+    rt: &R,
+    alloc: Global,
+    served: Served,
+    accepted: &Accepted,
+    script: &Script,
+    most: u64,
+    progress: &P,
+) -> Result<Explored, NoMemory>
+    requires may { MayBePlayedOn accepted.now served script.now }
+    requires most { most ≤ most_paired }
+    ensures { IfOk result (IsExplored accepted.now (answering_at served) script.now most) }
+{
+    match served {
+        Served::BuiltIn(kind) => explore_kind(rt, alloc, kind, accepted, script, most, progress),
+        Served::Own(description) => {
+            explore_own(rt, alloc, description, accepted, script, most, progress)
+        }
+    }
+}
+
+// The same on the service of a kind.
+fn explore_kind<R: Threads + Sync, P: Progress>(
     rt: &R,
     alloc: Global,
     kind: ServiceKind,

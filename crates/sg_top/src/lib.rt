@@ -9,7 +9,9 @@
 //! - `output`: what a command makes of its input, and what was run for it (`Ran`)
 //! - `members`: the members of a play over several services, and the play over them
 //! - `laws`: what a run prints is read to its history (`printed_runs_are_read`)
-//! - `dispatch`: the way to the service of a kind (`Job`, `at_service`), and runs in several threads
+//! - `ready`: inputs that are ready, with the service of their interface; `served`: that service (`Served`)
+//! - `dispatch`: the way to the service of an interface (`Job`, `at_served`), and runs in several threads
+//! - `own`: the way to the service that a text describes (`at_own`); `given`: an accepted interface, given to a play of it
 //! - `services`: the services' shapes, and what is done with them in one thread
 //!
 //! `specs/Headline.antt` says what a play promises, and `specs/Answer.antt` what an answer promises, status by status.
@@ -17,9 +19,13 @@
 
 mod command;
 mod dispatch;
+mod given;
 mod laws;
 mod members;
 mod output;
+mod own;
+mod ready;
+mod served;
 mod services;
 mod status;
 mod top;

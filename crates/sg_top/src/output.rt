@@ -6,7 +6,7 @@ ghost use Rattle.sg_load.specs.sg_plain.Playing.Playable.{IsPlayable};
 ghost use Rattle.sg_load.specs.sg_plain.Inside.Kept.{somebody_waits};
 ghost use Rattle.sg_judge.specs.Said.{IsChecked, IsRenewed, IsTabled};
 ghost use Rattle.sg_load.specs.Generated.{generated};
-ghost use Rattle.sg_load.specs.Services.{answering, facts_by, standard};
+ghost use Rattle.sg_load.specs.Services.{answering, standard};
 ghost use Rattle.sg_top.specs.Answer.{IsOfText, IsOutput, IsMultiOutput, IsOwnOutput, ended_status, has_input, is_in_threads, multi_status, report_shown, services, IsPlayOutput};
 ghost use Rattle.sg_explore.specs.Tried.{most_paired};
 ghost use Rattle.sg_top.specs.Inside.Pieces.{IsExploration, IsVerified, verdict_status};
@@ -18,20 +18,22 @@ ghost use Rattle.sg_top.specs.Inside.Several.{is_waiting, some_waits};
 ghost use Rattle.sg_top.specs.declared.output.Ran.TheVariants.{Nothing as nothing, One as one, Several as many};
 ghost use Rattle.sg_top.specs.declared.status.Status.TheVariants.{Done as done_status, Refused as refused_status, Waits as waits_status};
 ghost use Rattle.sg_top.specs.Inside.Delivery.{IsSaid};
-ghost use Rattle.sg_top.specs.Inside.Plays.{IsPlayOf};
+ghost use Rattle.sg_top.specs.Inside.Plays.{IsPlayedOn};
 ghost use Rattle.sg_top.specs.declared.command.Shows.TheVariants.{Costs as shows_costs};
 
 use crate::command::{Command, Shows};
-use crate::dispatch::{explore_kind, share_kind};
+use crate::dispatch::{explore_served, share_served};
 use crate::members::{members_of, play_over};
-use crate::services::{cost_kind, kind_of, shapes, simulate_kind, verify_kind};
+use crate::ready::{ReadyInput, ReadyRun, ready_input, ready_run};
+use crate::served::Served;
+use crate::services::{cost_served, shapes, simulate_served, verify_served};
 use crate::status::Status;
 use sg_cost::cost_text;
 use sg_draw::{columns, picture};
 use sg_edge::Gate;
 use sg_explore::{Explored, Played, Progress};
 use sg_facts::{Bytes, Interface, NoMemory};
-use sg_input::{History, Read, Script, compile, read_input, read_multi_input, read_run};
+use sg_input::{History, Read, compile, read_multi_input};
 use sg_judge::{compiled, explain, upgraded, verdict};
 use sg_load::{Accepted, ServiceKind, generate, standard};
 use sg_multi::{MultiEnd, MultiEnded, multi_text};
@@ -119,11 +121,16 @@ fn verified(alloc: Global, bytes: &[u8]) -> Result<Output, NoMemory>
     ensures ran { IfOk result (λ o. o.ran ≡ nothing) }
     ensures said { IfOk result (λ o. IsVerified bytes.now o.status o.text) }
 {
-    match read_run(alloc, bytes, &shapes())? {
-        Read::Ready((accepted, history)) => {
-            let kind = kind_of(accepted.interface());
+    match ready_run(alloc, bytes)? {
+        Read::Ready(
+            ReadyRun {
+                served,
+                accepted,
+                history,
+            },
+        ) => {
             let tables = compile(alloc, &accepted)?;
-            let said = verify_kind(alloc, kind, &tables, &history)?;
+            let said = verify_served(alloc, served, &tables, &history)?;
             judged(alloc, accepted.interface(), &history, &said)
         }
         Read::Refused(line) => Ok(refusing(line)),
@@ -179,11 +186,16 @@ fn output_saying(said: Read<Bytes>) -> Output
 fn simulated(alloc: Global, bytes: &[u8], shows: Shows) -> Result<Output, NoMemory>
     ensures { IfOk result (λ o. IsPlayOutput bytes.now false shows o.ran o.status o.text) }
 {
-    match read_input(alloc, bytes, &shapes())? {
-        Read::Ready((accepted, script)) => {
-            let kind = kind_of(accepted.interface());
-            let played = simulate_kind(alloc, kind, &accepted, script)?;
-            reported(alloc, kind, &accepted, played, shows)
+    match ready_input(alloc, bytes)? {
+        Read::Ready(
+            ReadyInput {
+                served,
+                accepted,
+                script,
+            },
+        ) => {
+            let played = simulate_served(alloc, served, &accepted, script)?;
+            reported(alloc, served, &accepted, played, shows)
         }
         Read::Refused(line) => Ok(refusing(line)),
     }
@@ -199,11 +211,16 @@ pub fn output_of_threads<R: Threads + Wait + Sync, G: Gate>(
 ) -> Result<Output, NoMemory>
     ensures { IfOk result (λ o. IsPlayOutput bytes.now true (report_shown trace) o.ran o.status o.text) }
 {
-    match read_input(alloc, bytes, &shapes())? {
-        Read::Ready((accepted, script)) => {
-            let kind = kind_of(accepted.interface());
-            let played = share_kind(rt, alloc, kind, &accepted, script, gate)?;
-            reported(alloc, kind, &accepted, played, Shows::of_report(trace))
+    match ready_input(alloc, bytes)? {
+        Read::Ready(
+            ReadyInput {
+                served,
+                accepted,
+                script,
+            },
+        ) => {
+            let played = share_served(rt, alloc, served, &accepted, script, gate)?;
+            reported(alloc, served, &accepted, played, Shows::of_report(trace))
         }
         Read::Refused(line) => Ok(refusing(line)),
     }
@@ -221,10 +238,15 @@ pub fn explored<R: Threads + Sync, P: Progress>(
     ensures ran { IfOk result (λ o. o.ran ≡ nothing) }
     ensures found { IfOk result (λ o. IsExploration bytes.now most o.status o.text) }
 {
-    match read_input(alloc, bytes, &shapes())? {
-        Read::Ready((accepted, script)) => {
-            let kind = kind_of(accepted.interface());
-            let found = explore_kind(rt, alloc, kind, &accepted, &script, most, progress)?;
+    match ready_input(alloc, bytes)? {
+        Read::Ready(
+            ReadyInput {
+                served,
+                accepted,
+                script,
+            },
+        ) => {
+            let found = explore_served(rt, alloc, served, &accepted, &script, most, progress)?;
             Ok(output_finding(found))
         }
         Read::Refused(line) => Ok(refusing(line)),
@@ -303,37 +325,35 @@ fn refusing(line: Bytes) -> Output
 // The output of a run under an interface of a service: what is to be printed of it.
 fn reported(
     alloc: Global,
-    kind: ServiceKind,
+    served: Served,
     accepted: &Accepted,
     played: Played,
     shows: Shows,
 ) -> Result<Output, NoMemory>
-    requires service { accepted.now.facts ≡ facts_by kind }
-    requires run { IsPlayOf accepted.now (answering kind) played }
+    requires { IsPlayedOn accepted.now served played }
     ensures text { IfOk result (λ o. IsShown shows accepted.now played o.text) }
     ensures status { IfOk result (λ o. o.status ≡ ended_status played.ends) }
     ensures ran { IfOk result (λ o. o.ran ≡ one played) }
 {
-    let text = shown(alloc, kind, accepted, &played, shows)?;
+    let text = shown(alloc, served, accepted, &played, shows)?;
     Ok(output_of_run(played, text))
 }
 
 // What is printed of a run under an interface of a service.
 fn shown(
     alloc: Global,
-    kind: ServiceKind,
+    served: Served,
     accepted: &Accepted,
     played: &Played,
     shows: Shows,
 ) -> Result<Bytes, NoMemory>
-    requires service { accepted.now.facts ≡ facts_by kind }
-    requires run { IsPlayOf accepted.now (answering kind) played.now }
+    requires { IsPlayedOn accepted.now served played.now }
     ensures { IfOk result (IsShown shows accepted.now played.now) }
 {
     match shows {
         Shows::Report => text(alloc, accepted.interface(), played.ended(), false),
         Shows::Trace => text(alloc, accepted.interface(), played.ended(), true),
-        Shows::Costs => costs_shown(alloc, kind, accepted, played),
+        Shows::Costs => costs_shown(alloc, served, accepted, played),
         Shows::Picture => picture(alloc, accepted.interface(), played.ended()),
         Shows::Columns => columns(alloc, accepted.interface(), played.ended()),
     }
@@ -342,16 +362,15 @@ fn shown(
 // What the calls of a run could cost after one more stop.
 fn costs_shown(
     alloc: Global,
-    kind: ServiceKind,
+    served: Served,
     accepted: &Accepted,
     played: &Played,
 ) -> Result<Bytes, NoMemory>
-    requires service { accepted.now.facts ≡ facts_by kind }
-    requires run { IsPlayOf accepted.now (answering kind) played.now }
+    requires { IsPlayedOn accepted.now served played.now }
     ensures { IfOk result (IsShown shows_costs accepted.now played.now) }
 {
     let tables = compile(alloc, accepted)?;
-    let costs = cost_kind(alloc, kind, &tables, played.ended())?;
+    let costs = cost_served(alloc, served, &tables, played.ended())?;
     cost_text(alloc, tables.interface(), &costs)
 }
 
@@ -371,7 +390,7 @@ fn load_of(alloc: Global, service: ServiceKind, number: u64) -> Result<Played, N
 {
     let accepted = standard(alloc, service)?;
     let script = generate(alloc, service, number)?;
-    simulate_kind(alloc, service, &accepted, script)
+    simulate_served(alloc, Served::BuiltIn(service), &accepted, script)
 }
 
 // The output of a run: this text, and the status of its ends.

@@ -1,21 +1,20 @@
-// The services: which of them an interface is of, and what is done in one thread with the service of a kind: runs of scripts, the judgement
+// The services: which of them an interface is of, and what is done in one thread with the service of an interface: runs of scripts, the judgement
 // of their histories, and what their runs cost.
 ghost use Rattle.std.specs.Prelude.{◌≡◌, ◌≤◌, true, map, length, IfOk};
 ghost use Rattle.sg_cost.specs.Costs.{costs_at};
-ghost use Rattle.sg_edge.specs.Stops.{AscendsAbove};
 ghost use Rattle.sg_facts.specs.Facts.{facts_of};
 ghost use Rattle.sg_facts.specs.Limits.{most_script_calls};
 ghost use Rattle.sg_facts.specs.Trace.{run_of};
 ghost use Rattle.sg_facts.specs.sg_base.Lists.{Each};
-ghost use Rattle.sg_load.specs.Services.{answering, facts_by};
+ghost use Rattle.sg_load.specs.Services.{facts_by};
 ghost use Rattle.sg_load.specs.sg_check_statements.Shapes.{are_shapes};
-ghost use Rattle.sg_load.specs.sg_plain.Playing.Playable.{IsPlayable};
 ghost use Rattle.sg_report.specs.sg_hist.Clients.{MayBeMade};
 ghost use Rattle.sg_explore.specs.sg_shared.Runs.{IsRunInOrder};
 ghost use Rattle.sg_top.specs.Answer.{services};
-ghost use Rattle.sg_top.specs.Inside.Plays.{IsPlayOf, IsPlayed, IsVerdictBy, MayBeJudged, MayBePlayed};
+ghost use Rattle.sg_top.specs.Inside.Plays.{IsPlayOf, IsPlayed, IsPlayedOn, IsVerdictBy, MayBeJudged, MayBeJudgedOn, MayBePlayed, MayBePlayedOn, answering_at};
 
-use crate::dispatch::{Job, at_service};
+use crate::dispatch::{Job, at_served};
+use crate::served::Served;
 use sg_cost::{Costs, costs_of};
 use sg_explore::{Played, simulate};
 use sg_facts::{Interface, NoMemory, Service, Shape, Tables};
@@ -67,23 +66,21 @@ impl Job for Simulate<'_> {
 }
 
 /// The run of a script under an accepted interface of a service, in one thread.
-pub fn simulate_kind(
+pub fn simulate_served(
     alloc: Global,
-    kind: ServiceKind,
+    served: Served,
     accepted: &Accepted,
     script: Script,
 ) -> Result<Played, NoMemory>
-    requires service { accepted.now.facts ≡ facts_by kind }
-    requires playable { IsPlayable accepted.now script }
-    requires stops { AscendsAbove 0 script.stops }
-    ensures { IfOk result (IsRunInOrder accepted.now (answering kind) script) }
+    requires { MayBePlayedOn accepted.now served script }
+    ensures { IfOk result (IsRunInOrder accepted.now (answering_at served) script) }
 {
     let job = Simulate {
         alloc,
         accepted,
         script,
     };
-    at_service(kind, job)
+    at_served(served, job)
 }
 
 // ---- a history
@@ -110,23 +107,21 @@ impl Job for Verify<'_> {
 
 /// What is said of a history of a service's interface. Each call has to be one that a client may make, and there are no more than a
 /// script may have.
-pub fn verify_kind(
+pub fn verify_served(
     alloc: Global,
-    kind: ServiceKind,
+    served: Served,
     tables: &Tables,
     history: &History,
 ) -> Result<Verdict, NoMemory>
-    requires service { tables.now.iface.facts ≡ facts_by kind }
-    requires calls { Each (λ e. MayBeMade tables.now.iface e.call) history.now.items }
-    requires few { length history.now.items ≤ most_script_calls }
-    ensures { IfOk result (IsVerdictBy tables.now.iface (answering kind) history.now.items) }
+    requires { MayBeJudgedOn tables.now.iface served history.now.items }
+    ensures { IfOk result (IsVerdictBy tables.now.iface (answering_at served) history.now.items) }
 {
     let job = Verify {
         alloc,
         tables,
         history,
     };
-    at_service(kind, job)
+    at_served(served, job)
 }
 
 // What is said of a history of one service's interface.
@@ -168,14 +163,13 @@ impl Job for Cost<'_> {
 }
 
 /// What the calls of a run of a service could cost after one more stop.
-pub fn cost_kind(
+pub fn cost_served(
     alloc: Global,
-    kind: ServiceKind,
+    served: Served,
     tables: &Tables,
     ended: &Ended,
 ) -> Result<Costs, NoMemory>
-    requires service { tables.now.iface.facts ≡ facts_by kind }
-    requires run { IsPlayOf tables.now.iface (answering kind) ended.now }
+    requires { IsPlayedOn tables.now.iface served ended.now }
     ensures { IfOk result (λ costs. costs ≡ costs_at tables.now.iface tables.now.walks ended.now.history.items (run_of ended.now.trace)) }
 {
     let job = Cost {
@@ -183,7 +177,7 @@ pub fn cost_kind(
         tables,
         ended,
     };
-    at_service(kind, job)
+    at_served(served, job)
 }
 
 // What the calls of a run of one service could cost.

@@ -7,7 +7,7 @@ use Rattle.sg_judge.specs.OwnExplained.{IsExplainedAny}
 use Rattle.sg_judge.specs.Said.{IsChecked, IsRenewed, IsTabled}
 use Rattle.sg_verify.specs.declared.verdict.Verdict.{Verdict}
 use Rattle.sg_verify.specs.declared.verdict.Verdict.TheVariants.{Legal}
-use Rattle.sg_top.specs.Answer.{IsExploredAs, IsJudgedAs, IsRefusal, services, most_bytes}
+use Rattle.sg_top.specs.Answer.{IsExploredAs, IsJudgedAs, IsRefusal, judging, services, most_bytes}
 use Rattle.sg_top.specs.declared.command.Command.{Command}
 use Rattle.sg_top.specs.declared.command.Command.TheVariants.{Play, Run, Compile, Upgrade, Explain, Explore, Verify, Multi, Load}
 use Rattle.sg_top.specs.declared.status.Status.{Status}
@@ -19,22 +19,22 @@ verdict_status said = elim said as (λ v. Status) [ Legal ↦ Done | _ ↦ Illeg
 
 -- the output of a verification, and its status: what is said of a history, or the line of an input that is refused
 abbrev pub IsVerified : List ℕ → Status → List ℕ → Type 0
-IsVerified bytes status output = IsJudgedAs bytes status output ⊎ ((status ≡ Refused) × IsRunInputOf services bytes (refused output))
+IsVerified bytes status output = IsJudgedAs bytes status output ⊎ ((status ≡ Refused) × IsRunInputOf judging bytes (refused output))
 
 -- the output of an exploration, and its status: what was found, or the line of an input that is refused
 abbrev pub IsExploration : List ℕ → ℕ → Status → List ℕ → Type 0
-IsExploration bytes most status output = IsExploredAs bytes most status output ⊎ ((status ≡ Refused) × IsInputOf services bytes (refused output))
+IsExploration bytes most status output = IsExploredAs bytes most status output ⊎ ((status ≡ Refused) × IsInputOf judging bytes (refused output))
 
 -- the line with which a command refuses bytes that aren't too many
 abbrev pub IsRefusedAs : Command → List ℕ → List ℕ → Type 0
 IsRefusedAs command bytes output = elim command as (λ c. Type 0) [
-  | Play shows ↦ IsInputOf services bytes (refused output)
-  | Run trace ↦ IsInputOf services bytes (refused output)
+  | Play shows ↦ IsInputOf judging bytes (refused output)
+  | Run trace ↦ IsInputOf judging bytes (refused output)
   | Compile ↦ IsTabled services bytes (refused output)
   | Upgrade ↦ IsRenewed services bytes (refused output)
   | Explain ↦ IsExplainedAny services bytes (refused output)
-  | Explore most ↦ IsInputOf services bytes (refused output)
-  | Verify ↦ IsRunInputOf services bytes (refused output)
+  | Explore most ↦ IsInputOf judging bytes (refused output)
+  | Verify ↦ IsRunInputOf judging bytes (refused output)
   | Multi trace ↦ IsMultiInputOf services bytes (refused output)
   | Load service number ↦ ⊥
   | _ ↦ IsChecked services bytes (refused output)

@@ -1,5 +1,5 @@
 -- Services that are played, runs of scripts that may be played, and what is said of a history.
-use Rattle.std.specs.Prelude.{◌≡◌, ◌≤◌, List, length}
+use Rattle.std.specs.Prelude.{ℕ, ◌≡◌, ◌≤◌, List, length}
 use Rattle.std.specs.List.{Contains}
 use Rattle.sg_facts.specs.Facts.{Facts}
 use Rattle.sg_edge.specs.Stops.{AscendsAbove}
@@ -12,8 +12,14 @@ use Rattle.sg_load.specs.sg_plain.Playing.Playable.{IsPlayable}
 use Rattle.sg_report.specs.sg_hist.Clients.{MayBeMade}
 use Rattle.sg_report.specs.sg_hist.declared.ended.Ended.{Ended}
 use Rattle.sg_explore.specs.sg_shared.Runs.{IsRunOf}
+use Rattle.sg_interpret.specs.sg_described.Described.{described_of}
+use Rattle.sg_interpret.specs.sg_described.Safe.{IsSafe}
+use Rattle.sg_load.specs.Services.{answering, played_services}
 use Rattle.sg_load.specs.sg_plain.Answering.{Answering}
 use Rattle.sg_top.specs.Answer.{services}
+use Rattle.sg_top.specs.Headline.{IsServedBy, described_answering}
+use Rattle.sg_top.specs.declared.served.Served.{Served}
+use Rattle.sg_top.specs.declared.served.Served.TheVariants.{BuiltIn, Own}
 use Rattle.sg_verify.specs.Verdicts.{IsVerdictOf}
 use Rattle.sg_verify.specs.declared.verdict.Verdict.{Verdict}
 
@@ -36,3 +42,42 @@ MayBePlayed i service script = (i.facts ≡ service.facts) × IsPlayable i scrip
 -- a history may be judged under an interface, by this service
 abbrev pub MayBeJudged : Declared → Answering → List Entry → Type 0
 MayBeJudged i service history = (i.facts ≡ service.facts) × Each (λ e. MayBeMade i e.call) history × (length history ≤ most_script_calls)
+
+-- ---- the service of an interface
+
+-- as plays speak of it
+abbrev pub answering_at : Served → Answering
+answering_at (BuiltIn kind) = answering kind
+answering_at (Own d) = described_answering (described_of d)
+
+-- it can be recovered: one that is described has to be safe
+abbrev pub IsFit : Served → Type 0
+IsFit (BuiltIn kind) = Unit {0}
+IsFit (Own d) = IsSafe (described_of d)
+
+-- an interface is of this service, which can be recovered
+pub record IsOfServed (i : Declared) (served : Served) : Type 0 where
+  pub fit : IsFit served
+  pub its : i.facts ≡ (answering_at served).facts
+
+-- the text of an interface is of this service
+pub record IsServedAs (text : List ℕ) (i : Declared) (served : Served) : Type 0 where
+  pub of : IsOfServed i served
+  pub answers : IsServedBy played_services text (answering_at served)
+
+-- a script may be played under an interface of this service
+pub record MayBePlayedOn (i : Declared) (served : Served) (script : Script) : Type 0 where
+  pub of : IsOfServed i served
+  pub playable : IsPlayable i script
+  pub stops : AscendsAbove 0 script.stops
+
+-- a run of some script that may be played under an interface of this service
+pub record IsPlayedOn (i : Declared) (served : Served) (ended : Ended) : Type 0 where
+  pub of : IsOfServed i served
+  pub run : IsPlayOf i (answering_at served) ended
+
+-- a history may be judged under an interface of this service
+pub record MayBeJudgedOn (i : Declared) (served : Served) (history : List Entry) : Type 0 where
+  pub of : IsOfServed i served
+  pub calls : Each (λ e. MayBeMade i e.call) history
+  pub few : length history ≤ most_script_calls

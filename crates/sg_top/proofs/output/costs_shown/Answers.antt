@@ -5,18 +5,12 @@ use Rattle.sg_cost.specs.Lines.{cost_text_of}
 use Rattle.sg_facts.specs.Interface.{Declared}
 use Rattle.sg_facts.specs.Trace.{run_of}
 use Rattle.sg_report.specs.sg_hist.declared.ended.Ended.{Ended}
-use Rattle.sg_load.specs.Services.{answering}
-use Rattle.sg_top.specs.Inside.Plays.{IsPlayOf}
+use Rattle.sg_top.specs.Inside.Plays.{IsPlayedOn}
 use Rattle.sg_top.proofs.Running.{of_one}
 use Rattle.sg_top.proofs.output.costs_shown.Goals as goal
 
-pub cost_kind-requires-clause-service : goal.cost_kind-requires-clause-service
-cost_kind-requires-clause-service c = ap (λ (i : Declared). i.facts) c.in_ok-tables.ensures.iface ∙ c.requires.service
-
-pub cost_kind-requires-clause-run : goal.cost_kind-requires-clause-run
-cost_kind-requires-clause-run c =
-    subst (λ i. IsPlayOf i (answering c.args.kind) c.ended.result.now) (sym c.in_ok-tables.ensures.iface)
-    (subst (IsPlayOf c.args.accepted.now (answering c.args.kind)) (sym c.ended.ensures) c.requires.run)
+pub cost_served-requires : goal.cost_served-requires
+cost_served-requires c = subst (IsPlayedOn _ c.args.served) (sym c.ended.ensures) (subst (λ i. IsPlayedOn i c.args.served c.args.played.now) (sym c.in_ok-tables.ensures.iface) c.requires)
 
 pub returns : goal.returns
 returns c =

@@ -1,6 +1,6 @@
--- The service that is played is the one of this description.
+-- The service is the one of this description.
 use Rattle.sg_interpret.specs.sg_described.Described.{described_of}
-use Rattle.sg_own_play.proofs.plays.share_described.Given as goal
+use Rattle.sg_top.proofs.own.share_own.Given as goal
 
 abbrev pub ghosts-share_picked : goal.ghosts-share_picked
 ghosts-share_picked g a = record { description = described_of a.description }

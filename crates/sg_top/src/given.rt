@@ -1,11 +1,11 @@
 // An accepted interface, given to a play.
 ghost use Rattle.std.specs.Prelude.{◌≡◌};
 
-use sg_shared::Accepted;
+use sg_load::Accepted;
 
-/// What gives an accepted interface. A play of any service takes one by this trait, so that no lifetime stands in the
+/// What gives an accepted interface. A play of a service that is described takes one by this trait, so that no lifetime stands in the
 /// types that it names.
-pub(crate) trait Given {
+pub trait Given {
     ghost use Rattle.sg_facts.specs.Interface.{Declared};
 
     ghost iface: { Self → Declared };

@@ -1,12 +1,13 @@
 -- A description that is safe is what is made safe of it.
 use Rattle.std.proofs.Common.{◌≡◌, true, sym, ◌∙◌, ap, subst}
 use Rattle.std.specs.Prelude.{IfOk}
+use Rattle.sg_explore.specs.sg_shared.Runs.{IsRunOf}
 use Rattle.sg_interpret.specs.sg_described.Described.{Described, described_of}
 use Rattle.sg_interpret.proofs.Picking.{picked}
-use Rattle.sg_shared.specs.Runs.{IsRunOf}
-use Rattle.sg_shared.specs.sg_sim.sg_plain.Answering.{no_query_waits}
-use Rattle.sg_own_play.specs.Plays.{answering_of}
-use Rattle.sg_own_play.proofs.plays.share_described.Goals as goal
+use Rattle.sg_load.specs.sg_plain.Answering.{no_query_waits}
+use Rattle.sg_top.specs.Headline.{described_answering}
+use Rattle.sg_top.proofs.Queries.{no_query}
+use Rattle.sg_top.proofs.own.share_own.Goals as goal
 
 pub share_picked-requires-clause-picked : goal.share_picked-requires-clause-picked
 share_picked-requires-clause-picked g c = picked (described_of c.args.description) c.requires.safe
@@ -15,7 +16,8 @@ pub share_picked-requires-clause-service : goal.share_picked-requires-clause-ser
 share_picked-requires-clause-service g c = c.requires.service ∙ ap (λ (d : Described). d.facts) (picked (described_of c.args.description) c.requires.safe)
 
 pub share_picked-requires-clause-waits : goal.share_picked-requires-clause-waits
-share_picked-requires-clause-waits g c = subst (λ d. no_query_waits d.facts ≡ true) (picked (described_of c.args.description) c.requires.safe) c.requires.waits
+share_picked-requires-clause-waits g c =
+    subst (λ (d : Described). no_query_waits d.facts ≡ true) (picked (described_of c.args.description) c.requires.safe) (no_query (described_of c.args.description) c.requires.safe)
 
 pub returns : goal.returns
-returns g c = subst (λ d. IfOk c.share_picked.result (IsRunOf c.args.accepted.now (answering_of d) c.args.script)) (sym (picked (described_of c.args.description) c.requires.safe)) c.share_picked.ensures
+returns g c = subst (λ d. IfOk c.share_picked.result (IsRunOf c.args.accepted.now (described_answering d) c.args.script)) (sym (picked (described_of c.args.description) c.requires.safe)) c.share_picked.ensures
