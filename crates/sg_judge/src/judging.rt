@@ -184,9 +184,14 @@ fn own_interface(alloc: Global, text: &[u8], tree: &Tree) -> Result<Read<AnyInte
     ensures { IfOk result (λ made. (services : List Facts) → IsAnyExamined services text.now made) }
 {
     match examined(alloc, text, tree)? {
-        Read::Ready(own) => Ok(Read::Ready(AnyInterface {
-            accepted: own.accepted,
-            own: Some(own.description),
+        Read::Ready(
+            OwnInterface {
+                accepted,
+                description,
+            },
+        ) => Ok(Read::Ready(AnyInterface {
+            accepted,
+            own: Some(description),
         })),
         Read::Refused(line) => Ok(Read::Refused(line)),
     }

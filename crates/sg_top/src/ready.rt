@@ -36,7 +36,7 @@ pub fn ready_input(alloc: Global, bytes: &[u8]) -> Result<Read<ReadyInput>, NoMe
     match read_any_input(alloc, bytes, &shapes())? {
         Read::Ready((any, script)) => {
             let served = served_of(&any);
-            let accepted = any.accepted;
+            let AnyInterface { accepted, .. } = any;
             Ok(Read::Ready(ReadyInput {
                 served,
                 accepted,
@@ -54,7 +54,7 @@ pub fn ready_run(alloc: Global, bytes: &[u8]) -> Result<Read<ReadyRun>, NoMemory
     match read_any_run(alloc, bytes, &shapes())? {
         Read::Ready((any, history)) => {
             let served = served_of(&any);
-            let accepted = any.accepted;
+            let AnyInterface { accepted, .. } = any;
             Ok(Read::Ready(ReadyRun {
                 served,
                 accepted,

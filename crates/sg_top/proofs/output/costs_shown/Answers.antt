@@ -10,7 +10,7 @@ use Rattle.sg_top.proofs.Running.{of_one}
 use Rattle.sg_top.proofs.output.costs_shown.Goals as goal
 
 pub cost_served-requires : goal.cost_served-requires
-cost_served-requires c = subst (IsPlayedOn _ c.args.served) (sym c.ended.ensures) (subst (λ i. IsPlayedOn i c.args.served c.args.played.now) (sym c.in_ok-tables.ensures.iface) c.requires)
+cost_served-requires c = subst (IsPlayedOn c.in_ok-tables.tables.iface c.args.served) (sym c.ended.ensures) (subst (λ i. IsPlayedOn i c.args.served c.args.played.now) (sym c.in_ok-tables.ensures.iface) c.requires)
 
 pub returns : goal.returns
 returns c =
