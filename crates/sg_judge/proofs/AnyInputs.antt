@@ -20,7 +20,7 @@ use Rattle.sg_own.specs.sg_described.declared.description.Description.{Descripti
 use Rattle.sg_own.proofs.One.{one_interface}
 use Rattle.sg_judge.specs.AnyInputs.{IsAcceptedAs, IsAnyInputOf, IsAnyInterface, IsAnyRunInputOf, IsReadyAs, IsRunReadyAs, any_judging, interfaces_in}
 use Rattle.sg_judge.specs.Said.{IsChecked}
-use Rattle.sg_judge.specs.declared.inputs.AnyInterface.{AnyInterface}
+use Rattle.sg_judge.specs.declared.interface.AnyInterface.{AnyInterface}
 use Rattle.sg_judge.proofs.OneSaid.{one_checked}
 
 -- ---- how texts are judged

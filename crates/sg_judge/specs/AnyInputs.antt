@@ -14,7 +14,7 @@ use Rattle.sg_own.specs.Faults.{IsOwnAccepted}
 use Rattle.sg_own.specs.sg_describe.DescribedText.{described_of_text}
 use Rattle.sg_own.specs.sg_described.Described.{described_of}
 use Rattle.sg_own.specs.sg_described.declared.description.Description.{Description}
-use Rattle.sg_judge.specs.declared.inputs.AnyInterface.{AnyInterface}
+use Rattle.sg_judge.specs.declared.interface.AnyInterface.{AnyInterface}
 use Rattle.sg_judge.specs.Said.{IsChecked, IsOfServices, IsOwnText}
 
 -- ---- how texts are judged

@@ -12,22 +12,13 @@ ghost use Rattle.sg_explain.specs.sg_input.sg_script.declared.script.Script.{Scr
 ghost use Rattle.sg_judge.specs.AnyInputs.{IsAcceptedAs, IsAnyInputOf, IsAnyRunInputOf, any_judging, interfaces_in};
 ghost use Rattle.sg_judge.specs.Inside.Examined.{AreAnyParts};
 
+use crate::interface::AnyInterface;
 use crate::judging::examine_any;
 use sg_explain::{
-    Accepted, History, InputTexts, MOST_RUN, MOST_SCRIPT, NoMemory, Read, Script, Shape,
-    history_of, script_of, texts_of,
+    History, InputTexts, MOST_RUN, MOST_SCRIPT, NoMemory, Read, Script, Shape, history_of,
+    script_of, texts_of,
 };
-use sg_own::Description;
 use std::alloc::Global;
-
-/// An interface that is accepted.
-#[derive(Debug, Drop)]
-pub struct AnyInterface {
-    /// The interface.
-    pub accepted: Accepted,
-    /// What its text describes; None where it is of a service that there is.
-    pub own: Option<Description>,
-}
 
 /// What an input is, whatever the version of its interface: as `sg_input`'s `read_input` says, and a text of version 3 describes a service of its
 /// own and is judged by itself, as `verdict` says. The shapes are as for `verdict`. The only error is want of memory.

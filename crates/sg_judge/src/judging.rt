@@ -12,7 +12,7 @@ ghost use Rattle.sg_explain.specs.sg_input.declared.refusal.RefusalKind.TheVaria
 ghost use Rattle.sg_judge.specs.Inside.Examined.{IsAnyExamined, IsOwnExamined};
 ghost use Rattle.sg_judge.specs.Inside.Places.{place_after};
 
-use crate::inputs::AnyInterface;
+use crate::interface::AnyInterface;
 use crate::lines::own_line;
 use sg_explain::{
     Bytes, Lexer, NoMemory, ParseError, Read, RefusalKind, Shape, Tree, accepted_line, compile,

@@ -1,8 +1,8 @@
 //! What is said of the text of an interface, whatever its version, and what an input is: a text of version 3 describes a service of its own and is judged by itself.
 //!
 //! - `judging`: the verdict on a text, its tables, and its canonical text (`verdict`, `compiled`, `upgraded`)
-//! - `inputs`: what an input is, or the line that refuses it (`read_any_input`, `read_any_run`), and whose service its interface is of
-//!   (`AnyInterface`)
+//! - `inputs`: what an input is, or the line that refuses it (`read_any_input`, `read_any_run`)
+//! - `interface`: an interface that is accepted, and whose service it is of (`AnyInterface`)
 //! - `explaining`: what is explained of an input (`explain`): `words` has the sentences of each kind of fault, `reasons` why a described service
 //!   can't be recovered, `answers` how functions answer
 //! - `lines`: the line that refuses a text which describes a service of its own; `names`: the names of what can be wrong with one
@@ -16,6 +16,7 @@
 mod answers;
 mod explaining;
 mod inputs;
+mod interface;
 mod judging;
 mod laws;
 mod lines;
@@ -24,7 +25,8 @@ mod reasons;
 mod words;
 
 pub use explaining::explain;
-pub use inputs::{AnyInterface, read_any_input, read_any_run};
+pub use inputs::{read_any_input, read_any_run};
+pub use interface::AnyInterface;
 pub use judging::{compiled, upgraded, verdict};
 pub use laws::{one_any_input, one_verdict};
 pub use sg_explain::{Read, TOO_LONG_EXPLAINED};

@@ -1,19 +1,19 @@
 // The way to a service: one for what is done in one thread, and one for each of what is done in several.
-ghost use Rattle.std.specs.Prelude.{◌≡◌, ◌≤◌, true, IfOk};
+ghost use Rattle.std.specs.Prelude.{◌≡◌, ◌≤◌, IfOk};
 ghost use Rattle.sg_edge.specs.Stops.{AscendsAbove};
 ghost use Rattle.sg_explore.specs.Explored.{IsExplored};
 ghost use Rattle.sg_explore.specs.Tried.{most_paired};
 ghost use Rattle.sg_explore.specs.sg_shared.Runs.{IsRunOf};
 ghost use Rattle.sg_load.specs.Services.{answering, facts_by};
-ghost use Rattle.sg_load.specs.sg_plain.Answering.{no_query_waits};
 ghost use Rattle.sg_load.specs.sg_plain.Playing.Playable.{IsPlayable};
 ghost use Rattle.sg_top.specs.Inside.Plays.{IsFit, MayBePlayedOn, answering_at};
 
+use crate::job::Job;
 use crate::own::{at_own, explore_own, share_own};
 use crate::served::Served;
 use sg_edge::Gate;
 use sg_explore::{Explored, Played, Progress, explore, share};
-use sg_facts::{NoMemory, Service};
+use sg_facts::NoMemory;
 use sg_input::Script;
 use sg_load::kind::{
     EventService, LockService, MmService, RamfsService, SchedService, TimerService,
@@ -22,26 +22,6 @@ use sg_load::{Accepted, ServiceKind};
 use std::alloc::Global;
 use std::sync::Wait;
 use std::thread::Threads;
-
-/// What can be done in one thread with any service: it is written once, for a type, and done by `at_served` with the service of an interface.
-pub trait Job: Sized {
-    ghost use Rattle.sg_load.specs.sg_plain.Answering.{Answering};
-
-    /// What it comes to.
-    type Output;
-
-    /// What it asks of a service.
-    ghost asks: { Self → Answering → Type 0 };
-
-    /// What it gives, of a service.
-    ghost gives: { Self → Answering → Self.Output → Type 0 };
-
-    /// Does it, with the service of this type, which is booted from this image.
-    fn run<S: Service>(self, image: S::Image) -> Self::Output
-        requires waits { no_query_waits S.facts ≡ true }
-        requires asks { asks self (record { facts = S.facts; ask = S.ask; parts = S.parts }) }
-        ensures { gives self (record { facts = S.facts; ask = S.ask; parts = S.parts }) result };
-}
 
 /// Does a job with the service of an interface.
 pub fn at_served<J: Job>(served: Served, job: J) -> J::Output

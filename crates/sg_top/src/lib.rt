@@ -10,7 +10,8 @@
 //! - `members`: the members of a play over several services, and the play over them
 //! - `laws`: what a run prints is read to its history (`printed_runs_are_read`)
 //! - `ready`: inputs that are ready, with the service of their interface; `served`: that service (`Served`)
-//! - `dispatch`: the way to the service of an interface (`Job`, `at_served`), and runs in several threads
+//! - `job`: what can be done in one thread with any service (`Job`)
+//! - `dispatch`: the way to the service of an interface (`at_served`), and runs in several threads
 //! - `own`: the way to the service that a text describes (`at_own`); `given`: an accepted interface, given to a play of it
 //! - `services`: the services' shapes, and what is done with them in one thread
 //!
@@ -20,6 +21,7 @@
 mod command;
 mod dispatch;
 mod given;
+mod job;
 mod laws;
 mod members;
 mod output;

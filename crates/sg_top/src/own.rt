@@ -10,8 +10,8 @@ ghost use Rattle.sg_load.specs.sg_plain.Answering.{no_query_waits};
 ghost use Rattle.sg_load.specs.sg_plain.Playing.Playable.{IsPlayable};
 ghost use Rattle.sg_top.specs.Headline.{described_answering};
 
-use crate::dispatch::Job;
 use crate::given::Given;
+use crate::job::Job;
 use sg_edge::Gate;
 use sg_explore::{Explored, Played, Progress, explore, share};
 use sg_facts::{NoMemory, Service};

@@ -13,7 +13,8 @@ ghost use Rattle.sg_explore.specs.sg_shared.Runs.{IsRunInOrder};
 ghost use Rattle.sg_top.specs.Answer.{services};
 ghost use Rattle.sg_top.specs.Inside.Plays.{IsPlayOf, IsPlayed, IsPlayedOn, IsVerdictBy, MayBeJudged, MayBeJudgedOn, MayBePlayed, MayBePlayedOn, answering_at};
 
-use crate::dispatch::{Job, at_served};
+use crate::dispatch::at_served;
+use crate::job::Job;
 use crate::served::Served;
 use sg_cost::{Costs, costs_of};
 use sg_explore::{Played, simulate};

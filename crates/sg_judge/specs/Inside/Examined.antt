@@ -10,7 +10,7 @@ use Rattle.sg_own.specs.OwnInterfaces.{IsOwnInterface}
 use Rattle.sg_own.specs.declared.checking.OwnInterface.{OwnInterface}
 use Rattle.sg_judge.specs.AnyInputs.{IsAcceptedAs, any_judging}
 use Rattle.sg_judge.specs.Said.{IsChecked, IsOwnRefusal}
-use Rattle.sg_judge.specs.declared.inputs.AnyInterface.{AnyInterface}
+use Rattle.sg_judge.specs.declared.interface.AnyInterface.{AnyInterface}
 use Rattle.sg_judge.specs.declared.inputs.AnyParts.{AnyParts}
 
 -- a text that describes a service of its own is accepted with this interface, or refused with this line

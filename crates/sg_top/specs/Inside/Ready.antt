@@ -5,7 +5,7 @@ use Rattle.sg_input.specs.Judged.{MayBeJudged}
 use Rattle.sg_input.specs.declared.read.Read.{Read}
 use Rattle.sg_input.specs.declared.read.Read.TheVariants.{Ready, Refused}
 use Rattle.sg_judge.specs.AnyInputs.{IsAcceptedAs}
-use Rattle.sg_judge.specs.declared.inputs.AnyInterface.{AnyInterface}
+use Rattle.sg_judge.specs.declared.interface.AnyInterface.{AnyInterface}
 use Rattle.sg_top.specs.Answer.{judging, services}
 use Rattle.sg_top.specs.Inside.Plays.{IsServedAs}
 use Rattle.sg_top.specs.declared.ready.ReadyInput.{ReadyInput}
