@@ -1,11 +1,12 @@
-// A service of one's own at its limits, by a text as long as one may be, and by a longer one.
-use crate::runs::comes_to;
+// A service of one's own: at its limits, by a text as long as one may be, and by a longer one; and in plays.
+use crate::runs::{comes_to, input_of};
 use sg_top::MOST_INTERFACE;
 use std::alloc::{AllocError, Global};
 use std::process::Abort;
 use std::sync::Wait;
 use std::test::Fail;
 use std::thread::Threads;
+use test_interfaces::SEMAPHORE;
 
 // How many functions and fields a service has, and rules a function.
 const FUNCTIONS: u16 = 32;
@@ -163,4 +164,73 @@ fn try_each<R: Threads + Wait + Sync + Abort>(
 fn takes_the_widest_text(rt: HostRuntime) -> Result<(), Fail> {
     try_each(&rt, rt.alloc(), MOST_INTERFACE, 0, &PRINTED)?;
     try_each(&rt, rt.alloc(), MOST_INTERFACE + 1, 2, &TOO_LONG)
+}
+
+// ---- plays
+
+// A script for semaphores, and one with a call that they haven't.
+const SCRIPT: &str = "client 1 { sem_make(1); sem_down($1); sem_up($1, 2); sem_free($1); }\n";
+
+const WRONG: &str = "client 1 { sem_take(1); }\n";
+
+// What is printed of the play.
+const REPORT: &str = "c1.1 sem_make(1) = ok #1
+c1.2 sem_down(1) = ok
+c1.3 sem_up(1, 2) = ok
+c1.4 sem_free(1) = ok
+client 1 done
+calls 4 boots 1 replays 0
+";
+
+// A second text after that of semaphores, words, their status, and what is printed.
+type Play = (&'static str, &'static str, u8, &'static str);
+
+static PLAYS: [Play; 9] = [
+    (SCRIPT, "sim", 0, REPORT),
+    (SCRIPT, "run", 0, REPORT),
+    (SCRIPT, "explore", 0, "..\nblocked 0\nsame\n"),
+    (
+        SCRIPT,
+        "explain",
+        0,
+        "accepted semaphore
+..
+sem_down waits where count is 0.
+Else sem_down is done.
+clients 1 calls 4 stops 0
+",
+    ),
+    (
+        "client 1 { sem_make(0); sem_down($1); }\n",
+        "sim",
+        3,
+        "c1.1 sem_make(0) = ok #1\n..\n",
+    ),
+    (REPORT, "verify", 0, "legal 4\n"),
+    (
+        "c1.1 sem_make(1) = ok #1\nc1.2 sem_down(1) = refused Held\n",
+        "verify",
+        7,
+        "..\n",
+    ),
+    (WRONG, "sim", 2, "script refused at 1:12: UnknownFunction\n"),
+    (
+        WRONG,
+        "explain",
+        2,
+        "script refused at 1:12: UnknownFunction\n..\n",
+    ),
+];
+
+#[test]
+fn plays_semaphores(rt: HostRuntime) -> Result<(), Fail> {
+    let alloc = rt.alloc();
+    for (second, words, status, printed) in &PLAYS {
+        let input = input_of(alloc, SEMAPHORE, second)?;
+        assert!(rt;
+            comes_to(&rt, alloc, words, &input, *status, printed)?,
+            "{words} of {second}"
+        );
+    }
+    Ok(())
 }
