@@ -2,7 +2,6 @@
 ghost use Rattle.std.specs.Prelude.{◌≡◌, true, IfOk};
 ghost use Rattle.sg_edge.specs.Stops.{AscendsAbove};
 ghost use Rattle.sg_interpret.specs.sg_described.Described.{described_of};
-ghost use Rattle.sg_interpret.specs.sg_described.Meaning.{described_parts, described_table};
 ghost use Rattle.sg_interpret.specs.sg_described.Safe.{IsSafe, made_safe};
 ghost use Rattle.sg_shared.specs.Runs.{IsRunInOrder, IsRunOf};
 ghost use Rattle.sg_shared.specs.sg_sim.sg_plain.Answering.{no_query_waits};
