@@ -1,25 +1,23 @@
 -- What a call is answered, by the verdict on it.
-use Rattle.std.proofs.Common.{◌≡◌, ℕ, ◌≤◌, Bool, true, false, cond, List, [], ◌∷◌, length, map, None, Some, refl, sym, ◌∙◌, ap, subst}
+use Rattle.std.proofs.Common.{◌≡◌, ℕ, Bool, true, false, cond, List, [], map, None, Some, refl, sym, ◌∙◌, ap}
 use Rattle.std.specs.declared.option.Option.{Option}
 use Rattle.sg_facts.specs.sg_base.declared.value.Value.TheVariants.{Word}
 use Rattle.sg_facts.specs.sg_base.declared.call.Call.{Call}
 use Rattle.sg_facts.specs.sg_base.declared.reply.Code.TheVariants.{Overflow}
 use Rattle.sg_facts.specs.sg_base.declared.reply.Reply.TheVariants.{Ok, Refused as IsRefused}
-use Rattle.sg_facts.specs.Facts.{Fun, fun_at, state_after}
+use Rattle.sg_facts.specs.Facts.{Fun, fun_at}
 use Rattle.sg_facts.specs.Track.{fields_after}
 use Rattle.sg_facts.specs.Inside.Rows.{left_by}
 use Rattle.sg_slots.specs.Carry.{words_of}
-use Rattle.sg_described.specs.declared.description.Term.{Term}
 use Rattle.sg_described.specs.declared.description.Verdict.{Verdict}
 use Rattle.sg_described.specs.declared.description.Verdict.TheVariants.{Refuse, Wait, Give}
-use Rattle.sg_described.specs.Described.{Described, Rule, rules_at}
+use Rattle.sg_described.specs.Described.{Described, rules_at}
 use Rattle.sg_described.specs.Meaning.{Env, answer_by, answer_in, call_in, fits, leaves_fit, said, verdict_of, words_in}
 use Rattle.sg_described.proofs.Keeping.Answering.{done_is, lets_do}
 use Rattle.sg_described.proofs.Keeping.Effects.{fits_same}
 use Rattle.sg_interpret.specs.declared.answer.Answer.{Answer}
 use Rattle.sg_interpret.specs.declared.answer.Answer.TheVariants.{Refused, Waits, Done}
-use Rattle.sg_interpret.specs.declared.answer.Left.{Left}
-use Rattle.sg_interpret.specs.Inside.Answers.{IsAnswer, IsAnswerBy, Leaves}
+use Rattle.sg_interpret.specs.Inside.Answers.{IsAnswer, IsAnswerBy}
 use Rattle.sg_interpret.specs.Inside.Views.{env_at}
 
 module _ (d : Described) (call : Call) (state : ℕ) (fields : List ℕ) where

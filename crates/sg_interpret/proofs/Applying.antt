@@ -1,16 +1,14 @@
 -- Effects that are done one after the other.
 use Rattle.std.proofs.Common.{◌≡◌, ℕ, ◌-◌, ◌≤◌, Bool, true, false, not, List, [], ◌∷◌, length, map, get_or, take, drop, refl, sym, ◌∙◌, ap, subst, arith}
 use Rattle.std.proofs.lemmas.List.{take_all}
-use Rattle.std.specs.Prelude.{◌==◌, ◌&&◌, ◌||◌, slice_set}
+use Rattle.std.specs.Prelude.{◌==◌, ◌&&◌, slice_set}
 use Rattle.std.specs.List.{list_any}
-use Rattle.std.specs.declared.option.Option.{Option}
 use Rattle.sg_facts.specs.sg_base.declared.value.Value.{Value}
-use Rattle.sg_facts.specs.sg_base.declared.value.Value.TheVariants.{Word}
 use Rattle.sg_facts.specs.sg_base.declared.call.Call.{Call}
 use Rattle.sg_facts.specs.sg_base.declared.reply.Good.{Good}
 use Rattle.sg_facts.specs.declared.shape.Effect.{Effect}
 use Rattle.sg_facts.specs.Allowed.{sets_once}
-use Rattle.sg_facts.specs.Track.{effect_of, field_at, fields_after}
+use Rattle.sg_facts.specs.Track.{effect_of, field_at}
 use Rattle.sg_described.specs.Meaning.{fits, is_up_to, most_at}
 use Rattle.sg_described.proofs.Keeping.Basics.{apart_of, both_true, neither, no_it}
 use Rattle.sg_described.proofs.Keeping.Effects.{set_other}

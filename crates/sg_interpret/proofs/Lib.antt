@@ -2,4 +2,5 @@ pub mod Answering
 pub mod Applying
 pub mod Carrying
 pub mod Emptying
+pub mod Invoking
 pub mod Picking

@@ -1,5 +1,5 @@
 -- A description that is safe is what is made safe of it.
-use Rattle.std.proofs.Common.{◌≡◌, ℕ, Bool, true, cond, not, length, sym, ◌∙◌, ap}
+use Rattle.std.proofs.Common.{◌≡◌, Bool, true, cond, not, length, sym, ◌∙◌, ap}
 use Rattle.std.specs.Prelude.{◌==◌, ◌&&◌}
 use Rattle.sg_described.specs.Described.{Described}
 use Rattle.sg_described.specs.Safe.{IsPlain, IsSafe, described_nothing, is_plain, is_safe, made_safe}

@@ -46,21 +46,27 @@ fn made(call: &Call, answer: Answer) -> Decision<DescribedEntry>
     match answer {
         Answer::Refused(code) => Decision::Refuse(code),
         Answer::Waits => Decision::Block,
-        Answer::Done(
-            Left {
-                state,
-                fields,
-                word,
-            },
-        ) => Decision::Make {
-            entry: DescribedEntry {
-                made: call.fun,
-                creator: call.client,
-                state,
-                fields,
-            },
-            word,
+        Answer::Done(left) => made_as(call, left),
+    }
+}
+
+// What to do with a call that makes a descriptor and is done.
+fn made_as(call: &Call, left: Left) -> Decision<DescribedEntry>
+    ensures { result ≡ on_making call.now (Answer.Done left) }
+{
+    let Left {
+        state,
+        fields,
+        word,
+    } = left;
+    Decision::Make {
+        entry: DescribedEntry {
+            made: call.fun,
+            creator: call.client,
+            state,
+            fields,
         },
+        word,
     }
 }
 
@@ -71,12 +77,12 @@ fn changed(entry: &DescribedEntry, ends: bool, answer: Answer) -> Decision<Descr
     match answer {
         Answer::Refused(code) => Decision::Refuse(code),
         Answer::Waits => Decision::Block,
-        Answer::Done(left) => left_of(entry, ends, left),
+        Answer::Done(left) => changed_as(entry, ends, left),
     }
 }
 
 // What to do with a call on a descriptor that is done.
-fn left_of(entry: &DescribedEntry, ends: bool, left: Left) -> Decision<DescribedEntry>
+fn changed_as(entry: &DescribedEntry, ends: bool, left: Left) -> Decision<DescribedEntry>
     ensures { result ≡ on_entry entry.now ends (Answer.Done left) }
 {
     if ends {

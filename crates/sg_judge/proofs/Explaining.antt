@@ -12,7 +12,6 @@ use Rattle.sg_explain.specs.sg_input.Divider.{IsCut}
 use Rattle.sg_explain.specs.sg_input.Inputs.{AreTexts, most_interface, most_script}
 use Rattle.sg_explain.specs.sg_input.Lines.{refused_line, script_kind_name}
 use Rattle.sg_explain.specs.sg_input.declared.read.Read.{Read}
-use Rattle.sg_explain.specs.sg_input.declared.read.Read.TheVariants.{Ready, Refused}
 use Rattle.sg_explain.specs.sg_input.sg_print.sg_parse.declared.tree.Tree.{Tree}
 use Rattle.sg_explain.specs.sg_input.sg_script.Reads.{IsReadingOf}
 use Rattle.sg_explain.specs.sg_input.sg_script.declared.fault.ScriptError.TheVariants.{Fault}

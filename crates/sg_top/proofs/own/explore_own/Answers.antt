@@ -10,13 +10,13 @@ use Rattle.sg_top.proofs.Queries.{no_query}
 use Rattle.sg_top.proofs.own.explore_own.Goals as goal
 
 pub explore_picked-requires-clause-picked : goal.explore_picked-requires-clause-picked
-explore_picked-requires-clause-picked g c = picked (described_of c.args.description) c.requires.safe
+explore_picked-requires-clause-picked g c = λ lifetimes longer. picked (described_of c.args.description) c.requires.safe
 
 pub explore_picked-requires-clause-service : goal.explore_picked-requires-clause-service
-explore_picked-requires-clause-service g c = c.requires.service ∙ ap (λ (d : Described). d.facts) (picked (described_of c.args.description) c.requires.safe)
+explore_picked-requires-clause-service g c = λ lifetimes longer. c.requires.service ∙ ap (λ (d : Described). d.facts) (picked (described_of c.args.description) c.requires.safe)
 
 pub explore_picked-requires-clause-waits : goal.explore_picked-requires-clause-waits
-explore_picked-requires-clause-waits g c =
+explore_picked-requires-clause-waits g c = λ lifetimes longer.
     subst (λ (d : Described). no_query_waits d.facts ≡ true) (picked (described_of c.args.description) c.requires.safe) (no_query (described_of c.args.description) c.requires.safe)
 
 pub returns : goal.returns

@@ -10,13 +10,13 @@ use Rattle.sg_top.proofs.Queries.{no_query}
 use Rattle.sg_top.proofs.own.share_own.Goals as goal
 
 pub share_picked-requires-clause-picked : goal.share_picked-requires-clause-picked
-share_picked-requires-clause-picked g c = picked (described_of c.args.description) c.requires.safe
+share_picked-requires-clause-picked g c = λ lifetimes longer. picked (described_of c.args.description) c.requires.safe
 
 pub share_picked-requires-clause-service : goal.share_picked-requires-clause-service
-share_picked-requires-clause-service g c = c.requires.service ∙ ap (λ (d : Described). d.facts) (picked (described_of c.args.description) c.requires.safe)
+share_picked-requires-clause-service g c = λ lifetimes longer. c.requires.service ∙ ap (λ (d : Described). d.facts) (picked (described_of c.args.description) c.requires.safe)
 
 pub share_picked-requires-clause-waits : goal.share_picked-requires-clause-waits
-share_picked-requires-clause-waits g c =
+share_picked-requires-clause-waits g c = λ lifetimes longer.
     subst (λ (d : Described). no_query_waits d.facts ≡ true) (picked (described_of c.args.description) c.requires.safe) (no_query (described_of c.args.description) c.requires.safe)
 
 pub returns : goal.returns
