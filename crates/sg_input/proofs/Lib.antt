@@ -11,7 +11,7 @@ pub mod OneMulti
 pub mod OneRun
 pub mod OneVerdict
 pub mod PlacedLine
-pub mod Reading
+pub mod ReadAs
 pub mod Said
 pub use Rattle.sg_print.proofs.sg_parse
 pub use Rattle.sg_stub.proofs as sg_stub

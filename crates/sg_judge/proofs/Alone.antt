@@ -11,7 +11,7 @@ use Rattle.sg_judge.specs.AnyInputs.{any_judging}
 use Rattle.sg_judge.specs.OwnExplained.{ExplainsOwn, ExplainsOwnScript, IsExplainedAny, IsOwnInput}
 use Rattle.sg_judge.specs.Said.{IsOwnText}
 use Rattle.sg_judge.proofs.AnyInputs.{any_judged_alone}
-use Rattle.sg_judge.proofs.Explaining.{one_text}
+use Rattle.sg_judge.proofs.OwnTelling.{one_text}
 
 module _ (services : List Facts) (input : List ℕ) where
   -- the interface of an input is one

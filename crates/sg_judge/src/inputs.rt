@@ -86,7 +86,7 @@ fn parts_of_texts<'a>(
     shapes: &[Shape],
 ) -> Result<Read<AnyParts<'a>>, NoMemory>
     requires { are_shapes (map facts_of shapes.now) ≡ true }
-    ensures { IfOk result (λ parts. (most : ℕ) (input : List ℕ) → AreTexts most input texts.interface.now texts.second.now
+    ensures { IfOk result (λ parts. (most : ℕ) (input : List ℕ) → AreTexts most input texts.entry.interface.now texts.entry.second.now
         → AreAnyParts most (map facts_of shapes.now) input parts) }
 {
     match examine_any(alloc, texts.interface, shapes)? {

@@ -4,7 +4,7 @@ use Rattle.std.proofs.lemmas.Result.{IfOk-weaker}
 use Rattle.sg_facts.specs.Facts.{facts_of}
 use Rattle.sg_input.specs.Inputs.{judged_by}
 use Rattle.sg_input.specs.Inside.Parted.{AreInputParts, AreInputTexts}
-use Rattle.sg_input.proofs.Reading.{texts_refused}
+use Rattle.sg_input.proofs.ReadAs.{texts_refused}
 use Rattle.sg_input.proofs.parted.input_parts.Goals as goal
 
 pub returns-in-Ready : goal.returns-in-Ready

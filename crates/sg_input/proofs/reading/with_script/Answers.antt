@@ -1,6 +1,6 @@
 -- The input is what its script is.
 use Rattle.sg_input.specs.Inputs.{IsScriptOf, judged_by, most_script}
-use Rattle.sg_input.proofs.Reading.{read_as, refused_second}
+use Rattle.sg_input.proofs.ReadAs.{read_as, refused_second}
 use Rattle.sg_input.proofs.reading.with_script.Goals as goal
 
 pub returns-in-Ready : goal.returns-in-Ready

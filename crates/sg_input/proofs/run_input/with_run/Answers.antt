@@ -4,7 +4,7 @@ use Rattle.sg_facts.specs.Facts.{facts_of}
 use Rattle.sg_input.specs.declared.read.Read.TheVariants.{Ready}
 use Rattle.sg_input.specs.Inputs.{IsHistoryOf, judged_by, most_run}
 use Rattle.sg_input.specs.Judged.{MayBeJudgedUnder, items_in}
-use Rattle.sg_input.proofs.Reading.{read_as, refused_second}
+use Rattle.sg_input.proofs.ReadAs.{read_as, refused_second}
 use Rattle.sg_input.proofs.run_input.with_run.Goals as goal
 
 pub returns-in-Ready-clause-input : goal.returns-in-Ready-clause-input

@@ -3,7 +3,7 @@ use Rattle.std.proofs.Common.{map}
 use Rattle.std.proofs.lemmas.Result.{IfOk-weaker}
 use Rattle.sg_explain.specs.sg_facts.Facts.{facts_of}
 use Rattle.sg_judge.specs.OwnExplained.{IsExplainedAny}
-use Rattle.sg_judge.proofs.Explaining.{other_divided, own_divided}
+use Rattle.sg_judge.proofs.OwnTelling.{other_divided, own_divided}
 use Rattle.sg_judge.proofs.explaining.explain_divided.Goals as goal
 
 pub returns-in-Some : goal.returns-in-Some

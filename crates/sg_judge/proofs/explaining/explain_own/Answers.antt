@@ -1,5 +1,5 @@
 -- Nothing stands after what is told of the text.
-use Rattle.sg_judge.proofs.Explaining.{good_alone}
+use Rattle.sg_judge.proofs.OwnTelling.{good_alone}
 use Rattle.sg_judge.proofs.explaining.explain_own.Goals as goal
 
 pub returns-in_ok-told-in-Ok : goal.returns-in_ok-told-in-Ok

@@ -2,7 +2,7 @@
 use Rattle.std.proofs.Common.{Ok, Err, inr, subst}
 use Rattle.sg_explain.specs.sg_input.sg_script.Reads.{IsReadingOf}
 use Rattle.sg_explain.specs.sg_input.sg_script.declared.fault.ScriptError.TheVariants.{Fault}
-use Rattle.sg_judge.proofs.Explaining.{bad_script, good_input}
+use Rattle.sg_judge.proofs.OwnTelling.{bad_script, good_input}
 use Rattle.sg_judge.proofs.explaining.explain_own_script.Goals as goal
 
 pub returns-in_ok-told-in-Ok : goal.returns-in_ok-told-in-Ok

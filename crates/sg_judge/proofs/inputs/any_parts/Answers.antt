@@ -3,7 +3,7 @@ use Rattle.std.proofs.Common.{map, subst}
 use Rattle.std.proofs.lemmas.Result.{IfOk-weaker}
 use Rattle.sg_explain.specs.sg_facts.Facts.{facts_of}
 use Rattle.sg_explain.specs.sg_input.Inside.Parted.{AreInputTexts}
-use Rattle.sg_explain.proofs.sg_input.Reading.{texts_refused}
+use Rattle.sg_explain.proofs.sg_input.ReadAs.{texts_refused}
 use Rattle.sg_judge.specs.AnyInputs.{any_judging}
 use Rattle.sg_judge.specs.Inside.Examined.{AreAnyParts}
 use Rattle.sg_judge.proofs.inputs.any_parts.Goals as goal
