@@ -1,3 +1,4 @@
+pub mod Keying
 pub mod Plainly
 pub mod Reasoning
 pub mod Routing

@@ -1,18 +1,21 @@
 -- Where walks come to is found, each with a walk that leads there.
 use Rattle.std.proofs.Common.{◌≡◌, ℕ, zero, suc, ◌+◌, ◌-◌, ◌<◌, ◌≤◌, Bool, true, false, cond, not, List, [], ◌∷◌, ◌++◌, length, drop, take, get_or, map, filter, None, Some, refl, sym, ◌∙◌, ap, subst, arith, length-append}
 use Rattle.std.specs.Prelude.{◌==◌, ◌&&◌, ◌||◌, All, slice_get, unwrap_or}
-use Rattle.std.specs.List.{flat_map, list_all}
-use Rattle.std.proofs.lemmas.List.{take_all}
+use Rattle.std.specs.List.{flat_map, list_all, list_any}
+use Rattle.std.proofs.lemmas.List.{append-nil, append_assoc, drop-map, length-map, take-append-drop, take_all, take_at, take_rest}
+use Rattle.std.proofs.lemmas.List.Concat.{flat_map-append}
+use Rattle.std.proofs.lemmas.List.Folds.{list_any-append}
 use Rattle.std.proofs.lemmas.List.Elements.{All-drop, All-push, All-weaker}
 use Rattle.sg_known.specs.sg_facts.Facts.{Fun, fun_at, fun_of_shape, no_fun}
 use Rattle.sg_known.specs.sg_facts.declared.shape.FunShape.{FunShape}
 use Rattle.sg_known.specs.sg_facts.Interface.{has_pair}
 use Rattle.sg_known.specs.sg_facts.Walks.{Spot, first_spot, next_spot}
 use Rattle.sg_known.specs.sg_described.Described.{Described}
-use Rattle.sg_known.specs.sg_described.Walking.{add_spot, add_spots, begins, is_lost, is_step, nexts, spots_of, spots_within}
+use Rattle.sg_known.specs.sg_described.Walking.{add_spot, add_spots, begins, is_lost, is_step, nexts, same_spot, spots_of, spots_within}
 use Rattle.sg_known.proofs.sg_described.Keeping.Basics.{both_true, or_true, own_test, same_of}
+use Rattle.sg_known.proofs.sg_described.Keeping.Spots.{own_spot}
 use Rattle.sg_safe.specs.declared.spots.Reached.{Reached}
-use Rattle.sg_safe.specs.Inside.Routes.{IsReached, add_begin, add_step, add_unlost, are_steps, nexts_by, place_in}
+use Rattle.sg_safe.specs.Inside.Routes.{IsDone, IsReached, add_begin, add_step, add_unlost, are_among, are_steps, nexts_by, place_in}
 use Rattle.sg_safe.specs.Reasons.{goes_on, led_by, led_on}
 
 -- ---- walks of one call more
@@ -180,6 +183,81 @@ step_no d old s p b is isn't = ap (λ v. cond v (add_unlost d old (next_spot d.f
 pub step_yes : (d : Described) (old new : List Spot) (s next : Spot) (p : ℕ × ℕ) (b : Bool) → b ≡ is_step d s p → b ≡ true → next ≡ next_spot d.facts p.1 s → new ≡ add_unlost d old next → new ≡ add_step d old s p
 step_yes d old new s next p b is so place one =
     one ∙ ap (add_unlost d old) place ∙ ap (λ v. cond v (add_unlost d old (next_spot d.facts p.1 s)) old) (sym so ∙ is)
+
+-- ---- spots that are listed already
+
+kept_by_one : (spots : List Spot) (s t : Spot) → list_any (same_spot t) spots ≡ true → list_any (same_spot t) (add_spot spots s) ≡ true
+kept_by_one spots s t is = at (list_any (same_spot s) spots)
+  where
+    at : (b : Bool) → list_any (same_spot t) (cond b spots (spots ++ s ∷ [])) ≡ true
+    at true = is
+    at false = list_any-append (same_spot t) spots (s ∷ []) ∙ ap (λ b. b || list_any (same_spot t) (s ∷ [])) is
+
+kept : (more spots : List Spot) (t : Spot) → list_any (same_spot t) spots ≡ true → list_any (same_spot t) (add_spots spots more) ≡ true
+kept [] spots t is = is
+kept (s ∷ more) spots t is = kept more (add_spot spots s) t (kept_by_one spots s t is)
+
+listed_one : (spots : List Spot) (s : Spot) → list_any (same_spot s) (add_spot spots s) ≡ true
+listed_one spots s = at (list_any (same_spot s) spots) refl
+  where
+    at : (b : Bool) → list_any (same_spot s) spots ≡ b → list_any (same_spot s) (cond b spots (spots ++ s ∷ [])) ≡ true
+    at true is = is
+    at false is = list_any-append (same_spot s) spots (s ∷ []) ∙ ap (λ b. b || (same_spot s s || false)) is ∙ ap (λ b. b || false) (own_spot s)
+
+-- what was added is listed
+added : (more spots : List Spot) → are_among (add_spots spots more) more ≡ true
+added [] spots = refl
+added (s ∷ more) spots = ap (λ b. b && are_among (add_spots (add_spot spots s) more) more) (kept more (add_spot spots s) s (listed_one spots s)) ∙ added more (add_spot spots s)
+
+-- what is listed adds nothing
+none_added : (more spots : List Spot) → are_among spots more ≡ true → add_spots spots more ≡ spots
+none_added [] spots are = refl
+none_added (s ∷ more) spots are =
+    let parts = both_true (list_any (same_spot s) spots) (are_among spots more) are in
+    ap (λ b. add_spots (cond b spots (spots ++ s ∷ [])) more) parts.0 ∙ none_added more spots parts.1
+
+-- what isn't goes last
+at_end : (more spots : List Spot) → (rest : List Spot) × (add_spots spots more ≡ spots ++ rest)
+at_end [] spots = ([], sym (append-nil spots))
+at_end (s ∷ more) spots = at (list_any (same_spot s) spots) (at_end more)
+  where
+    at : (b : Bool) → ((l : List Spot) → (rest : List Spot) × (add_spots l more ≡ l ++ rest)) → (rest : List Spot) × (add_spots (cond b spots (spots ++ s ∷ [])) more ≡ spots ++ rest)
+    at true later = later spots
+    at false later = let last = later (spots ++ s ∷ []) in (s ∷ last.0, last.1 ∙ append_assoc spots (s ∷ []) last.0)
+
+-- where one call more leads to from those from which it wasn't added yet
+latest_nexts : (d : Described) (done : ℕ) (old : List Spot) → IsDone d done old → add_spots old (flat_map (nexts d) (drop done old)) ≡ add_spots old (flat_map (nexts d) old)
+latest_nexts d done old is =
+    let before = flat_map (nexts d) (take done old) in
+    let after = flat_map (nexts d) (drop done old) in
+    ap (λ l. add_spots l after) (sym (none_added before old is.listed)) ∙ sym (add_both old before after)
+    ∙ ap (add_spots old) (sym (flat_map-append (nexts d) (take done old) (drop done old))) ∙ ap (λ l. add_spots old (flat_map (nexts d) l)) (take-append-drop done old)
+
+pub latest_more : (d : Described) (done : ℕ) (old new latest : List Reached) → IsDone d done (map (place_in d) old) → latest ≡ take (length old - done) (drop done old)
+    → map (place_in d) new ≡ add_spots (map (place_in d) old) (flat_map (nexts d) (map (place_in d) latest))
+    → map (place_in d) new ≡ add_spots (map (place_in d) old) (flat_map (nexts d) (map (place_in d) old))
+latest_more d done old new latest is last more =
+    more ∙ ap (λ l. add_spots (map (place_in d) old) (flat_map (nexts d) (map (place_in d) l))) (last ∙ take_rest old done)
+    ∙ ap (λ l. add_spots (map (place_in d) old) (flat_map (nexts d) l)) (sym (drop-map (place_in d) done old))
+    ∙ latest_nexts d done (map (place_in d) old) is
+
+pub all_latest : (P : Reached → Type 0) (done : ℕ) (old latest : List Reached) → latest ≡ take (length old - done) (drop done old) → All P old → All P latest
+all_latest P done old latest last all = subst (All P) (sym (last ∙ take_rest old done)) (All-drop P done old all)
+
+pub none_done : (d : Described) (spots : List Spot) → IsDone d 0 spots
+none_done d spots = record { within = omega arith; listed = refl }
+
+pub all_done : (d : Described) (old new : List Reached) (n : ℕ) → n ≡ length old → map (place_in d) new ≡ add_spots (map (place_in d) old) (flat_map (nexts d) (map (place_in d) old))
+    → IsDone d n (map (place_in d) new)
+all_done d old new n size is =
+    let spots = map (place_in d) old in
+    let last = at_end (flat_map (nexts d) spots) spots in
+    let long : length spots ≡ n = length-map old (place_in d) ∙ sym size in
+    let front : take n (map (place_in d) new) ≡ spots = ap (take n) (is ∙ last.1) ∙ take_at spots last.0 n long in
+    record {
+      within = let more = ap length (is ∙ last.1) ∙ length-append spots last.0 in omega (arith, more, long);
+      listed = ap (λ l. are_among (map (place_in d) new) (flat_map (nexts d) l)) front ∙ ap (λ l. are_among l (flat_map (nexts d) spots)) is ∙ added (flat_map (nexts d) spots) spots;
+    }
 
 -- after one call more
 pub spots_more : (d : Described) (calls : ℕ) (found all : List Spot) → 1 ≤ calls → found ≡ spots_within d (calls - 1) → all ≡ add_spots found (flat_map (nexts d) found)

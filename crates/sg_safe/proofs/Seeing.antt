@@ -1,5 +1,5 @@
 -- What the code holds is what is known.
-use Rattle.std.proofs.Common.{◌≡◌, ℕ, zero, suc, ◌+◌, Bool, false, cond, List, [], ◌∷◌, length, map, None, Some, refl, sym, ◌∙◌, ap, arith}
+use Rattle.std.proofs.Common.{◌≡◌, ℕ, zero, suc, ◌+◌, Bool, true, false, cond, List, [], ◌∷◌, length, map, None, Some, refl, sym, ◌∙◌, ap, arith}
 use Rattle.std.proofs.Math.Path.{fun_ext}
 use Rattle.sg_known.specs.sg_facts.declared.shape.Effect.{Effect}
 use Rattle.sg_known.specs.sg_facts.declared.shape.Effect.TheVariants.{SetCaller, SetArg, AddArg, SetRet, AddRet, Clear, SubOne, SubRet}
@@ -22,7 +22,7 @@ use Rattle.sg_safe.specs.declared.reason.KnownField.{KnownField}
 use Rattle.sg_safe.specs.declared.reason.Obstacle.{Obstacle}
 use Rattle.sg_safe.specs.Inside.Replays.{clients_at, fields_from, past_at, spots_from, stops_at}
 use Rattle.sg_safe.specs.Inside.Seen.{bounds_left}
-use Rattle.sg_safe.specs.Reasons.{known_fields, no_client, obstacle_at, past_most, shown_mark, stopping_rule}
+use Rattle.sg_safe.specs.Reasons.{known_fields, no_client, past_most, shown_mark, stopping_rule}
 
 -- ---- of any call on any row
 
@@ -111,11 +111,11 @@ spot_seen d fun s effects most fields low high effects_are most_is fields_are lo
     ∙ spot_seen_there d fun s effects most fields effects_are most_is fields_are
 
 -- what may make a call fail there
-pub obstacle_is : (d : Described) (fun : ℕ) (s : Place) (k : Known) (es : List (ℕ × Effect)) (rules : List Rule) (state word : ℕ) (a b c bc abc : Option Obstacle) (lost : Bool)
-    → lost ≡ is_lost d (next_spot d.facts fun s) → lost ≡ false → k ≡ known_at d fun s → es ≡ (fun_at d.facts.funs fun).effects → rules ≡ rules_at d fun
+pub obstacle_is : (d : Described) (fun : ℕ) (s : Place) (k : Known) (es : List (ℕ × Effect)) (rules : List Rule) (state word : ℕ) (a b c bc abc : Option Obstacle)
+    → k ≡ known_at d fun s → es ≡ (fun_at d.facts.funs fun).effects → rules ≡ rules_at d fun
     → state ≡ (next_spot d.facts fun s).state → word ≡ word_most k rules → a ≡ clients_at d state es → b ≡ stops_at k 1 rules → c ≡ past_at d k word es
-    → bc ≡ option_or b c → abc ≡ option_or a bc → abc ≡ obstacle_at d fun s
-obstacle_is d fun s k es rules state word a b c bc abc lost lost_is isn't k_is es_is rules_are state_is word_is a_is b_is c_is bc_is abc_is =
+    → bc ≡ option_or b c → abc ≡ option_or a bc → abc ≡ option_or (no_client d fun s) (option_or (stopping_rule d fun s) (past_most d fun s))
+obstacle_is d fun s k es rules state word a b c bc abc k_is es_is rules_are state_is word_is a_is b_is c_is bc_is abc_is =
     let one : a ≡ no_client d fun s = a_is ∙ ap (λ n. clients_at d n es) state_is ∙ ap (λ l. clients_at d (next_spot d.facts fun s).state l) es_is in
     let two : b ≡ stopping_rule d fun s = b_is ∙ ap (λ q. stops_at q 1 rules) k_is ∙ ap (λ l. stops_at (known_at d fun s) 1 l) rules_are in
     let three : c ≡ past_most d fun s =
@@ -124,7 +124,17 @@ obstacle_is d fun s k es rules state word a b c bc abc lost lost_is isn't k_is e
     ∙ ap (λ l. past_at d (known_at d fun s) (word_most (known_at d fun s) (rules_at d fun)) l) es_is in
     abc_is ∙ ap (λ o. option_or a o) (bc_is ∙ ap (λ o. option_or o c) two ∙ ap (λ o. option_or (stopping_rule d fun s) o) three)
     ∙ ap (λ o. option_or o (option_or (stopping_rule d fun s) (past_most d fun s))) one
-    ∙ ap (λ l. cond l None (option_or (no_client d fun s) (option_or (stopping_rule d fun s) (past_most d fun s)))) (sym isn't ∙ lost_is)
+
+-- where nothing does, where a field is lost for good, and else
+pub nothing_there : (lost : Bool) (any all : Option Obstacle) → any ≡ all → any ≡ None → None ≡ cond lost None all
+nothing_there true any all is none = refl
+nothing_there false any all is none = sym none ∙ is
+
+pub lost_there : (d : Described) (lost : Bool) (all : Option Obstacle) (s t : Place) → lost ≡ is_lost d s → s ≡ t → lost ≡ true → None ≡ cond (is_lost d t) None all
+lost_there d lost all s t lost_is same is = ap (λ b. cond b None all) (sym is ∙ lost_is ∙ ap (is_lost d) same)
+
+pub found_there : (d : Described) (lost : Bool) (any all : Option Obstacle) (s t : Place) → lost ≡ is_lost d s → s ≡ t → lost ≡ false → any ≡ all → any ≡ cond (is_lost d t) None all
+found_there d lost any all s t lost_is same isn't is = is ∙ ap (λ b. cond b None all) (sym isn't ∙ lost_is ∙ ap (is_lost d) same)
 
 -- ---- what is told of a spot
 

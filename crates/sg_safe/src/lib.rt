@@ -5,13 +5,14 @@
 //!   a walk has come to before it (`KnownSpot`, `KnownField`)
 //! - `counting`: fields that count
 //! - `waiting`: who waits and may be let pass
-//! - `replaying`: replayed calls that may fail; `spots`: where walks come to
+//! - `replaying`: replayed calls that may fail; `spots`: where walks come to; `spot_set`: spots, to be looked up (`SpotSet`)
 #![tactic(auto)]
 
 mod check;
 mod counting;
 mod reason;
 mod replaying;
+mod spot_set;
 mod spots;
 mod waiting;
 

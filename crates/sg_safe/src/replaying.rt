@@ -1,7 +1,7 @@
 // Why a replayed call may fail.
 ghost use Rattle.std.specs.Prelude.{◌≡◌, ◌+◌, ◌<◌, ◌≤◌, ◌^◌, ◌++◌, true, All, nat_le, nat_lt, IfOk, OnOk, length, map};
 ghost use Rattle.std.specs.List.{list_all};
-ghost use Rattle.std.specs.Option.{option_map};
+ghost use Rattle.std.specs.Option.{option_map, option_or};
 ghost use Rattle.sg_known.specs.sg_facts.Facts.{fun_of_shape};
 ghost use Rattle.sg_known.specs.sg_described.Described.{rule_of};
 ghost use Rattle.sg_known.specs.sg_described.Safe.{IsPlain};
@@ -11,14 +11,15 @@ ghost use Rattle.sg_known.specs.Surveys.{IsSurvey, subject_of};
 ghost use Rattle.sg_safe.specs.Inside.Replays.{IsLater, clients_at, fields_from, past_at, spots_from, stops_at};
 ghost use Rattle.sg_safe.specs.Inside.Routes.{IsReached, most_before, place_in};
 ghost use Rattle.sg_safe.specs.Inside.Seen.{HasFewFields, pairs_in, shown};
-ghost use Rattle.sg_safe.specs.Reasons.{but_walk, failing, fails_at, fails_by, fails_first, fails_on, first_from, first_in, known_spot, obstacle_at};
+ghost use Rattle.sg_safe.specs.Reasons.{but_walk, failing, fails_at, fails_by, fails_first, fails_on, first_from, first_in, known_spot, no_client, obstacle_at, past_most, stopping_rule};
 ghost use Rattle.sg_known.specs.sg_walk.Marks.{known_of};
 
 use crate::reason::{FailingCall, KnownField, KnownSpot, Obstacle, Unsafe};
 use crate::spots::{Reached, blank_spot, loses, marks_of, spot_after, steps_from};
 use sg_known::{
     ANY, ArgsKnown, Bounds, Effect, FieldState, FunShape, LAST_CLIENT, ListOf, NoMemory, RuleShape,
-    Seen, Spot, Survey, ZERO, bounds_up_to, field_bounds, greatest_word, is_some_in, stops,
+    Seen, Spot, Survey, ZERO, bounds_up_to, field_bounds, greatest_word, is_some_in, state_left,
+    stops,
 };
 use std::alloc::Global;
 
@@ -232,7 +233,23 @@ fn first_past(
     }
 }
 
-// What may make the replayed call of a function fail at a spot, by what is known there.
+// What may make the replayed call of a function fail at a spot, by what is known there, wherever it leads to.
+fn any_obstacle(survey: &Survey<'_>, fun: u8, spot: Spot, seen: &Seen<'_>) -> Option<Obstacle>
+    requires survey { IsSurvey survey.now }
+    requires plain { IsPlain (subject_of survey.now) }
+    requires known { known_in seen.now ≡ known_at (subject_of survey.now) fun (shown (subject_of survey.now) spot) }
+    ensures { let d = subject_of survey.now in let s = shown d spot in
+        result ≡ option_or (no_client d fun s) (option_or (stopping_rule d fun s) (past_most d fun s)) }
+{
+    let description = survey.description;
+    let state = state_left(&description.shape, fun, spot.state);
+    let effects = description.shape.fun(fun).effects;
+    let rules = description.rules(fun);
+    let past = first_past(survey, seen, greatest_word(seen, rules), effects);
+    first_unheld(survey, state, effects).or(first_stop(seen, 1, rules).or(past))
+}
+
+// The same, unless it leads to where a field is lost for good. That is looked at last: it takes longest.
 fn obstacle(survey: &Survey<'_>, fun: u8, spot: Spot, seen: &Seen<'_>) -> Option<Obstacle>
     requires survey { IsSurvey survey.now }
     requires plain { IsPlain (subject_of survey.now) }
@@ -240,15 +257,16 @@ fn obstacle(survey: &Survey<'_>, fun: u8, spot: Spot, seen: &Seen<'_>) -> Option
     requires known { known_in seen.now ≡ known_at (subject_of survey.now) fun (shown (subject_of survey.now) spot) }
     ensures { let d = subject_of survey.now in result ≡ obstacle_at d fun (shown d spot) }
 {
-    let description = survey.description;
-    let next = spot_after(description, fun, spot);
-    if loses(description, next) {
-        return None;
+    match any_obstacle(survey, fun, spot, seen) {
+        None => None,
+        Some(found) => {
+            let description = survey.description;
+            if loses(description, spot_after(description, fun, spot)) {
+                return None;
+            }
+            Some(found)
+        }
     }
-    let effects = description.shape.fun(fun).effects;
-    let rules = description.rules(fun);
-    let past = first_past(survey, seen, greatest_word(seen, rules), effects);
-    first_unheld(survey, next.state, effects).or(first_stop(seen, 1, rules).or(past))
 }
 
 // ---- where it may fail

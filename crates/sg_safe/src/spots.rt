@@ -5,14 +5,16 @@ ghost use Rattle.sg_known.specs.sg_facts.Facts.{fun_at, fun_of_shape};
 ghost use Rattle.sg_known.specs.sg_facts.Interface.{has_pair};
 ghost use Rattle.sg_known.specs.sg_facts.Limits.{most_fields};
 ghost use Rattle.sg_known.specs.sg_facts.Walks.{first_spot, most_calls, next_spot};
-ghost use Rattle.sg_known.specs.sg_described.Described.{described_of};
+ghost use Rattle.sg_known.specs.sg_described.Described.{Described, described_of};
 ghost use Rattle.sg_known.specs.sg_described.NeverZero.{all_from};
-ghost use Rattle.sg_known.specs.sg_described.Walking.{add_spots, begins, blank, brings_back, is_lost, is_step, is_stuck, is_unknown, nexts, same_mark, same_marks, same_spot, spots_of, spots_within};
+ghost use Rattle.sg_known.specs.sg_described.Walking.{add_spots, begins, blank, brings_back, is_lost, is_step, is_stuck, is_unknown, nexts, spots_of, spots_within};
 ghost use Rattle.sg_known.specs.Seen.{pairs_of};
+ghost use Rattle.sg_safe.specs.Inside.Keys.{keyed};
 ghost use Rattle.sg_safe.specs.Inside.Seen.{HasFewFields, pairs_in, shown, spot_in};
-ghost use Rattle.sg_safe.specs.Inside.Routes.{IsReached, add_begin, add_step, add_unlost, are_steps, most_before, nexts_by, place_in};
+ghost use Rattle.sg_safe.specs.Inside.Routes.{HasKeys, IsDone, IsReached, add_begin, add_step, add_unlost, are_steps, most_before, nexts_by, place_in};
 ghost use Rattle.sg_known.specs.sg_walk.Marks.{known_of};
 
+use crate::spot_set::SpotSet;
 use sg_known::{
     Description, Effect, FieldState, FunShape, ListOf, MOST_FIELDS, NoMemory, Spot, Walk, marked,
     state_left,
@@ -139,67 +141,56 @@ pub(crate) fn loses(description: &Description, spot: Spot) -> bool
 
 // ---- spots, each once
 
-// Whether two marks are the same.
-fn are_same_mark(one: FieldState, other: FieldState) -> bool
-    ensures { result ≡ same_mark (known_of one) (known_of other) }
+// What was found, and the keys of its spots.
+#[derive(Debug, Drop)]
+struct Found {
+    list: ReachedList,
+    keys: SpotSet,
+}
+
+// Nothing. It takes no memory.
+fn nothing(alloc: Global) -> Found
+    ensures list { result.list ≡ [] }
+    ensures keys { (d : Described) → HasKeys d result }
 {
-    match one {
-        FieldState::Unset => matches!(&other, FieldState::Unset),
-        FieldState::Good => matches!(&other, FieldState::Good),
-        FieldState::Unknown => matches!(&other, FieldState::Unknown),
+    Found {
+        list: ReachedList::new(alloc),
+        keys: SpotSet::new(alloc),
     }
 }
 
-// Whether all marks are the same.
-fn are_same_marks(ones: &[FieldState], others: &[FieldState]) -> bool
-    ensures { result ≡ same_marks (map known_of ones.now) (map known_of others.now) }
-{
-    match ones {
-        [] => others.is_empty(),
-        [one, ones @ ..] => match others {
-            [] => false,
-            [other, others @ ..] => are_same_mark(*one, *other) && are_same_marks(ones, others),
-        },
-    }
-}
-
-// Whether two spots are the same, where rows have so many fields.
-fn are_same(count: usize, one: Spot, other: Spot) -> bool
+// A spot with the marks of so many fields alone, by which it is looked up.
+fn key_of(count: usize, spot: Spot) -> Spot
     requires { count ≤ most_fields }
-    ensures { result ≡ same_spot (spot_in count one) (spot_in count other) }
+    ensures { result ≡ keyed count spot }
 {
-    one.state == other.state && are_same_marks(&one.marks[..count], &other.marks[..count])
-}
-
-// Whether a spot is listed.
-fn has_spot(description: &Description, found: &[Reached], spot: Spot) -> bool
-    requires { HasFewFields (described_of description.now) }
-    ensures { let d = described_of description.now in result ≡ list_any (same_spot (shown d spot)) (map (place_in d) found.now) }
-{
-    match found {
-        [] => false,
-        [first, rest @ ..] => {
-            are_same(count(description), spot, first.spot) || has_spot(description, rest, spot)
-        }
+    let mut marks = [FieldState::Unset; MOST_FIELDS];
+    marks[..count].copy_from_slice(&spot.marks[..count]);
+    Spot {
+        state: spot.state,
+        marks,
     }
 }
 
 // Adds a spot that isn't listed, unless a field is lost for good there.
-fn add_one(
-    found: &mut ReachedList,
-    description: &Description,
-    reached: Reached,
-) -> Result<(), NoMemory>
-    requires { HasFewFields (described_of description.now) }
+fn add_one(found: &mut Found, description: &Description, reached: Reached) -> Result<(), NoMemory>
+    requires fields { HasFewFields (described_of description.now) }
+    requires keys { HasKeys (described_of description.now) found.old }
     ensures spots { let d = described_of description.now in let all = map (place_in d) in
-        OnOk result (all found.new ≡ add_unlost d (all found.old) (place_in d reached)) }
+        OnOk result (all found.new.list ≡ add_unlost d (all found.old.list) (place_in d reached)) }
+    ensures keys { OnOk result (HasKeys (described_of description.now) found.new) }
     ensures reached { (calls : ℕ) → IsReached (described_of description.now) calls reached
-        → OnOk result (All (IsReached (described_of description.now) calls) found.old → All (IsReached (described_of description.now) calls) found.new) }
+        → OnOk result (All (IsReached (described_of description.now) calls) found.old.list → All (IsReached (described_of description.now) calls) found.new.list) }
 {
-    if loses(description, reached.spot) || has_spot(description, found.as_slice(), reached.spot) {
+    let key = key_of(count(description), reached.spot);
+    if found.keys.has(key) {
         return Ok(());
     }
-    Ok(found.push(reached)?)
+    if loses(description, reached.spot) {
+        return Ok(());
+    }
+    found.keys.add(key)?;
+    Ok(found.list.push(reached)?)
 }
 
 // ---- where walks lead to
@@ -235,16 +226,18 @@ fn continued(description: &Description, from: &Reached, fun: u8) -> Result<Reach
 
 // Adds where the walk of one call leads to, where the function of a number makes a descriptor.
 fn add_begin(
-    found: &mut ReachedList,
+    found: &mut Found,
     description: &Description,
     number: u8,
     fun: &FunShape,
 ) -> Result<(), NoMemory>
     requires fields { HasFewFields (described_of description.now) }
+    requires keys { HasKeys (described_of description.now) found.old }
     requires fun { fun_at (described_of description.now).facts.funs number ≡ fun_of_shape fun.now }
     ensures spots { let d = described_of description.now in let all = map (place_in d) in
-        OnOk result (all found.new ≡ add_begin d (all found.old) number (fun_of_shape fun.now)) }
-    ensures reached { OnOk result (All (IsReached (described_of description.now) 1) found.old → All (IsReached (described_of description.now) 1) found.new) }
+        OnOk result (all found.new.list ≡ add_begin d (all found.old.list) number (fun_of_shape fun.now)) }
+    ensures keys { OnOk result (HasKeys (described_of description.now) found.new) }
+    ensures reached { OnOk result (All (IsReached (described_of description.now) 1) found.old.list → All (IsReached (described_of description.now) 1) found.new.list) }
 {
     if !fun.is_creation() {
         return Ok(());
@@ -254,18 +247,20 @@ fn add_begin(
 
 // Adds where walks of one call lead to, by functions that are numbered from one on: those of the description from there on.
 fn add_begins(
-    found: &mut ReachedList,
+    found: &mut Found,
     description: &Description,
     number: u8,
     funs: &[FunShape],
 ) -> Result<(), NoMemory>
     requires fields { HasFewFields (described_of description.now) }
+    requires keys { HasKeys (described_of description.now) found.old }
     requires numbers { number + length funs.now < 2 ^ 8 }
     requires some { 1 ≤ number }
     requires funs { drop (number - 1) (described_of description.now).facts.funs ≡ map fun_of_shape funs.now }
     ensures spots { let d = described_of description.now in let all = map (place_in d) in
-        OnOk result (all found.new ≡ add_spots (all found.old) (begins d number (map fun_of_shape funs.now))) }
-    ensures reached { OnOk result (All (IsReached (described_of description.now) 1) found.old → All (IsReached (described_of description.now) 1) found.new) }
+        OnOk result (all found.new.list ≡ add_spots (all found.old.list) (begins d number (map fun_of_shape funs.now))) }
+    ensures keys { OnOk result (HasKeys (described_of description.now) found.new) }
+    ensures reached { OnOk result (All (IsReached (described_of description.now) 1) found.old.list → All (IsReached (described_of description.now) 1) found.new.list) }
 {
     match funs {
         [] => Ok(()),
@@ -285,18 +280,20 @@ pub(crate) fn steps_from(description: &Description, spot: Spot, pair: (u8, u8)) 
 
 // Adds where a walk leads to with one more call, by a recover step of the description.
 fn add_step(
-    found: &mut ReachedList,
+    found: &mut Found,
     description: &Description,
     from: &Reached,
     pair: (u8, u8),
 ) -> Result<(), NoMemory>
     requires fields { HasFewFields (described_of description.now) }
+    requires keys { HasKeys (described_of description.now) found.old }
     requires room { length from.now.walk < most_calls }
     requires step { has_pair (described_of description.now).facts.steps pair.0 pair.1 ≡ true }
     ensures spots { let d = described_of description.now in let all = map (place_in d) in
-        OnOk result (all found.new ≡ add_step d (all found.old) (place_in d from.now) (pair.0, pair.1)) }
+        OnOk result (all found.new.list ≡ add_step d (all found.old.list) (place_in d from.now) (pair.0, pair.1)) }
+    ensures keys { OnOk result (HasKeys (described_of description.now) found.new) }
     ensures reached { (calls : ℕ) → IsReached (described_of description.now) calls from.now
-        → OnOk result (All (IsReached (described_of description.now) (calls + 1)) found.old → All (IsReached (described_of description.now) (calls + 1)) found.new) }
+        → OnOk result (All (IsReached (described_of description.now) (calls + 1)) found.old.list → All (IsReached (described_of description.now) (calls + 1)) found.new.list) }
 {
     if !steps_from(description, from.spot, pair) {
         return Ok(());
@@ -306,18 +303,20 @@ fn add_step(
 
 // Adds where a walk leads to with one more call, by recover steps of the description.
 fn add_steps(
-    found: &mut ReachedList,
+    found: &mut Found,
     description: &Description,
     from: &Reached,
     steps: &[(u8, u8)],
 ) -> Result<(), NoMemory>
     requires fields { HasFewFields (described_of description.now) }
+    requires keys { HasKeys (described_of description.now) found.old }
     requires room { length from.now.walk < most_calls }
     requires steps { are_steps (described_of description.now) (pairs_in steps.now) ≡ true }
     ensures spots { let d = described_of description.now in let all = map (place_in d) in
-        OnOk result (all found.new ≡ add_spots (all found.old) (nexts_by d (place_in d from.now) (pairs_in steps.now))) }
+        OnOk result (all found.new.list ≡ add_spots (all found.old.list) (nexts_by d (place_in d from.now) (pairs_in steps.now))) }
+    ensures keys { OnOk result (HasKeys (described_of description.now) found.new) }
     ensures reached { (calls : ℕ) → IsReached (described_of description.now) calls from.now
-        → OnOk result (All (IsReached (described_of description.now) (calls + 1)) found.old → All (IsReached (described_of description.now) (calls + 1)) found.new) }
+        → OnOk result (All (IsReached (described_of description.now) (calls + 1)) found.old.list → All (IsReached (described_of description.now) (calls + 1)) found.new.list) }
 {
     match steps {
         [] => Ok(()),
@@ -329,17 +328,15 @@ fn add_steps(
 }
 
 // Adds where walks lead to with one more call.
-fn add_nexts(
-    found: &mut ReachedList,
-    description: &Description,
-    from: &[Reached],
-) -> Result<(), NoMemory>
+fn add_nexts(found: &mut Found, description: &Description, from: &[Reached]) -> Result<(), NoMemory>
     requires fields { HasFewFields (described_of description.now) }
+    requires keys { HasKeys (described_of description.now) found.old }
     requires room { All (λ r. length r.walk < most_calls) from.now }
     ensures spots { let d = described_of description.now in let all = map (place_in d) in
-        OnOk result (all found.new ≡ add_spots (all found.old) (flat_map (nexts d) (all from.now))) }
+        OnOk result (all found.new.list ≡ add_spots (all found.old.list) (flat_map (nexts d) (all from.now))) }
+    ensures keys { OnOk result (HasKeys (described_of description.now) found.new) }
     ensures reached { (calls : ℕ) → All (IsReached (described_of description.now) calls) from.now
-        → OnOk result (All (IsReached (described_of description.now) (calls + 1)) found.old → All (IsReached (described_of description.now) (calls + 1)) found.new) }
+        → OnOk result (All (IsReached (described_of description.now) (calls + 1)) found.old.list → All (IsReached (described_of description.now) (calls + 1)) found.new.list) }
 {
     match from {
         [] => Ok(()),
@@ -350,30 +347,55 @@ fn add_nexts(
     }
 }
 
+// Adds where walks lead to with one more call, by the spots that were found last: from the first ones, so many, it was done.
+fn add_latest(
+    alloc: Global,
+    found: &mut Found,
+    description: &Description,
+    done: usize,
+) -> Result<(), NoMemory>
+    requires fields { HasFewFields (described_of description.now) }
+    requires keys { HasKeys (described_of description.now) found.old }
+    requires room { All (λ r. length r.walk < most_calls) found.old.list }
+    requires done { let d = described_of description.now in IsDone d done (map (place_in d) found.old.list) }
+    ensures spots { let d = described_of description.now in let all = map (place_in d) in
+        OnOk result (all found.new.list ≡ add_spots (all found.old.list) (flat_map (nexts d) (all found.old.list))) }
+    ensures keys { OnOk result (HasKeys (described_of description.now) found.new) }
+    ensures reached { (calls : ℕ) → All (IsReached (described_of description.now) calls) found.old.list
+        → OnOk result (All (IsReached (described_of description.now) (calls + 1)) found.new.list) }
+{
+    let latest = ReachedList::from_slice(alloc, &found.list.as_slice()[done..])?;
+    Ok(add_nexts(found, description, latest.as_slice())?)
+}
+
 // The greatest number of calls after which a walk may still go on.
 const MOST_BEFORE: u8 = 7;
 
-// Where walks lead to that may go on, by where those of at most so many calls do.
+// Where walks lead to that may go on, by where those of at most so many calls do; from the first of these the next calls are done.
 fn further(
     alloc: Global,
     description: &Description,
-    found: ReachedList,
+    found: Found,
+    done: usize,
     calls: u8,
 ) -> Result<ReachedList, NoMemory>
     requires fields { HasFewFields (described_of description.now) }
+    requires keys { HasKeys (described_of description.now) found }
     requires some { 1 ≤ calls }
     requires most { calls ≤ most_before }
-    requires spots { map (place_in (described_of description.now)) found ≡ spots_within (described_of description.now) (calls - 1) }
-    requires reached { All (IsReached (described_of description.now) calls) found }
+    requires done { let d = described_of description.now in IsDone d done (map (place_in d) found.list) }
+    requires spots { map (place_in (described_of description.now)) found.list ≡ spots_within (described_of description.now) (calls - 1) }
+    requires reached { All (IsReached (described_of description.now) calls) found.list }
     ensures spots { let d = described_of description.now in IfOk result (λ all. map (place_in d) all ≡ spots_of d) }
     ensures reached { IfOk result (All (IsReached (described_of description.now) most_before)) }
 {
     if calls == MOST_BEFORE {
-        return Ok(found);
+        return Ok(found.list);
     }
-    let mut all = ReachedList::from_slice(alloc, found.as_slice())?;
-    add_nexts(&mut all, description, found.as_slice())?;
-    further(alloc, description, all, calls + 1)
+    let count = found.list.len();
+    let mut all = found;
+    add_latest(alloc, &mut all, description, done)?;
+    further(alloc, description, all, count, calls + 1)
 }
 
 /// Where walks lead to that may go on.
@@ -383,7 +405,7 @@ pub(crate) fn all_spots(alloc: Global, description: &Description) -> Result<Reac
     ensures spots { let d = described_of description.now in IfOk result (λ all. map (place_in d) all ≡ spots_of d) }
     ensures reached { IfOk result (All (IsReached (described_of description.now) most_before)) }
 {
-    let mut first = ReachedList::new(alloc);
+    let mut first = nothing(alloc);
     add_begins(&mut first, description, 1, description.shape.funs)?;
-    further(alloc, description, first, 1)
+    further(alloc, description, first, 0, 1)
 }

@@ -14,7 +14,7 @@ add_nexts-requires t c = search (rules, all_rest (λ r. length r.walk < 8) c.arg
 pub returns-in_ok-add_nexts-in-len1-up-clause-spots : goal.returns-in_ok-add_nexts-in-len1-up-clause-spots
 returns-in_ok-add_nexts-in-len1-up-clause-spots t c =
     let d = described_of c.args.description.now in
-    nexts_all d c.args.from.now c.first-item.result (map (place_in d) c.args.found.now) (map (place_in d) c.add_steps.new.found) (map (place_in d) c.add_nexts.new.found)
+    nexts_all d c.args.from.now c.first-item.result (map (place_in d) c.args.found.now.list) (map (place_in d) c.add_steps.new.found.list) (map (place_in d) c.add_nexts.new.found.list)
     c.in-len1-up.len_at_least c.first-item.is c.in_ok-add_steps-in-len1-up.ensures.spots c.in_ok-add_nexts-in-len1-up.ensures.spots
 
 pub returns-in_ok-add_nexts-in-len1-up-clause-reached : goal.returns-in_ok-add_nexts-in-len1-up-clause-reached

@@ -9,12 +9,12 @@ use Rattle.sg_safe.proofs.spots.add_step.Goals as goal
 pub returns-then-not-steps_from-clause-spots : goal.returns-then-not-steps_from-clause-spots
 returns-then-not-steps_from-clause-spots c =
     let d = described_of c.args.description.now in
-    step_no d (map (place_in d) c.args.found.now) (place_in d c.args.from.now) (c.args.pair.0, c.args.pair.1) c.steps_from.result (c.steps_from.ensures (length d.facts.fields)) c.if-not-steps_from.true
+    step_no d (map (place_in d) c.args.found.now.list) (place_in d c.args.from.now) (c.args.pair.0, c.args.pair.1) c.steps_from.result (c.steps_from.ensures (length d.facts.fields)) c.if-not-steps_from.true
 
 pub returns-clause-spots : goal.returns-clause-spots
 returns-clause-spots c =
     let d = described_of c.args.description.now in
-    step_yes d (map (place_in d) c.args.found.now) (map (place_in d) c.add_one.new.found) (place_in d c.args.from.now) (place_in d c.in_ok-continued.field-0) (c.args.pair.0, c.args.pair.1)
+    step_yes d (map (place_in d) c.args.found.now.list) (map (place_in d) c.add_one.new.found.list) (place_in d c.args.from.now) (place_in d c.in_ok-continued.field-0) (c.args.pair.0, c.args.pair.1)
     c.steps_from.result (c.steps_from.ensures (length d.facts.fields)) c.if-not-steps_from.false c.in_ok-continued.ensures.spot c.in_ok-add_one.ensures.spots
 
 pub returns-clause-reached : goal.returns-clause-reached
