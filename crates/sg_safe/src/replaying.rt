@@ -395,6 +395,22 @@ fn steps_failure<'a>(
     }
 }
 
+// The first next call that may fail, of a walk that goes on from a spot.
+fn spot_failure(
+    alloc: Global,
+    survey: &Survey<'_>,
+    spot: Spot,
+) -> Result<Option<FailingCall>, NoMemory>
+    requires survey { IsSurvey survey.now }
+    requires plain { IsPlain (subject_of survey.now) }
+    requires fields { HasFewFields (subject_of survey.now) }
+    ensures { let d = subject_of survey.now in IfOk result (λ found. found ≡ fails_on d (shown d spot)) }
+{
+    let description = survey.description;
+    let mut seen = seen_at(alloc, survey, spot)?;
+    Ok(steps_failure(alloc, survey, spot, &mut seen, description.shape.steps)?)
+}
+
 /// The first next call that may fail, with its walk, where walks go on from where some have come to.
 pub(crate) fn next_failure(
     alloc: Global,
@@ -409,22 +425,12 @@ pub(crate) fn next_failure(
 {
     match reached {
         [] => Ok(None),
-        [first, rest @ ..] => {
-            let description = survey.description;
-            let mut seen = seen_at(alloc, survey, first.spot)?;
-            match steps_failure(
-                alloc,
-                survey,
-                first.spot,
-                &mut seen,
-                description.shape.steps,
-            )? {
-                Some(call) => Ok(Some(Unsafe::Fails {
-                    walk: first.walk,
-                    call,
-                })),
-                None => next_failure(alloc, survey, rest),
-            }
-        }
+        [first, rest @ ..] => match spot_failure(alloc, survey, first.spot)? {
+            Some(call) => Ok(Some(Unsafe::Fails {
+                walk: first.walk,
+                call,
+            })),
+            None => next_failure(alloc, survey, rest),
+        },
     }
 }
