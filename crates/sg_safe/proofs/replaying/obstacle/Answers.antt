@@ -16,15 +16,15 @@ returns-in-None c =
     nothing_there (is_lost d (next_spot d.facts c.args.fun s)) c.any_obstacle.result (option_or (no_client d c.args.fun s) (option_or (stopping_rule d c.args.fun s) (past_most d c.args.fun s)))
     c.any_obstacle.ensures c.in-None.is
 
-pub returns-then-loses-in-Some : goal.returns-then-loses-in-Some
-returns-then-loses-in-Some c =
+pub returns-then-loses : goal.returns-then-loses
+returns-then-loses c =
     let d = subject_of c.args.survey.now in
     let s = shown d c.args.spot in
     lost_there d c.loses.result (option_or (no_client d c.args.fun s) (option_or (stopping_rule d c.args.fun s) (past_most d c.args.fun s)))
     (shown d c.spot_after.result) (next_spot d.facts c.args.fun s) c.loses.ensures c.spot_after.ensures c.if-loses.true
 
-pub returns-in-Some : goal.returns-in-Some
-returns-in-Some c =
+pub returns-else-loses : goal.returns-else-loses
+returns-else-loses c =
     let d = subject_of c.args.survey.now in
     let s = shown d c.args.spot in
     found_there d c.loses.result (Some c.in-Some.found) (option_or (no_client d c.args.fun s) (option_or (stopping_rule d c.args.fun s) (past_most d c.args.fun s)))
