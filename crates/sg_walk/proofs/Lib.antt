@@ -1,7 +1,12 @@
-pub mod KnownEnds
+pub mod FirstArrivals
+pub mod GoingOn
+pub mod KnownSpots
 pub mod LeastWalks
+pub mod LookedUp
 pub mod Marks
+pub mod Orders
 pub mod PairSets
+pub mod Putting
 pub mod ReachedStates
-pub mod Searching
 pub mod Sets
+pub mod WalkTables

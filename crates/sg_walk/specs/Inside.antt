@@ -1,5 +1,5 @@
 -- How walks are sought, which no public clause cites.
-pub mod Ends
+pub mod Arrivals
 pub mod Search
 pub mod Spots
 pub mod StepSets

@@ -1,3 +1,4 @@
 pub mod Inside
+pub mod LeastWalks
 pub mod Marks
 pub mod ReachedStates

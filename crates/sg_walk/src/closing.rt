@@ -1,13 +1,13 @@
 // The places that declared calls lead to.
-ghost use Rattle.std.specs.Prelude.{◌≡◌, ◌≤◌, ◌^◌, ℕ, true, length, map, OnOk};
+ghost use Rattle.std.specs.Prelude.{◌≡◌, ◌+◌, ◌<◌, ◌≤◌, ◌^◌, ℕ, true, length, map, OnOk};
 ghost use Rattle.std.specs.List.{Contains};
 ghost use Rattle.sg_facts.specs.Facts.{fun_at};
 ghost use Rattle.sg_facts.specs.Interface.{HasFewFields, moves_on};
 ghost use Rattle.sg_facts.specs.Limits.{most_fields};
 ghost use Rattle.sg_walk.specs.declared.place.Place.{Place as OnePlace};
-ghost use Rattle.sg_walk.specs.ReachedStates.Inside.Places.{AddsJust, AreReached, IsMadeAt, IsClosed, IsLed, LeadsTo, LeadsBy};
+ghost use Rattle.sg_walk.specs.ReachedStates.Inside.Places.{AddsJust, AreReached, IsMadeAt, IsClosed, IsLed, IsLedOn, IsLedWith, LeadsTo, LeadsBy, place_with};
 
-use crate::effects::may_lead;
+use crate::effects::{effect_on, may_leave};
 use crate::found::Found;
 use crate::place::Place;
 use sg_facts::{Effect, Interface, NoMemory};
@@ -23,13 +23,81 @@ fn add_led(
     requires { count ≤ most_fields }
     ensures { OnOk result (AddsJust (IsLed (map (λ p. (p.0, p.1)) effects.now) count old state) found.old found.new) }
 {
-    'masks: for number in 0..set_count(count) {
-        let mask = number as u8;
-        if may_lead(effects, 0, count, old, mask) {
-            found.add(Place { state, mask })?;
-        }
-    }
+    add_on(found, effects, 0, count, old, Place { state, mask: 0 })?;
     Ok(())
+}
+
+// Adds the places to which effects lead from a set, where the fields before one are settled, and so many are left from there on.
+#[cycle(adding)]
+fn add_on(
+    found: &mut Found,
+    effects: &[(u8, Effect)],
+    field: u8,
+    count: u8,
+    old: u8,
+    settled: Place,
+) -> Result<(), NoMemory>
+    requires few { field + count ≤ most_fields }
+    requires settled { settled.mask < 2 ^ field }
+    ensures { OnOk result (AddsJust (IsLedOn (map (λ p. (p.0, p.1)) effects.now) field count old settled) found.old found.new) }
+{
+    if count == 0 {
+        found.add(settled)?;
+        return Ok(());
+    }
+    add_with(found, effects, field, count, old, settled, false)?;
+    add_with(found, effects, field, count, old, settled, true)?;
+    Ok(())
+}
+
+// Adds those of them where the next field is set, or not.
+#[cycle(adding)]
+fn add_with(
+    found: &mut Found,
+    effects: &[(u8, Effect)],
+    field: u8,
+    count: u8,
+    old: u8,
+    settled: Place,
+    is_set: bool,
+) -> Result<(), NoMemory>
+    requires few { field + count ≤ most_fields }
+    requires some { 0 < count }
+    requires settled { settled.mask < 2 ^ field }
+    ensures { OnOk result (AddsJust (IsLedWith (map (λ p. (p.0, p.1)) effects.now) field count old settled is_set) found.old found.new) }
+{
+    if !may_leave(effect_on(effects, field), old % 2 == 1, is_set) {
+        return Ok(());
+    }
+    let next = with_field(settled, field, is_set);
+    add_on(found, effects, field + 1, count - 1, old / 2, next)?;
+    Ok(())
+}
+
+// A place where a field is set, or not, and no field from there on was.
+fn with_field(settled: Place, field: u8, is_set: bool) -> Place
+    requires field { field < most_fields }
+    requires settled { settled.mask < 2 ^ field }
+    ensures place { result ≡ place_with settled field is_set }
+    ensures settled { result.mask < 2 ^ (field + 1) }
+{
+    if is_set {
+        Place {
+            state: settled.state,
+            mask: settled.mask + bit(field),
+        }
+    } else {
+        settled
+    }
+}
+
+// The number of the set that has one field.
+fn bit(field: u8) -> u8
+    requires { field < most_fields }
+    ensures value { result ≡ 2 ^ field }
+    ensures few { result ≤ 128 }
+{
+    1 << field
 }
 
 /// Adds the places that a creation leads to.
@@ -94,8 +162,8 @@ pub fn close(iface: &Interface, found: &mut Found) -> Result<(), NoMemory>
     Ok(())
 }
 
-// The number of fields of a row.
-fn field_count(iface: &Interface) -> u8
+/// The number of fields of a row.
+pub fn field_count(iface: &Interface) -> u8
     requires few { HasFewFields iface.now }
     ensures { result ≡ length iface.now.facts.fields }
 {

@@ -11,7 +11,7 @@ use Rattle.sg_walk.specs.ReachedStates.Inside.Bits.{set_numbered}
 use Rattle.sg_walk.specs.ReachedStates.Inside.Places.{AddsJust, AreReached, IsClosed, LeadsTo, IsPlace}
 use Rattle.sg_walk.proofs.ReachedStates.Adding.{adds_keeps}
 
-get_before : {X : Type 0} (xs ys : List X) (k : ℕ) → k < length xs → slice_get (xs ++ ys) k ≡ slice_get xs k
+pub get_before : {X : Type 0} (xs ys : List X) (k : ℕ) → k < length xs → slice_get (xs ++ ys) k ≡ slice_get xs k
 get_before [] ys k within = absurd (omega arith)
 get_before (x ∷ xs) ys zero within = refl
 get_before (x ∷ xs) ys (suc k) within = get_before xs ys k (omega arith)
@@ -19,7 +19,7 @@ get_before (x ∷ xs) ys (suc k) within = get_before xs ys k (omega arith)
 pub there : {X : Type 0} (xs : List X) (k : ℕ) (x : X) → slice_get xs k ≡ Some x → Contains xs x
 there xs k x is = (k, slice_get_within xs k x is, get_or_from_slice_get xs k x x is)
 
-one_value : {X : Type 0} (x y : X) → Some x ≡ Some y → x ≡ y
+pub one_value : {X : Type 0} (x y : X) → Some x ≡ Some y → x ≡ y
 one_value x y is = cc is
 
 -- where there is no element, the list has ended

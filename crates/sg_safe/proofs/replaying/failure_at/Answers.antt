@@ -8,4 +8,4 @@ use Rattle.sg_safe.proofs.replaying.failure_at.Goals as goal
 pub obstacle-requires-clause-known : goal.obstacle-requires-clause-known
 obstacle-requires-clause-known c =
     let d = subject_of c.args.survey.now in
-    call_seen d c.args.fun (shown d c.args.spot) (known_in c.args.seen.now) (args_in c.args_known.result) c.requires.row c.args_known.ensures
+    call_seen d c.args.fun (shown d c.args.spot) (known_in c.args.seen.now) (args_in c.args_known-seen.result) c.requires.row c.args_known-seen.ensures

@@ -1,5 +1,5 @@
 -- Where nothing makes the call fail, where it leads to a lost field, and else.
-use Rattle.std.proofs.Common.{length, Some, sym, ◌∙◌}
+use Rattle.std.proofs.Common.{Some}
 use Rattle.std.specs.Option.{option_or}
 use Rattle.sg_known.specs.sg_facts.Walks.{next_spot}
 use Rattle.sg_known.specs.sg_described.Walking.{is_lost}

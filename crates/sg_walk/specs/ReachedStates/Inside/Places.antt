@@ -1,5 +1,5 @@
 -- What descriptors can come to, by a state and the number of the set of fields.
-use Rattle.std.specs.Prelude.{ℕ, ◌≡◌, ◌^◌, ◌<◌, ◌⊎◌, true, false, List, [], ◌∷◌, ◌++◌, length}
+use Rattle.std.specs.Prelude.{ℕ, ◌≡◌, ◌==◌, ◌+◌, ◌*◌, ◌%◌, ◌^◌, ◌<◌, ◌⊎◌, Bool, true, false, if◌then◌else◌, List, [], ◌∷◌, ◌++◌, length}
 use Rattle.std.specs.List.{Contains}
 use Rattle.sg_facts.specs.declared.shape.Effect.{Effect}
 use Rattle.sg_facts.specs.Facts.{fun_at, state_after}
@@ -14,6 +14,23 @@ use Rattle.sg_walk.specs.ReachedStates.Inside.Bits.{bits, set_numbered}
 abbrev pub IsLed : List (ℕ × Effect) → ℕ → ℕ → ℕ → Place → Type 0
 IsLed effects count old state q =
     (q.state ≡ state) × (q.mask < 2 ^ count) × (may_lead effects 0 (bits count old) (bits count q.mask) ≡ true)
+
+-- effects lead on to a place, where the fields before one are settled, as another place has them, and so many are left from there on
+pub record IsLedOn (effects : List (ℕ × Effect)) (field count old : ℕ) (settled q : Place) : Type 0 where
+  pub rest : ℕ
+  pub state : q.state ≡ settled.state
+  pub mask : q.mask ≡ settled.mask + 2 ^ field * rest
+  pub few : rest < 2 ^ count
+  pub leads : may_lead effects field (bits count old) (bits count rest) ≡ true
+
+-- and so they do, where the next field is set, or not
+pub record IsLedWith (effects : List (ℕ × Effect)) (field count old : ℕ) (settled : Place) (is_set : Bool) (q : Place) : Type 0 where
+  pub led : IsLedOn effects field count old settled q
+  pub next : (led.rest % 2 == 1) ≡ is_set
+
+-- a place in which the field of a number is set, or not, where no field from there on was
+abbrev pub place_with : Place → ℕ → Bool → Place
+place_with settled field is_set = record { state = settled.state; mask = settled.mask + (if is_set then 2 ^ field else 0) }
 
 -- a place that a creation leads to
 pub record IsMadeAt (i : Declared) (fun : ℕ) (q : Place) : Type 0 where
