@@ -5,7 +5,7 @@ use Rattle.std.specs.List.{flat_map, list_all, list_any}
 use Rattle.std.proofs.lemmas.List.{append-nil, append_assoc, drop-map, length-map, take-append-drop, take_all, take_at, take_rest}
 use Rattle.std.proofs.lemmas.List.Concat.{flat_map-append}
 use Rattle.std.proofs.lemmas.List.Folds.{list_any-append}
-use Rattle.std.proofs.lemmas.List.Elements.{All-drop, All-push, All-weaker}
+use Rattle.std.proofs.lemmas.List.Elements.{All-drop, All-nil, All-push, All-weaker}
 use Rattle.sg_known.specs.sg_facts.Facts.{Fun, fun_at, fun_of_shape, no_fun}
 use Rattle.sg_known.specs.sg_facts.declared.shape.FunShape.{FunShape}
 use Rattle.sg_known.specs.sg_facts.Interface.{has_pair}
@@ -147,6 +147,19 @@ begin_more d n f funs old mid new one rest =
     let next : n + 1 ≡ suc n = omega arith in
     rest ∙ ap (λ m. add_spots mid (begins d m funs)) next ∙ ap (λ l. add_spots l (begins d (suc n) funs)) one ∙ begin_at d n funs old f.creation
 
+pub begin_no : (d : Described) (old : List Spot) (n : ℕ) (f : Fun) (b : Bool) → b ≡ f.creation → b ≡ false → old ≡ add_begin d old n f
+begin_no d old n f b is isn't = ap (λ v. cond v (add_unlost d old (first_spot d.facts n)) old) (sym isn't ∙ is)
+
+pub begin_yes : (d : Described) (old new : List Spot) (n : ℕ) (f : Fun) (first : Spot) (b : Bool) → b ≡ f.creation → b ≡ true → first ≡ first_spot d.facts n → new ≡ add_unlost d old first → new ≡ add_begin d old n f
+begin_yes d old new n f first b is so place one =
+    one ∙ ap (add_unlost d old) place ∙ ap (λ v. cond v (add_unlost d old (first_spot d.facts n)) old) (sym so ∙ is)
+
+pub begins_all : (d : Described) (xs : List FunShape) (x : FunShape) (n : ℕ) (old mid new : List Spot) → 1 ≤ length xs → mid ≡ add_begin d old n (fun_of_shape (get_or xs 0 x))
+    → new ≡ add_spots mid (begins d (n + 1) (map fun_of_shape (take (length xs - 1) (drop 1 xs)))) → new ≡ add_spots old (begins d n (map fun_of_shape xs))
+begins_all d [] x n old mid new some one rest = absurd (omega (arith, some))
+begins_all d (y ∷ ys) x n old mid new some one rest =
+    begin_more d n (fun_of_shape y) (map fun_of_shape ys) old mid new one (rest ∙ ap (λ l. add_spots mid (begins d (n + 1) (map fun_of_shape l))) (rest_of (y ∷ ys)))
+
 step_at : (d : Described) (s : Spot) (p : ℕ × ℕ) (pairs : List (ℕ × ℕ)) (old : List Spot) (steps : Bool)
     → add_spots (cond steps (add_unlost d old (next_spot d.facts p.1 s)) old) (nexts_by d s pairs)
     ≡ add_spots old (filter (λ t. not (is_lost d t)) (map (λ q. next_spot d.facts q.1 s) (cond steps (p ∷ filter (is_step d s) pairs) (filter (is_step d s) pairs))))
@@ -278,3 +291,6 @@ reached_push d calls found r reached all = All-push (IsReached d calls) found r 
 
 pub all_rest : (P : Reached → Type 0) (xs : List Reached) → All P xs → All P (take (length xs - 1) (drop 1 xs))
 all_rest P xs all = subst (All P) (sym (rest_of xs)) (All-drop P 1 xs all)
+
+pub none_reached : (d : Described) (calls : ℕ) (found : List Reached) → found ≡ [] → All (IsReached d calls) found
+none_reached d calls found is = subst (All (IsReached d calls)) (sym is) (All-nil (IsReached d calls))

@@ -20,7 +20,7 @@ use Rattle.sg_known.specs.sg_described.Walking.{arg_known, bounds_at, carrier, f
 use Rattle.sg_known.specs.Seen.{carried_in, fields_in}
 use Rattle.sg_safe.specs.declared.reason.KnownField.{KnownField}
 use Rattle.sg_safe.specs.declared.reason.Obstacle.{Obstacle}
-use Rattle.sg_safe.specs.Inside.Replays.{clients_at, fields_from, past_at, spots_from, stops_at}
+use Rattle.sg_safe.specs.Inside.Replays.{IsRowAt, clients_at, fields_from, past_at, spots_from, stops_at}
 use Rattle.sg_safe.specs.Inside.Seen.{bounds_left}
 use Rattle.sg_safe.specs.Reasons.{known_fields, no_client, past_most, shown_mark, stopping_rule}
 
@@ -94,21 +94,29 @@ marked_at d s x =
     let n : 0 + x ≡ x = omega arith in
     marked_from d s.state 0 s.marks x ∙ ap (λ y. bounds_at (mark_at s.marks x) (is_never_zero d.facts s.state y) (most_at (greatest d) y)) n
 
-spot_seen_there : (d : Described) (fun : ℕ) (s : Place) (effects : List (ℕ × Effect)) (most : List ℕ) (fields : List Bounds)
-    → effects ≡ (fun_at d.facts.funs fun).effects → most ≡ greatest d → fields ≡ fields_from d s.state 0 s.marks
-    → (let k : Known = record { args = λ a. carried_in most (carrier effects a); state = between s.state s.state; fields = fields_in fields } in k) ≡ known_at d fun s
-spot_seen_there d fun s effects most fields effects_are most_is fields_are =
-    ap (λ es. let k : Known = record { args = λ a. carried_in most (carrier es a); state = between s.state s.state; fields = fields_in fields } in k) effects_are
-    ∙ ap (λ ms. let k : Known = record { args = λ a. carried_in ms (carrier (fun_at d.facts.funs fun).effects a); state = between s.state s.state; fields = fields_in fields } in k) most_is
-    ∙ ap (λ (f : ℕ → Bounds). let k : Known = record { args = arg_known d fun; state = between s.state s.state; fields = f } in k) (ap fields_in fields_are ∙ fun_ext (marked_at d s))
+-- the row
+pub row_seen : (d : Described) (s : Place) (k : Known) (fields : List Bounds) (low high : ℕ) → k.state ≡ between low high → k.fields ≡ fields_in fields
+    → fields ≡ fields_from d s.state 0 s.marks → low ≡ s.state → high ≡ s.state → IsRowAt d s k
+row_seen d s k fields low high state_is known fields_are low_is high_is = record {
+  state = state_is ∙ ap (λ n. between n high) low_is ∙ ap (between s.state) high_is;
+  fields = known ∙ ap fields_in fields_are ∙ fun_ext (marked_at d s);
+}
 
-pub spot_seen : (d : Described) (fun : ℕ) (s : Place) (effects : List (ℕ × Effect)) (most : List ℕ) (fields : List Bounds) (low high : ℕ)
-    → effects ≡ (fun_at d.facts.funs fun).effects → most ≡ greatest d → fields ≡ fields_from d s.state 0 s.marks → low ≡ s.state → high ≡ s.state
-    → (let k : Known = record { args = λ a. carried_in most (carrier effects a); state = between low high; fields = fields_in fields } in k) ≡ known_at d fun s
-spot_seen d fun s effects most fields low high effects_are most_is fields_are low_is high_is =
-    ap (λ n. let k : Known = record { args = λ a. carried_in most (carrier effects a); state = between n high; fields = fields_in fields } in k) low_is
-    ∙ ap (λ n. let k : Known = record { args = λ a. carried_in most (carrier effects a); state = between s.state n; fields = fields_in fields } in k) high_is
-    ∙ spot_seen_there d fun s effects most fields effects_are most_is fields_are
+pub row_kept : (d : Described) (s : Place) (k l : Known) → IsRowAt d s k → l.state ≡ k.state → l.fields ≡ k.fields → IsRowAt d s l
+row_kept d s k l row state fields = record { state = state ∙ row.state; fields = fields ∙ row.fields }
+
+-- the arguments of a call
+pub args_seen : (d : Described) (fun : ℕ) (effects : List (ℕ × Effect)) (most : List ℕ) → effects ≡ (fun_at d.facts.funs fun).effects → most ≡ greatest d
+    → (λ a. carried_in most (carrier effects a)) ≡ arg_known d fun
+args_seen d fun effects most effects_are most_is =
+    ap (λ es. λ (a : ℕ). carried_in most (carrier es a)) effects_are ∙ ap (λ ms. λ (a : ℕ). carried_in ms (carrier (fun_at d.facts.funs fun).effects a)) most_is
+
+pub call_seen : (d : Described) (fun : ℕ) (s : Place) (k : Known) (args : ℕ → Bounds) → IsRowAt d s k → args ≡ arg_known d fun
+    → (let c : Known = record { args = args; state = k.state; fields = k.fields } in c) ≡ known_at d fun s
+call_seen d fun s k args row args_are =
+    ap (λ (f : ℕ → Bounds). let c : Known = record { args = f; state = k.state; fields = k.fields } in c) args_are
+    ∙ ap (λ b. let c : Known = record { args = arg_known d fun; state = b; fields = k.fields } in c) row.state
+    ∙ ap (λ (f : ℕ → Bounds). let c : Known = record { args = arg_known d fun; state = between s.state s.state; fields = f } in c) row.fields
 
 -- what may make a call fail there
 pub obstacle_is : (d : Described) (fun : ℕ) (s : Place) (k : Known) (es : List (ℕ × Effect)) (rules : List Rule) (state word : ℕ) (a b c bc abc : Option Obstacle)

@@ -4,11 +4,14 @@ ghost use Rattle.std.specs.List.{list_all};
 ghost use Rattle.std.specs.Option.{option_map, option_or};
 ghost use Rattle.sg_known.specs.sg_facts.Facts.{fun_of_shape};
 ghost use Rattle.sg_known.specs.sg_described.Described.{rule_of};
+ghost use Rattle.sg_known.specs.sg_described.Known.{greatest};
+ghost use Rattle.sg_known.specs.sg_described.Meaning.{most_at};
+ghost use Rattle.sg_known.specs.sg_described.NeverZero.{is_never_zero};
 ghost use Rattle.sg_known.specs.sg_described.Safe.{IsPlain};
-ghost use Rattle.sg_known.specs.sg_described.Walking.{bounds_at, caller_fits, field_known, known_at, left_most};
-ghost use Rattle.sg_known.specs.Seen.{fields_in, known_in, pairs_of};
+ghost use Rattle.sg_known.specs.sg_described.Walking.{arg_known, bounds_at, caller_fits, field_known, known_at, left_most};
+ghost use Rattle.sg_known.specs.Seen.{args_in, fields_in, known_in, pairs_of};
 ghost use Rattle.sg_known.specs.Surveys.{IsSurvey, subject_of};
-ghost use Rattle.sg_safe.specs.Inside.Replays.{IsLater, clients_at, fields_from, past_at, spots_from, stops_at};
+ghost use Rattle.sg_safe.specs.Inside.Replays.{IsLater, IsRowAt, clients_at, fields_from, past_at, spots_from, stops_at};
 ghost use Rattle.sg_safe.specs.Inside.Routes.{IsReached, most_before, place_in};
 ghost use Rattle.sg_safe.specs.Inside.Seen.{HasFewFields, pairs_in, shown};
 ghost use Rattle.sg_safe.specs.Reasons.{but_walk, failing, fails_at, fails_by, fails_first, fails_on, first_from, first_in, known_spot, no_client, obstacle_at, past_most, stopping_rule};
@@ -25,15 +28,21 @@ use std::alloc::Global;
 
 // ---- what is known at a spot
 
-// What is known of a field, by its mark, whether it is never 0, and its greatest number.
-fn mark_bounds(mark: FieldState, some: bool, most: u64) -> Bounds
-    ensures { result ≡ bounds_at (known_of mark) some most }
+// What is known of a field in a state, by its mark.
+fn mark_bounds(survey: &Survey<'_>, state: u8, field: u8, mark: FieldState) -> Bounds
+    requires survey { IsSurvey survey.now }
+    requires field { field < length (subject_of survey.now).facts.fields }
+    ensures { let d = subject_of survey.now in result ≡ bounds_at (known_of mark) (is_never_zero d.facts state field) (most_at (greatest d) field) }
 {
     match mark {
         FieldState::Unset => ZERO,
         FieldState::Good => Bounds {
-            least: if some { 1 } else { 0 },
-            most,
+            least: if is_some_in(survey, state, field) {
+                1
+            } else {
+                0
+            },
+            most: bounds_up_to(survey.greatest.as_slice(), field).most,
         },
         FieldState::Unknown => ANY,
     }
@@ -55,39 +64,41 @@ fn add_bounds(
     match marks {
         [] => Ok(()),
         [first, rest @ ..] => {
-            let most = bounds_up_to(survey.greatest.as_slice(), field).most;
-            fields.push(mark_bounds(*first, is_some_in(survey, state, field), most))?;
+            fields.push(mark_bounds(survey, state, field, *first))?;
             add_bounds(fields, survey, state, field + 1, rest)
         }
     }
 }
 
-// What is known of the replayed call of a function at a spot.
-fn seen_at<'a>(
-    alloc: Global,
-    survey: &'a Survey<'_>,
-    fun: u8,
-    spot: Spot,
-) -> Result<Seen<'a>, NoMemory>
+// What is known of the row at a spot; of a call nothing yet.
+fn seen_at<'a>(alloc: Global, survey: &'a Survey<'_>, spot: Spot) -> Result<Seen<'a>, NoMemory>
     requires survey { IsSurvey survey.now }
     requires fields { HasFewFields (subject_of survey.now) }
-    ensures { let d = subject_of survey.now in IfOk result (λ seen. known_in seen ≡ known_at d fun (shown d spot)) }
+    ensures { let d = subject_of survey.now in IfOk result (λ seen. IsRowAt d (shown d spot) (known_in seen)) }
 {
-    let description = survey.description;
-    let marks = marks_of(description, &spot);
-    let mut fields = Vec::new(alloc);
+    let marks = marks_of(survey.description, &spot);
+    let mut fields = Vec::with_capacity(alloc, marks.len())?;
     add_bounds(&mut fields, survey, spot.state, 0, marks)?;
     Ok(Seen {
-        args: ArgsKnown::Carried(
-            description.shape.fun(fun).effects,
-            survey.greatest.as_slice(),
-        ),
+        args: ArgsKnown::Any,
         state: Bounds {
             least: u64::from(spot.state),
             most: u64::from(spot.state),
         },
         fields,
     })
+}
+
+// What is known of the arguments of the replayed call of a function.
+fn args_known<'a>(survey: &'a Survey<'_>, fun: u8) -> ArgsKnown<'a>
+    requires { IsSurvey survey.now }
+    ensures { args_in result ≡ arg_known (subject_of survey.now) fun }
+{
+    let description = survey.description;
+    ArgsKnown::Carried(
+        description.shape.fun(fun).effects,
+        survey.greatest.as_slice(),
+    )
 }
 
 // Adds what is known of fields with their marks, numbered from one on, by their greatest numbers.
@@ -271,20 +282,23 @@ fn obstacle(survey: &Survey<'_>, fun: u8, spot: Spot, seen: &Seen<'_>) -> Option
 
 // ---- where it may fail
 
-// Whether, and why, the replayed call of a function may fail at a spot.
-fn failure_at(
+// Whether, and why, the replayed call of a function may fail at a spot, by what is known of the row there.
+fn failure_at<'a>(
     alloc: Global,
-    survey: &Survey<'_>,
+    survey: &'a Survey<'_>,
     fun: u8,
     spot: Spot,
+    seen: &mut Seen<'a>,
 ) -> Result<Option<FailingCall>, NoMemory>
     requires survey { IsSurvey survey.now }
     requires plain { IsPlain (subject_of survey.now) }
     requires fields { HasFewFields (subject_of survey.now) }
-    ensures { let d = subject_of survey.now in IfOk result (λ found. found ≡ fails_at d fun (shown d spot)) }
+    requires row { let d = subject_of survey.now in IsRowAt d (shown d spot) (known_in seen.old) }
+    ensures failure { let d = subject_of survey.now in IfOk result (λ found. found ≡ fails_at d fun (shown d spot)) }
+    ensures row { let d = subject_of survey.now in IsRowAt d (shown d spot) (known_in seen.new) }
 {
-    let seen = seen_at(alloc, survey, fun, spot)?;
-    match obstacle(survey, fun, spot, &seen) {
+    seen.args = args_known(survey, fun);
+    match obstacle(survey, fun, spot, seen) {
         None => Ok(None),
         Some(obstacle) => Ok(Some(FailingCall {
             fun,
@@ -309,12 +323,9 @@ fn begin_failure(
     if !fun.is_creation() {
         return Ok(None);
     }
-    failure_at(
-        alloc,
-        survey,
-        number,
-        blank_spot(survey.description, number),
-    )
+    let spot = blank_spot(survey.description, number);
+    let mut seen = seen_at(alloc, survey, spot)?;
+    failure_at(alloc, survey, number, spot, &mut seen)
 }
 
 /// The first call of a walk that may fail, where it begins with one of some functions, which are numbered from one on.
@@ -340,43 +351,64 @@ pub(crate) fn first_failure(
 }
 
 // Whether, and why, the next call may fail of a walk that goes on from a spot by a pair.
-fn step_failure(
+fn step_failure<'a>(
     alloc: Global,
-    survey: &Survey<'_>,
+    survey: &'a Survey<'_>,
     spot: Spot,
+    seen: &mut Seen<'a>,
     pair: (u8, u8),
 ) -> Result<Option<FailingCall>, NoMemory>
     requires survey { IsSurvey survey.now }
     requires plain { IsPlain (subject_of survey.now) }
     requires fields { HasFewFields (subject_of survey.now) }
-    ensures { let d = subject_of survey.now in IfOk result (λ found. found ≡ fails_by d (shown d spot) (pair.0, pair.1)) }
+    requires row { let d = subject_of survey.now in IsRowAt d (shown d spot) (known_in seen.old) }
+    ensures row { let d = subject_of survey.now in IsRowAt d (shown d spot) (known_in seen.new) }
+    ensures failure { let d = subject_of survey.now in IfOk result (λ found. found ≡ fails_by d (shown d spot) (pair.0, pair.1)) }
 {
     if !steps_from(survey.description, spot, pair) {
         return Ok(None);
     }
-    Ok(failure_at(alloc, survey, pair.1, spot)?)
+    Ok(failure_at(alloc, survey, pair.1, spot, seen)?)
 }
 
 // The first next call that may fail, of a walk that goes on from a spot by one of some pairs.
-fn steps_failure(
+fn steps_failure<'a>(
     alloc: Global,
-    survey: &Survey<'_>,
+    survey: &'a Survey<'_>,
     spot: Spot,
+    seen: &mut Seen<'a>,
     steps: &[(u8, u8)],
 ) -> Result<Option<FailingCall>, NoMemory>
     requires survey { IsSurvey survey.now }
     requires plain { IsPlain (subject_of survey.now) }
     requires fields { HasFewFields (subject_of survey.now) }
+    requires row { let d = subject_of survey.now in IsRowAt d (shown d spot) (known_in seen.old) }
     ensures { let d = subject_of survey.now in
         IfOk result (λ found. found ≡ first_in (fails_by d (shown d spot)) (pairs_in steps.now)) }
 {
     match steps {
         [] => Ok(None),
-        [first, rest @ ..] => match step_failure(alloc, survey, spot, *first)? {
+        [first, rest @ ..] => match step_failure(alloc, survey, spot, seen, *first)? {
             Some(found) => Ok(Some(found)),
-            None => steps_failure(alloc, survey, spot, rest),
+            None => steps_failure(alloc, survey, spot, seen, rest),
         },
     }
+}
+
+// The first next call that may fail, of a walk that goes on from a spot.
+fn spot_failure(
+    alloc: Global,
+    survey: &Survey<'_>,
+    spot: Spot,
+) -> Result<Option<FailingCall>, NoMemory>
+    requires survey { IsSurvey survey.now }
+    requires plain { IsPlain (subject_of survey.now) }
+    requires fields { HasFewFields (subject_of survey.now) }
+    ensures { let d = subject_of survey.now in IfOk result (λ found. found ≡ fails_on d (shown d spot)) }
+{
+    let description = survey.description;
+    let mut seen = seen_at(alloc, survey, spot)?;
+    Ok(steps_failure(alloc, survey, spot, &mut seen, description.shape.steps)?)
 }
 
 /// The first next call that may fail, with its walk, where walks go on from where some have come to.
@@ -393,15 +425,12 @@ pub(crate) fn next_failure(
 {
     match reached {
         [] => Ok(None),
-        [first, rest @ ..] => {
-            let description = survey.description;
-            match steps_failure(alloc, survey, first.spot, description.shape.steps)? {
-                Some(call) => Ok(Some(Unsafe::Fails {
-                    walk: first.walk,
-                    call,
-                })),
-                None => next_failure(alloc, survey, rest),
-            }
-        }
+        [first, rest @ ..] => match spot_failure(alloc, survey, first.spot)? {
+            Some(call) => Ok(Some(Unsafe::Fails {
+                walk: first.walk,
+                call,
+            })),
+            None => next_failure(alloc, survey, rest),
+        },
     }
 }

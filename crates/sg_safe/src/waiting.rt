@@ -187,8 +187,8 @@ fn keeps(description: &Description, waiter: u8, fun: u8, states: Bounds, pairs: 
     match pairs {
         [] => true,
         [first, rest @ ..] => {
-            (!meet(description, waiter, fun, states, *first)
-                || state_left(&description.shape, fun, first.0) == first.0)
+            (state_left(&description.shape, fun, first.0) == first.0
+                || !meet(description, waiter, fun, states, *first))
                 && keeps(description, waiter, fun, states, rest)
         }
     }

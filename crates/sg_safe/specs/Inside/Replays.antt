@@ -3,14 +3,14 @@ use Rattle.std.specs.Prelude.{ℕ, ◌≡◌, suc, not, nat_le, List, [], ◌∷
 use Rattle.std.specs.Bool.{then_some}
 use Rattle.std.specs.declared.option.Option.{Option}
 use Rattle.sg_known.specs.sg_facts.declared.shape.Effect.{Effect}
-use Rattle.sg_known.specs.sg_facts.Walks.{FieldMark}
+use Rattle.sg_known.specs.sg_facts.Walks.{FieldMark, Spot}
 use Rattle.sg_known.specs.sg_walk.declared.spot.FieldState.{FieldState}
 use Rattle.sg_known.specs.sg_described.declared.bounds.Bounds.{Bounds}
 use Rattle.sg_known.specs.sg_described.Described.{Described, Rule}
-use Rattle.sg_known.specs.sg_described.Known.{Known, greatest, may_stop}
+use Rattle.sg_known.specs.sg_described.Known.{Known, between, greatest, may_stop}
 use Rattle.sg_known.specs.sg_described.Meaning.{most_at}
 use Rattle.sg_known.specs.sg_described.NeverZero.{is_never_zero}
-use Rattle.sg_known.specs.sg_described.Walking.{bounds_at, caller_fits, left_most}
+use Rattle.sg_known.specs.sg_described.Walking.{bounds_at, caller_fits, field_known, left_most}
 use Rattle.sg_known.specs.Seen.{fields_in, up_to}
 use Rattle.sg_safe.specs.declared.reason.FailingCall.{FailingCall}
 use Rattle.sg_safe.specs.declared.reason.KnownField.{KnownField}
@@ -29,6 +29,11 @@ fields_from d state x (m ∷ marks) = bounds_at m (is_never_zero d.facts state x
 abbrev pub spots_from : List Bounds → List ℕ → ℕ → List FieldState → List KnownField
 spots_from fields most x [] = []
 spots_from fields most x (m ∷ marks) = record { mark = m; bounds = fields_in fields x; own = up_to most x } ∷ spots_from fields most (suc x) marks
+
+-- what is known of the row at a spot, of whichever call
+pub record IsRowAt (d : Described) (s : Spot) (k : Known) : Type 0 where
+  pub state : k.state ≡ between s.state s.state
+  pub fields : k.fields ≡ field_known d s
 
 -- the first field that effects set to the caller and that may hold no client
 abbrev pub clients_at : Described → ℕ → List (ℕ × Effect) → Option Obstacle

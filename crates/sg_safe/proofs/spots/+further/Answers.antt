@@ -4,7 +4,7 @@ use Rattle.std.specs.Prelude.{All}
 use Rattle.sg_known.specs.sg_described.Described.{described_of}
 use Rattle.sg_known.specs.sg_described.Walking.{spots_within}
 use Rattle.sg_safe.specs.Inside.Routes.{IsDone, IsReached, place_in}
-use Rattle.sg_safe.proofs.Routing.{all_done, reached_room, spots_more}
+use Rattle.sg_safe.proofs.Routing.{all_done, spots_more}
 use Rattle.sg_safe.proofs.spots.+further.Goals as goal
 
 pub further-requires : goal.further-requires

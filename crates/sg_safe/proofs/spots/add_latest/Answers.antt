@@ -1,5 +1,5 @@
 -- From those that were found last.
-use Rattle.std.proofs.Common.{◌≡◌, ◌<◌, ◌-◌, ◌∙◌, length, map, take, drop, ap}
+use Rattle.std.proofs.Common.{◌<◌, ◌-◌, ◌∙◌, length, take, drop, ap}
 use Rattle.sg_known.specs.sg_described.Described.{described_of}
 use Rattle.sg_safe.specs.Inside.Routes.{IsReached}
 use Rattle.sg_safe.proofs.Routing.{all_latest, latest_more, reached_weaker}

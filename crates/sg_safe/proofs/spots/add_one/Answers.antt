@@ -1,5 +1,5 @@
 -- A spot is found by its key.
-use Rattle.std.proofs.Common.{length, map, ◌∙◌, ap}
+use Rattle.std.proofs.Common.{map, ◌∙◌, ap}
 use Rattle.sg_known.specs.sg_described.Described.{described_of}
 use Rattle.sg_safe.specs.Inside.Keys.{keyed}
 use Rattle.sg_safe.specs.Inside.Routes.{place_in}

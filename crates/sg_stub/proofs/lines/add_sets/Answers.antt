@@ -6,9 +6,11 @@ use Rattle.sg_stub.proofs.lines.add_sets.Goals.{then-has+in_ok-push, else-has}
 use Rattle.sg_stub.proofs.lines.add_sets.Goals as goal
 
 pub line_of-requires : goal.line_of-requires
-line_of-requires c =
-    walk_stands c.args.iface.now c.args.walks.now c.args.made c.args.state c.sets.number c.requires.fits c.requires.walks
-    ((c.requires.triples c.args.made c.args.state c.sets.number).0 (sym c.has.ensures ∙ c.if-has.true))
+line_of-requires c = record {
+  stands =
+      walk_stands c.args.iface.now c.args.walks.now c.args.made c.args.state c.sets.number c.requires.fits c.requires.walks
+      ((c.requires.triples c.args.made c.args.state c.sets.number).0 (sym c.has.ensures ∙ c.if-has.true));
+}
 
 pub sets-preserved : goal.sets-preserved
 sets-preserved c = elim c.if-has.branch [
