@@ -7,4 +7,5 @@ pub mod NeverZero
 pub mod Safe
 pub mod Waiting
 pub mod Walking
+pub use Rattle.sg_slots.specs as sg_slots
 pub use Rattle.sg_facts.specs as sg_facts

@@ -19,6 +19,7 @@ pub use description::{
 };
 pub use laws::{never_zero_is_greatest, safe_services_keep_laws};
 pub use sg_facts::{
-    Code, Effect, FIRST_CLIENT, FieldShape, FunShape, Kind, LAST_CLIENT, Leaves, ListOf,
-    MOST_FIELDS, NoMemory, Parents, Shape, Walk,
+    Call, Code, Effect, FIRST_CLIENT, FieldShape, FunShape, Kind, LAST_CLIENT, Leaves, LentValue,
+    ListOf, MOST_FIELDS, NoMemory, Outcome, Parents, Path, Service, Shape, Stops, Walk,
 };
+pub use sg_slots::{Decision, Slots, carry_out};

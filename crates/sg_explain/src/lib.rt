@@ -24,11 +24,13 @@ pub use parts::put;
 pub use reasons::put_why;
 pub use rebuilt::{put_counts, put_names};
 pub use sg_input::{
-    Accepted, Bytes, History, InputTexts, Interface, Lexer, MOST_INTERFACE, MOST_RUN, MOST_SCRIPT,
-    NoMemory, ParseError, Read, RefusalKind, Rule, Script, ScriptError, ScriptFault, Shape,
-    Statement, Tests, Tree, accepted_line, compile, compiled, cut, examine, history_of,
-    interface_line, is_own, parse, print_tables, put_rule, put_term, put_tests, read_script,
-    refusal_line, refusal_name, script_of, texts_of, upgraded, verdict,
+    Accepted, Bytes, History, InputTexts, Interface, Lexer, MOST_DIVIDER, MOST_INPUT,
+    MOST_INTERFACE, MOST_MULTI_INPUT, MOST_RUN, MOST_RUN_INPUT, MOST_SCRIPT, MultiScript, NoMemory,
+    ParseError, Read, RefusalKind, Rule, Script, ScriptError, ScriptFault, Shape, Statement,
+    TOO_LONG, Tests, Tree, accepted_line, compile, compiled, cut, examine, history_of,
+    interface_line, is_own, one_cut, one_input, parse, print_tables, put_rule, put_term, put_tests,
+    read_input, read_multi_input, read_script, refusal_line, refusal_name, script_of, texts_of,
+    upgraded, verdict,
 };
 pub use stuck::put_stuck;
 pub use words::{Sentences, TOO_LONG_EXPLAINED, check_words};

@@ -1,14 +1,14 @@
 -- What a call is answered, by the verdict on it.
 use Rattle.std.proofs.Common.{◌≡◌, ℕ, Bool, true, false, cond, List, [], map, None, Some, refl, sym, ◌∙◌, ap}
 use Rattle.std.specs.declared.option.Option.{Option}
-use Rattle.sg_facts.specs.sg_base.declared.value.Value.TheVariants.{Word}
-use Rattle.sg_facts.specs.sg_base.declared.call.Call.{Call}
-use Rattle.sg_facts.specs.sg_base.declared.reply.Code.TheVariants.{Overflow}
-use Rattle.sg_facts.specs.sg_base.declared.reply.Reply.TheVariants.{Ok, Refused as IsRefused}
-use Rattle.sg_facts.specs.Facts.{Fun, fun_at}
-use Rattle.sg_facts.specs.Track.{fields_after}
-use Rattle.sg_facts.specs.Inside.Rows.{left_by}
-use Rattle.sg_slots.specs.Carry.{words_of}
+use Rattle.sg_described.specs.sg_facts.sg_base.declared.value.Value.TheVariants.{Word}
+use Rattle.sg_described.specs.sg_facts.sg_base.declared.call.Call.{Call}
+use Rattle.sg_described.specs.sg_facts.sg_base.declared.reply.Code.TheVariants.{Overflow}
+use Rattle.sg_described.specs.sg_facts.sg_base.declared.reply.Reply.TheVariants.{Ok, Refused as IsRefused}
+use Rattle.sg_described.specs.sg_facts.Facts.{Fun, fun_at}
+use Rattle.sg_described.specs.sg_facts.Track.{fields_after}
+use Rattle.sg_described.specs.sg_facts.Inside.Rows.{left_by}
+use Rattle.sg_described.specs.sg_slots.Carry.{words_of}
 use Rattle.sg_described.specs.declared.description.Verdict.{Verdict}
 use Rattle.sg_described.specs.declared.description.Verdict.TheVariants.{Refuse, Wait, Give}
 use Rattle.sg_described.specs.Described.{Described, rules_at}

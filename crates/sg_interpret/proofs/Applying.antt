@@ -3,12 +3,12 @@ use Rattle.std.proofs.Common.{◌≡◌, ℕ, ◌-◌, ◌≤◌, Bool, true, fa
 use Rattle.std.proofs.lemmas.List.{take_all}
 use Rattle.std.specs.Prelude.{◌==◌, ◌&&◌, slice_set}
 use Rattle.std.specs.List.{list_any}
-use Rattle.sg_facts.specs.sg_base.declared.value.Value.{Value}
-use Rattle.sg_facts.specs.sg_base.declared.call.Call.{Call}
-use Rattle.sg_facts.specs.sg_base.declared.reply.Good.{Good}
-use Rattle.sg_facts.specs.declared.shape.Effect.{Effect}
-use Rattle.sg_facts.specs.Allowed.{sets_once}
-use Rattle.sg_facts.specs.Track.{effect_of, field_at}
+use Rattle.sg_described.specs.sg_facts.sg_base.declared.value.Value.{Value}
+use Rattle.sg_described.specs.sg_facts.sg_base.declared.call.Call.{Call}
+use Rattle.sg_described.specs.sg_facts.sg_base.declared.reply.Good.{Good}
+use Rattle.sg_described.specs.sg_facts.declared.shape.Effect.{Effect}
+use Rattle.sg_described.specs.sg_facts.Allowed.{sets_once}
+use Rattle.sg_described.specs.sg_facts.Track.{effect_of, field_at}
 use Rattle.sg_described.specs.Meaning.{fits, is_up_to, most_at}
 use Rattle.sg_described.proofs.Keeping.Basics.{apart_of, both_true, neither, no_it}
 use Rattle.sg_described.proofs.Keeping.Effects.{set_other}

@@ -4,24 +4,24 @@ use Rattle.std.specs.Prelude.{◌&&◌, replicate}
 use Rattle.std.specs.List.{list_any}
 use Rattle.std.specs.Option.{option_map}
 use Rattle.std.specs.declared.option.Option.{Option}
-use Rattle.sg_facts.specs.sg_base.declared.value.Value.TheVariants.{Word}
-use Rattle.sg_facts.specs.sg_base.declared.call.Call.{Call}
-use Rattle.sg_facts.specs.sg_base.declared.reply.Good.{Good}
-use Rattle.sg_facts.specs.sg_base.declared.reply.Reply.{Reply}
-use Rattle.sg_facts.specs.sg_base.declared.reply.Reply.TheVariants.{Ok, Refused as IsRefused}
-use Rattle.sg_facts.specs.Facts.{fun_at, is_text_kind, state_after, takes_parent, writes}
-use Rattle.sg_facts.specs.Fields.{empty_field}
-use Rattle.sg_facts.specs.Limits.{most_fields}
-use Rattle.sg_facts.specs.Object.{Object, first_text, patch_of, path_of, place_of}
-use Rattle.sg_facts.specs.Track.{fields_after, new_row, row_at}
-use Rattle.sg_facts.specs.Inside.Rows.{patch_at}
-use Rattle.sg_slots.specs.declared.decision.Decision.{Decision}
-use Rattle.sg_slots.specs.declared.decision.Decision.TheVariants.{Make, Set, Remove}
-use Rattle.sg_slots.specs.Carry.{words_of}
-use Rattle.sg_slots.specs.Decide.{Decides}
-use Rattle.sg_slots.specs.Slots.{AreIds, Held, entry_at, object_of, row_with, rows_of}
-use Rattle.sg_slots.proofs.Deciding.{block_right, refuse_right, remove_right, set_word_right}
-use Rattle.sg_slots.proofs.Rows.{row_at-rows_of, rows_of-more}
+use Rattle.sg_described.specs.sg_facts.sg_base.declared.value.Value.TheVariants.{Word}
+use Rattle.sg_described.specs.sg_facts.sg_base.declared.call.Call.{Call}
+use Rattle.sg_described.specs.sg_facts.sg_base.declared.reply.Good.{Good}
+use Rattle.sg_described.specs.sg_facts.sg_base.declared.reply.Reply.{Reply}
+use Rattle.sg_described.specs.sg_facts.sg_base.declared.reply.Reply.TheVariants.{Ok, Refused as IsRefused}
+use Rattle.sg_described.specs.sg_facts.Facts.{fun_at, is_text_kind, state_after, takes_parent, writes}
+use Rattle.sg_described.specs.sg_facts.Fields.{empty_field}
+use Rattle.sg_described.specs.sg_facts.Limits.{most_fields}
+use Rattle.sg_described.specs.sg_facts.Object.{Object, first_text, patch_of, path_of, place_of}
+use Rattle.sg_described.specs.sg_facts.Track.{fields_after, new_row, row_at}
+use Rattle.sg_described.specs.sg_facts.Inside.Rows.{patch_at}
+use Rattle.sg_described.specs.sg_slots.declared.decision.Decision.{Decision}
+use Rattle.sg_described.specs.sg_slots.declared.decision.Decision.TheVariants.{Make, Set, Remove}
+use Rattle.sg_described.specs.sg_slots.Carry.{words_of}
+use Rattle.sg_described.specs.sg_slots.Decide.{Decides}
+use Rattle.sg_described.specs.sg_slots.Slots.{AreIds, Held, entry_at, object_of, row_with, rows_of}
+use Rattle.sg_described.proofs.sg_slots.Deciding.{block_right, refuse_right, remove_right, set_word_right}
+use Rattle.sg_described.proofs.sg_slots.Rows.{row_at-rows_of, rows_of-more}
 use Rattle.sg_described.specs.declared.description.Verdict.{Verdict}
 use Rattle.sg_described.specs.declared.description.Verdict.TheVariants.{Refuse, Wait, Give}
 use Rattle.sg_described.specs.Described.{Described, rules_at}

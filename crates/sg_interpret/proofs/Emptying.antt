@@ -3,11 +3,11 @@ use Rattle.std.proofs.Common.{◌≡◌, ℕ, zero, suc, ◌≤◌, Bool, true, 
 use Rattle.std.specs.Prelude.{◌&&◌, nat_le}
 use Rattle.std.specs.List.{list_all}
 use Rattle.std.proofs.lemmas.Bool.Decides.{nat_tests}
-use Rattle.sg_facts.specs.sg_base.declared.value.Value.TheVariants.{Word, Text}
-use Rattle.sg_facts.specs.Allowed.{acts_on_one, each_replays_well, is_allowed, keeps_private, keeps_to, replays_all, steps_make_none}
-use Rattle.sg_facts.specs.Facts.{Facts, Field}
-use Rattle.sg_facts.specs.Fields.{empty_field}
-use Rattle.sg_facts.specs.Limits.{most_fields}
+use Rattle.sg_described.specs.sg_facts.sg_base.declared.value.Value.TheVariants.{Word, Text}
+use Rattle.sg_described.specs.sg_facts.Allowed.{acts_on_one, each_replays_well, is_allowed, keeps_private, keeps_to, replays_all, steps_make_none}
+use Rattle.sg_described.specs.sg_facts.Facts.{Facts, Field}
+use Rattle.sg_described.specs.sg_facts.Fields.{empty_field}
+use Rattle.sg_described.specs.sg_facts.Limits.{most_fields}
 use Rattle.sg_described.specs.Described.{Described}
 use Rattle.sg_described.specs.Safe.{IsPlain}
 use Rattle.sg_described.proofs.Keeping.Basics.{both_true}

@@ -1,22 +1,22 @@
 -- A decision that is right and carried out is what asking a service does.
 use Rattle.std.proofs.Common.{◌≡◌, ℕ, ◌+◌, ◌<◌, [], None, Some, refl, sym, ◌∙◌, ap, subst, arith}
 use Rattle.std.specs.Prelude.{IfSome}
-use Rattle.sg_facts.specs.sg_base.Stops.{asked_after}
-use Rattle.sg_facts.specs.sg_base.declared.call.Call.{Call}
-use Rattle.sg_facts.specs.sg_base.declared.reply.Good.{Good}
-use Rattle.sg_facts.specs.sg_base.declared.reply.Reply.{Reply}
-use Rattle.sg_facts.specs.sg_base.declared.reply.Reply.TheVariants.{Ok}
-use Rattle.sg_facts.specs.declared.outcome.Outcome.{Outcome}
-use Rattle.sg_facts.specs.declared.outcome.Outcome.TheVariants.{Replied, Blocks, Stopped, NoMemory}
-use Rattle.sg_facts.specs.Facts.{Facts}
-use Rattle.sg_facts.specs.Invoke.{Invokes, Points, parts_of}
-use Rattle.sg_facts.specs.Legal.{Table}
-use Rattle.sg_facts.specs.Object.{after}
-use Rattle.sg_slots.specs.declared.decision.Decision.{Decision}
-use Rattle.sg_slots.specs.declared.decision.Decision.TheVariants.{Refuse, Block, Make, Enlist, Set, Keep, Remove}
-use Rattle.sg_slots.specs.Carry.{Carries, held_after, parts_in, reply_to, words_of}
-use Rattle.sg_slots.specs.Decide.{Decides}
-use Rattle.sg_slots.specs.Slots.{Body, Held, object_of}
+use Rattle.sg_described.specs.sg_facts.sg_base.Stops.{asked_after}
+use Rattle.sg_described.specs.sg_facts.sg_base.declared.call.Call.{Call}
+use Rattle.sg_described.specs.sg_facts.sg_base.declared.reply.Good.{Good}
+use Rattle.sg_described.specs.sg_facts.sg_base.declared.reply.Reply.{Reply}
+use Rattle.sg_described.specs.sg_facts.sg_base.declared.reply.Reply.TheVariants.{Ok}
+use Rattle.sg_described.specs.sg_facts.declared.outcome.Outcome.{Outcome}
+use Rattle.sg_described.specs.sg_facts.declared.outcome.Outcome.TheVariants.{Replied, Blocks, Stopped, NoMemory}
+use Rattle.sg_described.specs.sg_facts.Facts.{Facts}
+use Rattle.sg_described.specs.sg_facts.Invoke.{Invokes, Points, parts_of}
+use Rattle.sg_described.specs.sg_facts.Legal.{Table}
+use Rattle.sg_described.specs.sg_facts.Object.{after}
+use Rattle.sg_described.specs.sg_slots.declared.decision.Decision.{Decision}
+use Rattle.sg_described.specs.sg_slots.declared.decision.Decision.TheVariants.{Refuse, Block, Make, Enlist, Set, Keep, Remove}
+use Rattle.sg_described.specs.sg_slots.Carry.{Carries, held_after, parts_in, reply_to, words_of}
+use Rattle.sg_described.specs.sg_slots.Decide.{Decides}
+use Rattle.sg_described.specs.sg_slots.Slots.{Body, Held, object_of}
 
 module _ {E : Type 0} (facts : Facts) (ask : Table) (parts : ℕ → ℕ) (body : E → Body) (held : Held E) (call : Call) (d : Decision E) (is : Decides facts ask parts body held call d) where
   -- a decision of some part has an Ok as its reply

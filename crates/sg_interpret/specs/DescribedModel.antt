@@ -1,5 +1,5 @@
 -- A described service as plain data, with the laws that it keeps to.
-use Rattle.sg_slots.specs.RowModel.{RowModel}
+use Rattle.sg_described.specs.sg_slots.RowModel.{RowModel}
 use Rattle.sg_described.specs.Described.{Described}
 use Rattle.sg_described.specs.DescribedSound.{IsDescribedSound}
 use Rattle.sg_described.specs.Meaning.{described_parts, described_table}

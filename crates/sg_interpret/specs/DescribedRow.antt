@@ -1,7 +1,7 @@
 -- The row that an entry of a described service stands for.
 use Rattle.std.specs.Prelude.{length, map, take}
-use Rattle.sg_facts.specs.sg_base.declared.value.Value.TheVariants.{Word}
-use Rattle.sg_slots.specs.Slots.{Body}
+use Rattle.sg_described.specs.sg_facts.sg_base.declared.value.Value.TheVariants.{Word}
+use Rattle.sg_described.specs.sg_slots.Slots.{Body}
 use Rattle.sg_described.specs.Described.{Described}
 use Rattle.sg_interpret.specs.declared.entry.DescribedEntry.{DescribedEntry}
 

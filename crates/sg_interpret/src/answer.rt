@@ -1,8 +1,8 @@
 // What a call is answered.
 ghost use Rattle.std.specs.Prelude.{◌≡◌, ◌≤◌, true, length, take};
-ghost use Rattle.sg_facts.specs.Allowed.{sets_once};
-ghost use Rattle.sg_facts.specs.Facts.{fun_at, fun_of_shape};
-ghost use Rattle.sg_facts.specs.Limits.{most_fields};
+ghost use Rattle.sg_described.specs.sg_facts.Allowed.{sets_once};
+ghost use Rattle.sg_described.specs.sg_facts.Facts.{fun_at, fun_of_shape};
+ghost use Rattle.sg_described.specs.sg_facts.Limits.{most_fields};
 ghost use Rattle.sg_described.specs.Described.{described_of};
 ghost use Rattle.sg_described.specs.Safe.{IsPlain};
 ghost use Rattle.sg_interpret.specs.Inside.Answers.{IsAnswer, IsAnswerBy};
@@ -10,8 +10,7 @@ ghost use Rattle.sg_interpret.specs.Inside.Answers.{IsAnswer, IsAnswerBy};
 use crate::effects::do_effects;
 use crate::rules::{first_verdict, term_word};
 use crate::view::View;
-use sg_described::{Description, Verdict};
-use sg_facts::{Call, Code, FunShape, MOST_FIELDS};
+use sg_described::{Call, Code, Description, FunShape, MOST_FIELDS, Verdict};
 
 /// What a call is answered.
 #[derive(Clone, Copy, Debug)]

@@ -1,8 +1,8 @@
 // What a described service does with a call.
 ghost use Rattle.std.specs.Prelude.{◌≡◌};
-ghost use Rattle.sg_facts.specs.Kinds.{MayAsk};
-ghost use Rattle.sg_slots.specs.Decide.{Decides};
-ghost use Rattle.sg_slots.specs.Slots.{object_of};
+ghost use Rattle.sg_described.specs.sg_facts.Kinds.{MayAsk};
+ghost use Rattle.sg_described.specs.sg_slots.Decide.{Decides};
+ghost use Rattle.sg_described.specs.sg_slots.Slots.{object_of};
 ghost use Rattle.sg_described.specs.Described.{described_of};
 ghost use Rattle.sg_described.specs.Meaning.{described_parts, described_table};
 ghost use Rattle.sg_described.specs.Safe.{IsPlain};
@@ -11,9 +11,7 @@ ghost use Rattle.sg_interpret.specs.Inside.Deciding.{on_entry, on_making};
 
 use crate::DescribedEntry;
 use crate::answer::{Answer, Left, answered};
-use sg_described::Description;
-use sg_facts::{Call, MOST_FIELDS};
-use sg_slots::{Decision, Slots};
+use sg_described::{Call, Decision, Description, MOST_FIELDS, Slots};
 
 /// What to do with a call. It takes no memory.
 pub(crate) fn decide(

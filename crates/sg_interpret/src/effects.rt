@@ -1,14 +1,14 @@
 // What effects leave of fields.
 ghost use Rattle.std.specs.Prelude.{◌≡◌, true, length, map, slice_set};
-ghost use Rattle.sg_facts.specs.Allowed.{sets_once};
-ghost use Rattle.sg_facts.specs.Track.{effect_of, fields_after};
-ghost use Rattle.sg_facts.specs.sg_base.declared.value.Value.TheVariants.{Word as IsWord};
-ghost use Rattle.sg_slots.specs.Carry.{words_of};
+ghost use Rattle.sg_described.specs.sg_facts.Allowed.{sets_once};
+ghost use Rattle.sg_described.specs.sg_facts.Track.{effect_of, fields_after};
+ghost use Rattle.sg_described.specs.sg_facts.sg_base.declared.value.Value.TheVariants.{Word as IsWord};
+ghost use Rattle.sg_described.specs.sg_slots.Carry.{words_of};
 ghost use Rattle.sg_described.specs.Meaning.{fits, most_at, said};
 ghost use Rattle.sg_interpret.specs.Inside.Fields.{IsFitting, word_in};
 
 use crate::view::{argument, field};
-use sg_facts::{Call, Effect, LentValue};
+use sg_described::{Call, Effect, LentValue};
 
 // The word that an effect leaves; None where it leaves a text, or no number of 64 bits.
 fn word_after(call: &Call, word: Option<u64>, effect: Effect, old: u64) -> Option<u64>

@@ -1,5 +1,5 @@
 // What a described service keeps of one descriptor.
-use sg_facts::MOST_FIELDS;
+use sg_described::MOST_FIELDS;
 
 /// What a described service keeps of one descriptor.
 #[derive(Clone, Copy, Debug, PartialEq, Eq)]

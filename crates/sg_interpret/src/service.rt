@@ -1,15 +1,14 @@
 // A described service.
-ghost use Rattle.sg_facts.specs.Kinds.{MayAsk};
-ghost use Rattle.sg_slots.specs.Decide.{Decides};
-ghost use Rattle.sg_slots.specs.Slots.{object_of};
+ghost use Rattle.sg_described.specs.sg_facts.Kinds.{MayAsk};
+ghost use Rattle.sg_described.specs.sg_slots.Decide.{Decides};
+ghost use Rattle.sg_described.specs.sg_slots.Slots.{object_of};
 ghost use Rattle.sg_described.specs.Meaning.{described_parts, described_table};
 ghost use Rattle.sg_described.specs.Safe.{made_safe};
 ghost use Rattle.sg_interpret.specs.DescribedRow.{described_body};
 
 use crate::decide::decide;
 use crate::{DescribedEntry, DescribedImage, Describes};
-use sg_facts::{Call, NoMemory, Outcome, Path, Service, Stops};
-use sg_slots::{Decision, Slots, carry_out};
+use sg_described::{Call, Decision, NoMemory, Outcome, Path, Service, Slots, Stops, carry_out};
 use std::alloc::Global;
 
 /// A described service: it holds an entry for each descriptor, does with a call what its description says, and has neither
@@ -22,7 +21,7 @@ pub struct DescribedService<N: Describes> {
 }
 
 impl<N: Describes> Service for DescribedService<N> {
-    ghost use Rattle.sg_slots.specs.Slots.{object_of};
+    ghost use Rattle.sg_described.specs.sg_slots.Slots.{object_of};
     ghost use Rattle.sg_described.specs.Safe.{made_safe};
     ghost use Rattle.sg_interpret.specs.DescribedModel.{described_model};
     ghost use Rattle.sg_interpret.specs.DescribedRow.{described_body};

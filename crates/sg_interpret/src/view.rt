@@ -1,10 +1,10 @@
 // What rules see of a call.
 ghost use Rattle.std.specs.Prelude.{◌≡◌};
-ghost use Rattle.sg_facts.specs.Track.{arg_at, field_at, word_of};
-ghost use Rattle.sg_facts.specs.sg_base.declared.value.Value.TheVariants.{Word as IsWord};
+ghost use Rattle.sg_described.specs.sg_facts.Track.{arg_at, field_at, word_of};
+ghost use Rattle.sg_described.specs.sg_facts.sg_base.declared.value.Value.TheVariants.{Word as IsWord};
 ghost use Rattle.std.specs.Prelude.{map};
 
-use sg_facts::{Call, LentValue};
+use sg_described::{Call, LentValue};
 
 /// What rules see of a call: the call, and the state and the fields of its row.
 #[derive(Clone, Copy, Debug)]

@@ -5,3 +5,4 @@ pub mod OneSaid
 pub mod Parts
 pub mod Texts
 pub mod Walking
+pub use Rattle.sg_explain.proofs.sg_input as sg_input

@@ -29,5 +29,9 @@ pub use inputs::{read_any_input, read_any_run};
 pub use interface::AnyInterface;
 pub use judging::{compiled, upgraded, verdict};
 pub use laws::{one_any_input, one_verdict};
-pub use sg_explain::{Read, TOO_LONG_EXPLAINED};
+pub use sg_explain::{
+    History, MOST_DIVIDER, MOST_INPUT, MOST_INTERFACE, MOST_MULTI_INPUT, MOST_RUN_INPUT,
+    MOST_SCRIPT, MultiScript, Read, Script, TOO_LONG, TOO_LONG_EXPLAINED, compile, cut, one_cut,
+    one_input, parse, read_input, read_multi_input,
+};
 pub use sg_own::Description;

@@ -3,7 +3,7 @@ use Rattle.std.proofs.Common.{◌≡◌, ℕ, ◌+◌, ◌<◌, ◌≤◌, ◌�
 use Rattle.std.specs.declared.option.Option.{Option}
 use Rattle.std.specs.Io.KnownBytes.{Consumes, IsAtEnd}
 use Rattle.sg_edge.specs.Edge.{Rose, ConsumesJust}
-use Rattle.sg_report.specs.sg_hist.declared.ended.End.{End}
+use Rattle.sg_verify.specs.sg_report.sg_hist.declared.ended.End.{End}
 use Rattle.sg_multi.specs.declared.ended.MultiEnd.{MultiEnd}
 use Rattle.std.specs.Result.{IfOk, OnErr}
 use Rattle.std.specs.declared.result.Result.{Result}

@@ -8,22 +8,22 @@ use Rattle.sg_facts.specs.Interface.{Declared}
 use Rattle.sg_facts.specs.Tables.{AreTables}
 use Rattle.sg_facts.specs.Trace.{run_of}
 use Rattle.sg_facts.specs.declared.tables.WalkLine.{WalkLine}
-use Rattle.sg_input.specs.sg_script.declared.script.Script.{Script}
+use Rattle.sg_judge.specs.sg_input.sg_script.declared.script.Script.{Script}
 use Rattle.sg_load.specs.Services.{answering, standard}
 use Rattle.sg_load.specs.declared.kind.ServiceKind.{ServiceKind}
 use Rattle.sg_load.specs.sg_plain.Playing.Playable.{IsPlayable}
-use Rattle.sg_report.specs.sg_hist.Recovered.{Stubs, waiting}
-use Rattle.sg_report.specs.sg_hist.Ending.{HasRecovered}
-use Rattle.sg_report.specs.sg_hist.declared.ended.Ended.{Ended}
+use Rattle.sg_verify.specs.sg_report.sg_hist.Recovered.{Stubs, waiting}
+use Rattle.sg_verify.specs.sg_report.sg_hist.Ending.{HasRecovered}
+use Rattle.sg_verify.specs.sg_report.sg_hist.declared.ended.Ended.{Ended}
 use Rattle.sg_explore.specs.sg_shared.Runs.{IsRunOf}
 use Rattle.sg_load.specs.sg_plain.Answering.{Answering}
 use Rattle.sg_top.specs.Headline.{HasFewReplays}
-use Rattle.sg_input.proofs.sg_stub.OneTable.{one_table}
+use Rattle.sg_judge.proofs.sg_input.sg_stub.OneTable.{one_table}
 use Rattle.sg_top.proofs.EachKind.{allowed_standard}
 use Rattle.sg_top.proofs.Serving.{allowed_served}
 use Rattle.sg_top.specs.declared.served.Served.{Served}
 use Rattle.sg_top.specs.Inside.Plays.{IsOfServed, IsPlayOf, answering_at}
-use Rattle.sg_report.specs.sg_hist.Clients.{AreNumbered}
+use Rattle.sg_verify.specs.sg_report.sg_hist.Clients.{AreNumbered}
 use Rattle.sg_facts.specs.sg_base.Lists.{Each}
 
 -- the replayed calls of a play are few

@@ -9,7 +9,7 @@ use Rattle.std.specs.Result.{result_ok}
 use Rattle.std.specs.Str.Parse.{ParsesUnsigned}
 use Rattle.std.specs.declared.option.Option.{Option}
 use Rattle.std.specs.declared.result.Result.{Result}
-use Rattle.sg_input.specs.sg_lex.Table.{IsNumber}
+use Rattle.sg_judge.specs.sg_input.sg_lex.Table.{IsNumber}
 use Rattle.sg_top.specs.Inside.Words.{AreDigitsOf}
 
 both : (a b : Bool) → a && b ≡ true → (a ≡ true) × (b ≡ true)

@@ -6,10 +6,10 @@ use Rattle.sg_load.specs.sg_check_statements.Says.{service_of}
 use Rattle.sg_edge.specs.Stops.{AscendsAbove}
 use Rattle.sg_facts.specs.Facts.{Facts}
 use Rattle.sg_facts.specs.Interface.{Declared}
-use Rattle.sg_input.proofs.OfServices.{among}
-use Rattle.sg_input.specs.Inputs.{IsInterface, IsReady}
+use Rattle.sg_judge.proofs.sg_input.OfServices.{among}
+use Rattle.sg_judge.specs.sg_input.Inputs.{IsInterface, IsReady}
 use Rattle.sg_load.specs.sg_plain.Playing.Playable.{IsPlayable}
-use Rattle.sg_input.specs.sg_script.declared.script.Script.{Script}
+use Rattle.sg_judge.specs.sg_input.sg_script.declared.script.Script.{Script}
 use Rattle.sg_load.proofs.sg_plain.Flawless.Flawless.{script_playable, script_stops}
 use Rattle.sg_top.specs.Answer.{judging, services}
 use Rattle.sg_top.specs.Inside.Plays.{IsPlayed}

@@ -3,18 +3,18 @@ use Rattle.std.proofs.Common.{◌≡◌, ℕ, List, inl, inr, ◌∙◌, ap, sym
 use Rattle.sg_facts.specs.Interface.{Declared}
 use Rattle.sg_facts.specs.declared.entry.Entry.{Entry}
 use Rattle.sg_facts.specs.sg_base.Room.{Roomy}
-use Rattle.sg_input.specs.declared.read.Read.{Read}
-use Rattle.sg_input.specs.declared.read.Read.TheVariants.{Ready, Refused}
-use Rattle.sg_input.specs.Inputs.{IsRunInputOf}
+use Rattle.sg_judge.specs.sg_input.declared.read.Read.{Read}
+use Rattle.sg_judge.specs.sg_input.declared.read.Read.TheVariants.{Ready, Refused}
+use Rattle.sg_judge.specs.sg_input.Inputs.{IsRunInputOf}
 use Rattle.sg_judge.specs.Said.{IsOwnText}
 use Rattle.sg_judge.specs.sg_own.sg_describe.DescribedText.{described_of_text}
 use Rattle.sg_judge.proofs.AnyInputs.{any_judged_alone}
 use Rattle.sg_verify.specs.Lines.{verdict_line_of}
 use Rattle.sg_verify.specs.Verdicts.{IsVerdictOf}
 use Rattle.sg_verify.specs.declared.verdict.Verdict.{Verdict}
-use Rattle.sg_input.proofs.OneCut.{one_cut}
-use Rattle.sg_input.proofs.OneInput.{one_tree}
-use Rattle.sg_input.proofs.OneRun.{never_ready, one_ready}
+use Rattle.sg_judge.proofs.sg_input.OneCut.{one_cut}
+use Rattle.sg_judge.proofs.sg_input.OneInput.{one_tree}
+use Rattle.sg_judge.proofs.sg_input.OneRun.{never_ready, one_ready}
 use Rattle.sg_verify.proofs.Verdicts.{one_said as one_verdict}
 use Rattle.sg_top.proofs.EachKind.{same_service}
 use Rattle.sg_load.specs.Services.{played_services}

@@ -8,9 +8,9 @@ use Rattle.sg_facts.specs.Facts.{Fun, fun_at}
 use Rattle.sg_facts.specs.Fits.{Fits}
 use Rattle.sg_facts.specs.Interface.{Declared, declares}
 use Rattle.sg_facts.specs.sg_base.Lists.{Each}
-use Rattle.sg_input.specs.sg_entries.Inside.Classes.{IsName}
-use Rattle.sg_input.specs.sg_entries.Printed.{HasNames}
-use Rattle.sg_input.specs.sg_script.Scripts.{declared_from}
+use Rattle.sg_judge.specs.sg_input.sg_entries.Inside.Classes.{IsName}
+use Rattle.sg_judge.specs.sg_input.sg_entries.Printed.{HasNames}
+use Rattle.sg_judge.specs.sg_input.sg_script.Scripts.{declared_from}
 use Rattle.sg_load.specs.sg_check_statements.Shapes.{all_differ}
 use Rattle.sg_load.specs.sg_check_statements.NameSet.{has_name}
 use Rattle.sg_top.specs.Inside.Plays.{IsPlayed}

@@ -1,19 +1,19 @@
 -- An output that isn't a refusal refuses nothing: a text has one verdict, and an input is one thing.
 use Rattle.std.proofs.Common.{◌≡◌, ℕ, ◌≤◌, inl, inr, Bool, false, true, List, arith, length}
-use Rattle.sg_report.specs.sg_hist.declared.ended.Ended.{Ended}
+use Rattle.sg_verify.specs.sg_report.sg_hist.declared.ended.Ended.{Ended}
 use Rattle.sg_judge.proofs.Alone.{any_alone}
 use Rattle.sg_judge.proofs.AnyInputs.{any_judged_alone}
 use Rattle.sg_facts.specs.Interface.{Declared}
-use Rattle.sg_input.specs.sg_script.declared.multi.MultiScript.{MultiScript}
-use Rattle.sg_input.specs.declared.read.Read.{Read}
-use Rattle.sg_input.specs.declared.read.Read.TheVariants.{Ready as ready, Refused as refused}
+use Rattle.sg_judge.specs.sg_input.sg_script.declared.multi.MultiScript.{MultiScript}
+use Rattle.sg_judge.specs.sg_input.declared.read.Read.{Read}
+use Rattle.sg_judge.specs.sg_input.declared.read.Read.TheVariants.{Ready as ready, Refused as refused}
 use Rattle.sg_judge.specs.Said.{IsChecked, IsRenewed, IsTabled}
 use Rattle.sg_judge.proofs.OneSaid.{one_checked, one_renewed, one_tabled}
-use Rattle.sg_input.specs.Inputs.{IsInputOf}
-use Rattle.sg_input.specs.MultiInputs.{IsMultiInputOf}
-use Rattle.sg_input.proofs.OneMulti.{one_multi_input}
-use Rattle.sg_input.proofs.OneInput.{never_ready}
-use Rattle.sg_input.proofs.OneRun.{never_ready as never_printed}
+use Rattle.sg_judge.specs.sg_input.Inputs.{IsInputOf}
+use Rattle.sg_judge.specs.sg_input.MultiInputs.{IsMultiInputOf}
+use Rattle.sg_judge.proofs.sg_input.OneMulti.{one_multi_input}
+use Rattle.sg_judge.proofs.sg_input.OneInput.{never_ready}
+use Rattle.sg_judge.proofs.sg_input.OneRun.{never_ready as never_printed}
 use Rattle.sg_top.specs.Headline.{IsRunOfInput}
 use Rattle.sg_load.specs.Services.{played_services}
 use Rattle.sg_top.specs.declared.command.Command.{Command}

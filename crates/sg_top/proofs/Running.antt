@@ -4,19 +4,19 @@ use Rattle.std.specs.Result.{IfOk}
 use Rattle.std.specs.declared.result.Result.{Result}
 use Rattle.sg_facts.specs.Interface.{Declared}
 use Rattle.sg_facts.specs.Trace.{run_of}
-use Rattle.sg_report.specs.sg_hist.declared.ended.Ended.{Ended}
-use Rattle.sg_input.specs.declared.read.Read.{Read}
-use Rattle.sg_input.specs.declared.read.Read.TheVariants.{Ready, Refused}
-use Rattle.sg_input.specs.sg_script.declared.script.Script.{Script}
+use Rattle.sg_verify.specs.sg_report.sg_hist.declared.ended.Ended.{Ended}
+use Rattle.sg_judge.specs.sg_input.declared.read.Read.{Read}
+use Rattle.sg_judge.specs.sg_input.declared.read.Read.TheVariants.{Ready, Refused}
+use Rattle.sg_judge.specs.sg_input.sg_script.declared.script.Script.{Script}
 use Rattle.sg_explore.specs.Explored.{IsExplored}
 use Rattle.sg_explore.specs.declared.exploring.Explored.{Explored}
 use Rattle.sg_explore.specs.sg_shared.sg_sim.Played.{FollowsSchedule}
-use Rattle.sg_input.specs.Inputs.{IsInputOf}
+use Rattle.sg_judge.specs.sg_input.Inputs.{IsInputOf}
 use Rattle.sg_load.specs.Generated.{generated}
 use Rattle.sg_load.specs.Services.{answering, facts_by, played_services, standard}
 use Rattle.sg_load.specs.declared.kind.ServiceKind.{ServiceKind}
 use Rattle.sg_load.specs.sg_plain.Playing.Playable.{IsPlayable}
-use Rattle.sg_report.specs.Report.{load_line_of}
+use Rattle.sg_verify.specs.sg_report.Report.{load_line_of}
 use Rattle.sg_top.proofs.Costing.{few_of_load, few_replays}
 use Rattle.sg_top.proofs.Fitting.{ready_playable, ready_stops}
 use Rattle.sg_top.specs.Answer.{IsExploredAs, IsOwnOutput, IsPlayOutput, ended_status, judging}

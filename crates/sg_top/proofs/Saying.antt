@@ -1,7 +1,7 @@
 -- What is said of a text is its output.
 use Rattle.std.proofs.Common.{ℕ, List, inl, inr, sym, subst}
-use Rattle.sg_input.specs.declared.read.Read.{Read}
-use Rattle.sg_input.specs.declared.read.Read.TheVariants.{Ready as ready, Refused as refused}
+use Rattle.sg_judge.specs.sg_input.declared.read.Read.{Read}
+use Rattle.sg_judge.specs.sg_input.declared.read.Read.TheVariants.{Ready as ready, Refused as refused}
 use Rattle.sg_top.specs.Answer.{IsOfText}
 use Rattle.sg_top.specs.Inside.Delivery.{IsSaid}
 use Rattle.sg_top.specs.declared.status.Status.{Status}

@@ -4,7 +4,7 @@ use Rattle.std.specs.Str.{bytes_eq}
 use Rattle.sg_facts.specs.Allowed.{is_allowed}
 use Rattle.sg_facts.specs.Facts.{Facts}
 use Rattle.sg_facts.specs.Interface.{Declared}
-use Rattle.sg_input.specs.sg_parse.declared.tree.Tree.{Tree}
+use Rattle.sg_judge.specs.sg_input.sg_parse.declared.tree.Tree.{Tree}
 use Rattle.sg_interpret.specs.sg_described.Described.{Described}
 use Rattle.sg_interpret.specs.sg_described.Safe.{IsSafe}
 use Rattle.sg_interpret.specs.sg_described.declared.description.Description.{Description}

@@ -8,13 +8,13 @@ use Rattle.sg_facts.specs.Fits.{Fits}
 use Rattle.sg_facts.specs.Interface.{Declared}
 use Rattle.sg_facts.specs.Tables.{Compiled}
 use Rattle.sg_facts.specs.sg_base.Lists.{Each}
-use Rattle.sg_input.specs.Inputs.{IsInterface}
-use Rattle.sg_input.specs.Inside.Members.{AreFit, AreFitMembers}
-use Rattle.sg_input.specs.MultiInputs.{IsMultiInputOf, IsMultiReady}
-use Rattle.sg_input.specs.declared.read.Read.{Read}
-use Rattle.sg_input.specs.declared.read.Read.TheVariants.{Ready, Refused}
-use Rattle.sg_input.specs.sg_script.declared.multi.MultiScript.{MultiScript}
-use Rattle.sg_input.proofs.Gathering.{few_members}
+use Rattle.sg_judge.specs.sg_input.Inputs.{IsInterface}
+use Rattle.sg_judge.specs.sg_input.Inside.Members.{AreFit, AreFitMembers}
+use Rattle.sg_judge.specs.sg_input.MultiInputs.{IsMultiInputOf, IsMultiReady}
+use Rattle.sg_judge.specs.sg_input.declared.read.Read.{Read}
+use Rattle.sg_judge.specs.sg_input.declared.read.Read.TheVariants.{Ready, Refused}
+use Rattle.sg_judge.specs.sg_input.sg_script.declared.multi.MultiScript.{MultiScript}
+use Rattle.sg_judge.proofs.sg_input.Gathering.{few_members}
 use Rattle.sg_load.specs.Services.{answering, facts_by, played_services}
 use Rattle.sg_load.specs.declared.kind.ServiceKind.{ServiceKind}
 use Rattle.sg_load.specs.sg_check_statements.Shapes.{IsSmall}

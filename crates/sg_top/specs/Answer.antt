@@ -13,24 +13,24 @@ use Rattle.sg_judge.specs.sg_explain.Words.{too_long_words}
 use Rattle.sg_explore.specs.Explored.{IsExplored}
 use Rattle.sg_explore.specs.Tried.{most_paired}
 use Rattle.sg_explore.specs.declared.exploring.Explored.{Explored}
-use Rattle.sg_report.specs.sg_hist.declared.ended.End.{End}
-use Rattle.sg_report.specs.sg_hist.declared.ended.Ended.{Ended}
-use Rattle.sg_input.specs.declared.read.Read.{Read}
-use Rattle.sg_input.specs.declared.read.Read.TheVariants.{Ready as ready, Refused as refused}
+use Rattle.sg_verify.specs.sg_report.sg_hist.declared.ended.End.{End}
+use Rattle.sg_verify.specs.sg_report.sg_hist.declared.ended.Ended.{Ended}
+use Rattle.sg_judge.specs.sg_input.declared.read.Read.{Read}
+use Rattle.sg_judge.specs.sg_input.declared.read.Read.TheVariants.{Ready as ready, Refused as refused}
 use Rattle.sg_judge.specs.Said.{IsChecked, IsRenewed, IsTabled}
-use Rattle.sg_input.specs.Inputs.{IsInputOf, IsReady, IsRunInputOf, IsRunReady, Judging, most_interface, most_run, most_script}
-use Rattle.sg_input.specs.MultiInputs.{IsMultiInputOf}
+use Rattle.sg_judge.specs.sg_input.Inputs.{IsInputOf, IsReady, IsRunInputOf, IsRunReady, Judging, most_interface, most_run, most_script}
+use Rattle.sg_judge.specs.sg_input.MultiInputs.{IsMultiInputOf}
 use Rattle.sg_multi.specs.Played.{MultiCame}
 use Rattle.sg_multi.specs.declared.ended.MultiEnd.{MultiEnd}
 use Rattle.sg_multi.specs.declared.ended.MultiEnd.TheVariants.{Done as MultiDone, Blocked as MultiBlocked}
-use Rattle.sg_input.specs.Lines.{too_long_line}
-use Rattle.sg_input.specs.sg_lex.Table.{IsNumber}
+use Rattle.sg_judge.specs.sg_input.Lines.{too_long_line}
+use Rattle.sg_judge.specs.sg_input.sg_lex.Table.{IsNumber}
 use Rattle.sg_load.specs.Services.{facts_by, played_services}
 use Rattle.sg_load.specs.sg_plain.Answering.{Answering}
-use Rattle.sg_report.specs.sg_hist.Recovered.{is_blocked}
+use Rattle.sg_verify.specs.sg_report.sg_hist.Recovered.{is_blocked}
 use Rattle.sg_facts.specs.sg_base.Counts.{last_count}
-use Rattle.sg_input.specs.sg_lex.Numbers.{value_of_digits}
-use Rattle.sg_input.specs.sg_script.declared.script.Script.{Script}
+use Rattle.sg_judge.specs.sg_input.sg_lex.Numbers.{value_of_digits}
+use Rattle.sg_judge.specs.sg_input.sg_script.declared.script.Script.{Script}
 use Rattle.sg_facts.specs.Interface.{Declared}
 use Rattle.sg_facts.specs.declared.entry.Entry.{Entry}
 use Rattle.sg_verify.specs.Lines.{verdict_line_of}

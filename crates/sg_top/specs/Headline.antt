@@ -8,10 +8,10 @@ use Rattle.sg_facts.specs.Interface.{Declared}
 use Rattle.sg_facts.specs.Tables.{AreTables}
 use Rattle.sg_facts.specs.Trace.{Boot, run_of}
 use Rattle.sg_facts.specs.declared.tables.WalkLine.{WalkLine}
-use Rattle.sg_report.specs.sg_hist.Recovered.{Stubs}
-use Rattle.sg_report.specs.sg_hist.declared.ended.Ended.{Ended}
-use Rattle.sg_input.specs.Inputs.{IsReady}
-use Rattle.sg_input.specs.sg_parse.declared.tree.Tree.{Tree}
+use Rattle.sg_verify.specs.sg_report.sg_hist.Recovered.{Stubs}
+use Rattle.sg_verify.specs.sg_report.sg_hist.declared.ended.Ended.{Ended}
+use Rattle.sg_judge.specs.sg_input.Inputs.{IsReady}
+use Rattle.sg_judge.specs.sg_input.sg_parse.declared.tree.Tree.{Tree}
 use Rattle.sg_interpret.specs.sg_described.Described.{Described}
 use Rattle.sg_interpret.specs.sg_described.Meaning.{described_parts, described_table}
 use Rattle.sg_judge.specs.AnyInputs.{any_judging}
@@ -20,10 +20,10 @@ use Rattle.sg_judge.specs.sg_own.sg_describe.DescribedText.{described_of_text}
 use Rattle.sg_load.specs.Generated.{generated}
 use Rattle.sg_load.specs.Services.{answering, facts_by, standard}
 use Rattle.sg_load.specs.declared.kind.ServiceKind.{ServiceKind}
-use Rattle.sg_report.specs.Report.{load_line_of, report_of}
-use Rattle.sg_input.specs.MultiInputs.{IsMultiReady}
-use Rattle.sg_input.specs.sg_script.declared.multi.MultiScript.{MultiScript}
-use Rattle.sg_input.specs.sg_script.declared.script.Script.{Script}
+use Rattle.sg_verify.specs.sg_report.Report.{load_line_of, report_of}
+use Rattle.sg_judge.specs.sg_input.MultiInputs.{IsMultiReady}
+use Rattle.sg_judge.specs.sg_input.sg_script.declared.multi.MultiScript.{MultiScript}
+use Rattle.sg_judge.specs.sg_input.sg_script.declared.script.Script.{Script}
 use Rattle.sg_multi.specs.Played.{IsMultiPlayed, MultiCame}
 use Rattle.sg_multi.specs.Report.{multi_text_of}
 use Rattle.sg_explore.specs.sg_shared.Runs.{IsRunOf}

@@ -7,8 +7,9 @@ ghost use Rattle.sg_top.specs.declared.command.Command.{Command as Asked};
 ghost use Rattle.sg_top.specs.Inside.Words.{AreDigitsOf, IsPairOf};
 
 use sg_explore::MOST_PAIRED;
-use sg_input::{MOST_INPUT, MOST_INTERFACE, MOST_MULTI_INPUT, MOST_RUN_INPUT, TOO_LONG};
-use sg_judge::TOO_LONG_EXPLAINED;
+use sg_judge::{
+    MOST_INPUT, MOST_INTERFACE, MOST_MULTI_INPUT, MOST_RUN_INPUT, TOO_LONG, TOO_LONG_EXPLAINED,
+};
 use sg_load::ServiceKind;
 
 /// What is printed of a run.

@@ -14,7 +14,7 @@ use crate::served::Served;
 use sg_edge::Gate;
 use sg_explore::{Explored, Played, Progress, explore, share};
 use sg_facts::NoMemory;
-use sg_input::Script;
+use sg_judge::Script;
 use sg_load::kind::{
     EventService, LockService, MmService, RamfsService, SchedService, TimerService,
 };

@@ -2,10 +2,10 @@
 ghost use Rattle.std.specs.Prelude.{ℕ, List, Ok as done};
 ghost use Rattle.sg_facts.specs.Interface.{Declared};
 ghost use Rattle.sg_facts.specs.declared.entry.Entry.{Entry};
-ghost use Rattle.sg_input.specs.sg_entries.Entry.{shows_named};
-ghost use Rattle.sg_input.specs.sg_entries.Printed.{PrintsHistory};
-ghost use Rattle.sg_input.specs.sg_entries.Reads.{IsReadOf};
-ghost use Rattle.sg_input.specs.Inputs.{IsInterface};
+ghost use Rattle.sg_judge.specs.sg_input.sg_entries.Entry.{shows_named};
+ghost use Rattle.sg_judge.specs.sg_input.sg_entries.Printed.{PrintsHistory};
+ghost use Rattle.sg_judge.specs.sg_input.sg_entries.Reads.{IsReadOf};
+ghost use Rattle.sg_judge.specs.sg_input.Inputs.{IsInterface};
 ghost use Rattle.sg_top.specs.Answer.{services};
 
 /// A text that prints a history of an interface of one of the services, as a run's entry lines do, is read to that history.

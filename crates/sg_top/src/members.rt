@@ -12,7 +12,7 @@ ghost use Rattle.sg_top.specs.Inside.Several.{AreMembersOf, IsMemberOf};
 
 use crate::services::kind_of;
 use sg_facts::{Interface, ListOf, NoMemory, TryCopy};
-use sg_input::{MultiScript, compile};
+use sg_judge::{MultiScript, compile};
 use sg_load::Accepted;
 use sg_multi::{MemberTables, MultiEnded, MultiPlay};
 use std::alloc::Global;

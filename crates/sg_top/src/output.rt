@@ -1,7 +1,7 @@
 // What a command makes of its input.
 ghost use Rattle.std.specs.Prelude.{◌≡◌, ◌≤◌, ℕ, List, true, false, if◌then◌else◌, IfOk};
 ghost use Rattle.sg_judge.specs.OwnExplained.{IsExplainedAny};
-ghost use Rattle.sg_report.specs.sg_hist.Recovered.{is_blocked};
+ghost use Rattle.sg_verify.specs.sg_report.sg_hist.Recovered.{is_blocked};
 ghost use Rattle.sg_load.specs.sg_plain.Playing.Playable.{IsPlayable};
 ghost use Rattle.sg_load.specs.sg_plain.Inside.Kept.{somebody_waits};
 ghost use Rattle.sg_judge.specs.Said.{IsChecked, IsRenewed, IsTabled};
@@ -33,12 +33,10 @@ use sg_draw::{columns, picture};
 use sg_edge::Gate;
 use sg_explore::{Explored, Played, Progress};
 use sg_facts::{Bytes, Interface, NoMemory};
-use sg_input::{History, Read, compile, read_multi_input};
-use sg_judge::{compiled, explain, upgraded, verdict};
+use sg_judge::{History, Read, compile, compiled, explain, read_multi_input, upgraded, verdict};
 use sg_load::{Accepted, ServiceKind, generate, standard};
 use sg_multi::{MultiEnd, MultiEnded, multi_text};
-use sg_report::{End, load_line, text};
-use sg_verify::{Verdict, verdict_line};
+use sg_verify::{End, Verdict, load_line, text, verdict_line};
 use std::alloc::Global;
 use std::sync::Wait;
 use std::thread::Threads;

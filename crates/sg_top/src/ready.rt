@@ -8,8 +8,7 @@ ghost use Rattle.sg_top.specs.Inside.Ready.{IsAccepted, IsServedInput, IsServedR
 use crate::served::Served;
 use crate::services::{kind_of, shapes};
 use sg_facts::NoMemory;
-use sg_input::{History, Read, Script};
-use sg_judge::{AnyInterface, read_any_input, read_any_run};
+use sg_judge::{AnyInterface, History, Read, Script, read_any_input, read_any_run};
 use sg_load::Accepted;
 use std::alloc::Global;
 

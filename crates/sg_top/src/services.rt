@@ -8,7 +8,7 @@ ghost use Rattle.sg_facts.specs.Trace.{run_of};
 ghost use Rattle.sg_facts.specs.sg_base.Lists.{Each};
 ghost use Rattle.sg_load.specs.Services.{facts_by};
 ghost use Rattle.sg_load.specs.sg_check_statements.Shapes.{are_shapes};
-ghost use Rattle.sg_report.specs.sg_hist.Clients.{MayBeMade};
+ghost use Rattle.sg_verify.specs.sg_report.sg_hist.Clients.{MayBeMade};
 ghost use Rattle.sg_explore.specs.sg_shared.Runs.{IsRunInOrder};
 ghost use Rattle.sg_top.specs.Answer.{services};
 ghost use Rattle.sg_top.specs.Inside.Plays.{IsPlayOf, IsPlayed, IsPlayedOn, IsVerdictBy, MayBeJudged, MayBeJudgedOn, MayBePlayed, MayBePlayedOn, answering_at};
@@ -19,10 +19,9 @@ use crate::served::Served;
 use sg_cost::{Costs, costs_of};
 use sg_explore::{Played, simulate};
 use sg_facts::{Interface, NoMemory, Service, Shape, Tables};
-use sg_input::{History, Script};
+use sg_judge::{History, Script};
 use sg_load::{Accepted, ServiceKind};
-use sg_report::Ended;
-use sg_verify::{Verdict, verify};
+use sg_verify::{Ended, Verdict, verify};
 use std::alloc::Global;
 
 /// The services whose interfaces may be accepted.

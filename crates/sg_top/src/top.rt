@@ -14,7 +14,7 @@ use crate::status::Status;
 use sg_edge::{Gate, Intake, ReadError, Sink, Source, read_all, write_all};
 use sg_explore::{Played, Progress};
 use sg_facts::NoMemory;
-use sg_input::{MOST_INPUT, TOO_LONG};
+use sg_judge::{MOST_INPUT, TOO_LONG};
 use sg_multi::MultiEnded;
 use std::alloc::Global;
 use std::sync::Wait;

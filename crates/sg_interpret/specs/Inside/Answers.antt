@@ -1,14 +1,14 @@
 -- What a call is answered.
 use Rattle.std.specs.Prelude.{ℕ, ◌≡◌, true, false, List, None, Some, length, map, take}
 use Rattle.std.specs.declared.option.Option.{Option}
-use Rattle.sg_facts.specs.sg_base.declared.value.Value.TheVariants.{Word}
-use Rattle.sg_facts.specs.sg_base.declared.call.Call.{Call}
-use Rattle.sg_facts.specs.sg_base.declared.reply.Code.TheVariants.{Overflow}
-use Rattle.sg_facts.specs.sg_base.declared.reply.Reply.TheVariants.{Ok, Refused as IsRefused}
-use Rattle.sg_facts.specs.Facts.{Fun, fun_at, state_after}
-use Rattle.sg_facts.specs.Track.{fields_after}
-use Rattle.sg_facts.specs.Inside.Rows.{left_by}
-use Rattle.sg_slots.specs.Carry.{words_of}
+use Rattle.sg_described.specs.sg_facts.sg_base.declared.value.Value.TheVariants.{Word}
+use Rattle.sg_described.specs.sg_facts.sg_base.declared.call.Call.{Call}
+use Rattle.sg_described.specs.sg_facts.sg_base.declared.reply.Code.TheVariants.{Overflow}
+use Rattle.sg_described.specs.sg_facts.sg_base.declared.reply.Reply.TheVariants.{Ok, Refused as IsRefused}
+use Rattle.sg_described.specs.sg_facts.Facts.{Fun, fun_at, state_after}
+use Rattle.sg_described.specs.sg_facts.Track.{fields_after}
+use Rattle.sg_described.specs.sg_facts.Inside.Rows.{left_by}
+use Rattle.sg_described.specs.sg_slots.Carry.{words_of}
 use Rattle.sg_described.specs.Described.{Described, rules_at}
 use Rattle.sg_described.specs.Meaning.{answer_in, fits, said, verdict_of, words_in}
 use Rattle.sg_interpret.specs.declared.answer.Answer.{Answer}

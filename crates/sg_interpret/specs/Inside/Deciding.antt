@@ -1,8 +1,8 @@
 -- What is done with a call that was answered.
 use Rattle.std.specs.Prelude.{Bool, if◌then◌else◌}
-use Rattle.sg_facts.specs.sg_base.declared.call.Call.{Call}
-use Rattle.sg_slots.specs.declared.decision.Decision.{Decision}
-use Rattle.sg_slots.specs.declared.decision.Decision.TheVariants.{Refuse, Block, Make, Set, Remove}
+use Rattle.sg_described.specs.sg_facts.sg_base.declared.call.Call.{Call}
+use Rattle.sg_described.specs.sg_slots.declared.decision.Decision.{Decision}
+use Rattle.sg_described.specs.sg_slots.declared.decision.Decision.TheVariants.{Refuse, Block, Make, Set, Remove}
 use Rattle.sg_interpret.specs.declared.answer.Answer.{Answer}
 use Rattle.sg_interpret.specs.declared.answer.Answer.TheVariants.{Refused, Waits, Done}
 use Rattle.sg_interpret.specs.declared.entry.DescribedEntry.{DescribedEntry}

@@ -1,8 +1,8 @@
 -- What is found of the fields that effects leave.
 use Rattle.std.specs.Prelude.{ℕ, ◌≡◌, true, false, nat_le, if◌then◌else◌, None, Some}
 use Rattle.std.specs.declared.option.Option.{Option}
-use Rattle.sg_facts.specs.sg_base.declared.value.Value.{Value}
-use Rattle.sg_facts.specs.sg_base.declared.value.Value.TheVariants.{Word, Text}
+use Rattle.sg_described.specs.sg_facts.sg_base.declared.value.Value.{Value}
+use Rattle.sg_described.specs.sg_facts.sg_base.declared.value.Value.TheVariants.{Word, Text}
 use Rattle.sg_described.specs.Meaning.{is_up_to, last_word}
 
 -- the word that a value is, where it is a number of 64 bits

@@ -1,7 +1,7 @@
 -- What rules see of a call, as the definitions have it.
 use Rattle.std.specs.Prelude.{ℕ, List, map}
-use Rattle.sg_facts.specs.sg_base.declared.value.Value.TheVariants.{Word}
-use Rattle.sg_facts.specs.sg_base.declared.call.Call.{Call}
+use Rattle.sg_described.specs.sg_facts.sg_base.declared.value.Value.TheVariants.{Word}
+use Rattle.sg_described.specs.sg_facts.sg_base.declared.call.Call.{Call}
 use Rattle.sg_described.specs.Meaning.{Env}
 use Rattle.sg_interpret.specs.declared.view.View.{View}
 

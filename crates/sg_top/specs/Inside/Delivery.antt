@@ -2,8 +2,8 @@
 use Rattle.std.specs.Prelude.{ℕ, ◌≡◌, ◌<◌, ◌⊎◌, List, length, take}
 use Rattle.std.specs.Io.KnownBytes.{Appends}
 use Rattle.sg_edge.specs.Edge.{Rose}
-use Rattle.sg_input.specs.declared.read.Read.{Read}
-use Rattle.sg_input.specs.declared.read.Read.TheVariants.{Ready as ready, Refused as refused}
+use Rattle.sg_judge.specs.sg_input.declared.read.Read.{Read}
+use Rattle.sg_judge.specs.sg_input.declared.read.Read.TheVariants.{Ready as ready, Refused as refused}
 use Rattle.sg_top.specs.declared.output.Ran.{Ran}
 use Rattle.sg_top.specs.declared.output.Ran.TheVariants.{Nothing}
 use Rattle.sg_top.specs.declared.status.Status.{Status}

@@ -1,8 +1,8 @@
 -- The parts of what a command makes, by themselves.
 use Rattle.std.specs.Prelude.{ℕ, ◌≡◌, ◌≤◌, ◌⊎◌, List, length}
-use Rattle.sg_input.specs.declared.read.Read.TheVariants.{Refused as refused}
-use Rattle.sg_input.specs.Inputs.{IsInputOf, IsRunInputOf}
-use Rattle.sg_input.specs.MultiInputs.{IsMultiInputOf}
+use Rattle.sg_judge.specs.sg_input.declared.read.Read.TheVariants.{Refused as refused}
+use Rattle.sg_judge.specs.sg_input.Inputs.{IsInputOf, IsRunInputOf}
+use Rattle.sg_judge.specs.sg_input.MultiInputs.{IsMultiInputOf}
 use Rattle.sg_judge.specs.OwnExplained.{IsExplainedAny}
 use Rattle.sg_judge.specs.Said.{IsChecked, IsRenewed, IsTabled}
 use Rattle.sg_verify.specs.declared.verdict.Verdict.{Verdict}

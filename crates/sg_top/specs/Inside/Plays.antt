@@ -7,10 +7,10 @@ use Rattle.sg_facts.specs.Interface.{Declared}
 use Rattle.sg_facts.specs.Limits.{most_script_calls}
 use Rattle.sg_facts.specs.sg_base.Lists.{Each}
 use Rattle.sg_facts.specs.declared.entry.Entry.{Entry}
-use Rattle.sg_input.specs.sg_script.declared.script.Script.{Script}
+use Rattle.sg_judge.specs.sg_input.sg_script.declared.script.Script.{Script}
 use Rattle.sg_load.specs.sg_plain.Playing.Playable.{IsPlayable}
-use Rattle.sg_report.specs.sg_hist.Clients.{MayBeMade}
-use Rattle.sg_report.specs.sg_hist.declared.ended.Ended.{Ended}
+use Rattle.sg_verify.specs.sg_report.sg_hist.Clients.{MayBeMade}
+use Rattle.sg_verify.specs.sg_report.sg_hist.declared.ended.Ended.{Ended}
 use Rattle.sg_explore.specs.sg_shared.Runs.{IsRunOf}
 use Rattle.sg_interpret.specs.sg_described.Described.{described_of}
 use Rattle.sg_interpret.specs.sg_described.Safe.{IsSafe}

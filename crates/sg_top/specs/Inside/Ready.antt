@@ -1,9 +1,9 @@
 -- Inputs that are ready, with the service of their interface.
 use Rattle.std.specs.Prelude.{ℕ, List}
-use Rattle.sg_input.specs.Inputs.{IsInputOf, IsReady, IsRunInputOf, IsRunReady}
-use Rattle.sg_input.specs.Judged.{MayBeJudged}
-use Rattle.sg_input.specs.declared.read.Read.{Read}
-use Rattle.sg_input.specs.declared.read.Read.TheVariants.{Ready, Refused}
+use Rattle.sg_judge.specs.sg_input.Inputs.{IsInputOf, IsReady, IsRunInputOf, IsRunReady}
+use Rattle.sg_judge.specs.sg_input.Judged.{MayBeJudged}
+use Rattle.sg_judge.specs.sg_input.declared.read.Read.{Read}
+use Rattle.sg_judge.specs.sg_input.declared.read.Read.TheVariants.{Ready, Refused}
 use Rattle.sg_judge.specs.AnyInputs.{IsAcceptedAs}
 use Rattle.sg_judge.specs.declared.interface.AnyInterface.{AnyInterface}
 use Rattle.sg_top.specs.Answer.{judging, services}

@@ -2,9 +2,9 @@
 use Rattle.std.specs.Prelude.{ℕ, ◌≡◌, ◌≤◌, true, false, List, codes}
 use Rattle.sg_explore.specs.Tried.{most_paired}
 use Rattle.sg_load.specs.Services.{facts_by}
-use Rattle.sg_input.specs.sg_lex.Table.{IsNumber}
+use Rattle.sg_judge.specs.sg_input.sg_lex.Table.{IsNumber}
 use Rattle.sg_facts.specs.sg_base.Counts.{last_count}
-use Rattle.sg_input.specs.sg_lex.Numbers.{value_of_digits}
+use Rattle.sg_judge.specs.sg_input.sg_lex.Numbers.{value_of_digits}
 use Rattle.sg_top.specs.declared.command.Command.{Command}
 use Rattle.sg_top.specs.declared.command.Command.TheVariants.{Play, Run, Check, Compile, Upgrade, Explain, Explore, Verify, Multi, Load}
 use Rattle.sg_top.specs.declared.command.Shows.TheVariants.{Report, Trace, Costs, Picture, Columns}

@@ -1,7 +1,7 @@
 -- No field has two effects.
 use Rattle.std.proofs.Common.{◌∙◌, ap}
-use Rattle.sg_facts.specs.Allowed.{sets_once}
-use Rattle.sg_facts.specs.Facts.{Fun}
+use Rattle.sg_described.specs.sg_facts.Allowed.{sets_once}
+use Rattle.sg_described.specs.sg_facts.Facts.{Fun}
 use Rattle.sg_described.specs.Described.{described_of}
 use Rattle.sg_described.proofs.Keeping.Answering.{plain_fun}
 use Rattle.sg_interpret.proofs.answer.answered.Goals as goal

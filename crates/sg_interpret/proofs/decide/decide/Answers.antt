@@ -1,10 +1,10 @@
 -- What is done with what was answered is right; the entry of a call on a descriptor is there.
 use Rattle.std.proofs.Common.{◌≡◌, true, sym, ◌∙◌, ap, subst}
 use Rattle.std.specs.Option.{is_some}
-use Rattle.sg_facts.specs.Facts.{Fun}
-use Rattle.sg_slots.specs.Slots.{entry_at}
-use Rattle.sg_slots.specs.Decide.{Decides}
-use Rattle.sg_slots.proofs.Rows.{is_live-rows_of}
+use Rattle.sg_described.specs.sg_facts.Facts.{Fun}
+use Rattle.sg_described.specs.sg_slots.Slots.{entry_at}
+use Rattle.sg_described.specs.sg_slots.Decide.{Decides}
+use Rattle.sg_described.proofs.sg_slots.Rows.{is_live-rows_of}
 use Rattle.sg_described.specs.Described.{described_of}
 use Rattle.sg_described.specs.Meaning.{described_parts, described_table}
 use Rattle.sg_described.proofs.Keeping.Answering.{plain_fun}

@@ -1,7 +1,7 @@
 -- The first effect fits, and the others on what it leaves.
 use Rattle.std.proofs.Common.{map}
-use Rattle.sg_facts.specs.sg_base.declared.value.Value.TheVariants.{Word}
-use Rattle.sg_slots.specs.Carry.{words_of}
+use Rattle.sg_described.specs.sg_facts.sg_base.declared.value.Value.TheVariants.{Word}
+use Rattle.sg_described.specs.sg_slots.Carry.{words_of}
 use Rattle.sg_described.specs.Meaning.{said}
 use Rattle.sg_interpret.proofs.Applying.{all_fit}
 use Rattle.sg_interpret.proofs.effects.+do_effects.Goals as goal

@@ -1,7 +1,7 @@
 -- The description is the service's, and safe.
 use Rattle.std.proofs.Common.{sym, subst}
-use Rattle.sg_facts.specs.Kinds.{MayAsk}
-use Rattle.sg_slots.specs.Slots.{object_of}
+use Rattle.sg_described.specs.sg_facts.Kinds.{MayAsk}
+use Rattle.sg_described.specs.sg_slots.Slots.{object_of}
 use Rattle.sg_described.specs.Safe.{IsPlain}
 use Rattle.sg_described.proofs.Keeping.SafeLaw.{made_is_safe}
 use Rattle.sg_interpret.specs.DescribedRow.{described_body}

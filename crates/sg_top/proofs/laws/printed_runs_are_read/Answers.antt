@@ -1,7 +1,7 @@
 -- What a run prints is read to its history, for an interface of one of the services.
-use Rattle.sg_input.proofs.sg_entries.Backwards.{has_history}
-use Rattle.sg_input.proofs.sg_entries.Spelt.{named_tells}
-use Rattle.sg_input.specs.sg_entries.Entry.{shows_named}
+use Rattle.sg_judge.proofs.sg_input.sg_entries.Backwards.{has_history}
+use Rattle.sg_judge.proofs.sg_input.sg_entries.Spelt.{named_tells}
+use Rattle.sg_judge.specs.sg_input.sg_entries.Entry.{shows_named}
 use Rattle.sg_top.specs.Answer.{services}
 use Rattle.sg_top.proofs.Fitting.{interface_service}
 use Rattle.sg_top.proofs.Named.{names_of}

@@ -4,7 +4,7 @@ use Rattle.sg_cost.specs.Costs.{costs_at}
 use Rattle.sg_cost.specs.Lines.{cost_text_of}
 use Rattle.sg_facts.specs.Interface.{Declared}
 use Rattle.sg_facts.specs.Trace.{run_of}
-use Rattle.sg_report.specs.sg_hist.declared.ended.Ended.{Ended}
+use Rattle.sg_verify.specs.sg_report.sg_hist.declared.ended.Ended.{Ended}
 use Rattle.sg_top.specs.Inside.Plays.{IsPlayedOn}
 use Rattle.sg_top.proofs.Running.{of_one}
 use Rattle.sg_top.proofs.output.costs_shown.Goals as goal

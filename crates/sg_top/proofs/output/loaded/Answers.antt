@@ -2,8 +2,8 @@
 use Rattle.std.proofs.Common.{◌∙◌, ap}
 use Rattle.sg_facts.specs.Facts.{Facts}
 use Rattle.sg_load.specs.Services.{facts_by}
-use Rattle.sg_report.specs.Report.{load_line_of}
-use Rattle.sg_report.specs.sg_hist.declared.ended.Ended.{Ended}
+use Rattle.sg_verify.specs.sg_report.Report.{load_line_of}
+use Rattle.sg_verify.specs.sg_report.sg_hist.declared.ended.Ended.{Ended}
 use Rattle.sg_top.proofs.Running.{own_output}
 use Rattle.sg_top.proofs.output.loaded.Goals as goal
 

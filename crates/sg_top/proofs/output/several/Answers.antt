@@ -4,7 +4,7 @@ use Rattle.sg_facts.specs.Facts.{facts_of}
 use Rattle.sg_facts.specs.Fits.{Fits}
 use Rattle.sg_facts.specs.Interface.{Declared}
 use Rattle.sg_facts.specs.sg_base.Lists.{Each}
-use Rattle.sg_input.specs.MultiInputs.{IsMultiReady}
+use Rattle.sg_judge.specs.sg_input.MultiInputs.{IsMultiReady}
 use Rattle.sg_load.specs.sg_check_statements.Shapes.{IsSmall}
 use Rattle.sg_multi.specs.Report.{multi_text_of}
 use Rattle.sg_multi.specs.declared.play.MemberTables.{MemberTables}

@@ -1,7 +1,7 @@
 -- An input that is ready is so with the service of its interface.
 use Rattle.std.proofs.Common.{map, subst}
 use Rattle.sg_facts.specs.Facts.{facts_of}
-use Rattle.sg_input.specs.declared.read.Read.TheVariants.{Refused}
+use Rattle.sg_judge.specs.sg_input.declared.read.Read.TheVariants.{Refused}
 use Rattle.sg_judge.specs.AnyInputs.{IsAnyInputOf, IsReadyAs}
 use Rattle.sg_top.specs.Answer.{services}
 use Rattle.sg_top.proofs.ready.ready_input.Goals as goal

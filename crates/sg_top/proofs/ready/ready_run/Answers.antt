@@ -1,8 +1,8 @@
 -- An input that is ready is so with the service of its interface, and its history may be judged.
 use Rattle.std.proofs.Common.{map, subst}
 use Rattle.sg_facts.specs.Facts.{facts_of}
-use Rattle.sg_input.specs.Judged.{MayBeJudged}
-use Rattle.sg_input.specs.declared.read.Read.TheVariants.{Refused}
+use Rattle.sg_judge.specs.sg_input.Judged.{MayBeJudged}
+use Rattle.sg_judge.specs.sg_input.declared.read.Read.TheVariants.{Refused}
 use Rattle.sg_judge.specs.AnyInputs.{IsAnyRunInputOf, IsRunReadyAs, interfaces_in}
 use Rattle.sg_top.specs.Answer.{services}
 use Rattle.sg_top.proofs.ready.ready_run.Goals as goal

@@ -1,7 +1,7 @@
 -- What was read, and what was found by runs with other stops, is the answer.
 use Rattle.std.proofs.Common.{◌+◌, ◌∙◌, ap, subst, refl, Ok}
 use Rattle.sg_edge.specs.Intake.{TakesIn}
-use Rattle.sg_input.specs.Inputs.{most_interface, most_script}
+use Rattle.sg_judge.specs.sg_input.Inputs.{most_interface, most_script}
 use Rattle.sg_top.specs.declared.command.Command.TheVariants.{Explore}
 use Rattle.sg_top.proofs.Answers.{found_output, one_given, whole_answer, too_long_answer}
 use Rattle.sg_top.proofs.top.with_exploration.Goals as goal

@@ -1,7 +1,7 @@
 -- A described service has no files.
 use Rattle.std.proofs.Common.{cond, sym, ap}
-use Rattle.sg_facts.specs.Object.{Object, set_file}
-use Rattle.sg_slots.specs.Slots.{object_of}
+use Rattle.sg_described.specs.sg_facts.Object.{Object, set_file}
+use Rattle.sg_described.specs.sg_slots.Slots.{object_of}
 use Rattle.sg_described.specs.Safe.{made_safe}
 use Rattle.sg_described.proofs.Keeping.SafeLaw.{made_is_safe}
 use Rattle.sg_interpret.specs.DescribedRow.{described_body}
