@@ -6,4 +6,3 @@ pub mod Searching
 pub mod Seams
 pub mod Telling
 pub use Rattle.sg_input.proofs as sg_input
-pub use Rattle.sg_input.proofs as sg_input
