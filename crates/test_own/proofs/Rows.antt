@@ -11,11 +11,11 @@ use Rattle.sg_describe.specs.sg_described.DescribedSound.{are_up_to}
 -- what holds of rows holds of the one of an id
 pub row_meets : (P : Row → Type 0) (low high id : ℕ) (rows : List Row) (r : Row) → AreRows P low high rows → row_at rows id ≡ Some r → P r
 row_meets P low high id [] r are there = absurd (cc there)
-row_meets P low high id (x ∷ rows) r are there = at (x.id == id) there
+row_meets P low high id (x ∷ rows) r are there = at (x.id == id) there (row_meets P x.id high id rows r are.3)
   where
-    at : (b : Bool) → cond b (Some x) (row_at rows id) ≡ Some r → P r
-    at true there = let one : x ≡ r = cc there in subst P one are.2
-    at false there = row_meets P x.id high id rows r are.3 there
+    at : (b : Bool) → cond b (Some x) (row_at rows id) ≡ Some r → (row_at rows id ≡ Some r → P r) → P r
+    at true there later = let one : x ≡ r = cc there in subst P one are.2
+    at false there later = later there
 
 -- fields that are one word
 pub record IsOneWord (most : ℕ) (fields : List Value) : Type 0 where

@@ -16,6 +16,8 @@ use Rattle.sg_describe.specs.sg_described.declared.description.Operand.TheVarian
 use Rattle.sg_describe.specs.sg_described.declared.description.Relation.TheVariants.{Is}
 use Rattle.sg_describe.specs.sg_described.declared.description.Term.TheVariants.{Only, Least}
 use Rattle.sg_describe.specs.sg_described.declared.description.Verdict.TheVariants.{Wait, Give}
+use Rattle.sg_describe.specs.sg_described.Safe.{is_safe}
+use Rattle.sg_shape.specs.ShapeOfText.{shape_of_text}
 use Rattle.sg_describe.specs.sg_facts.Laws.{Passes}
 use Rattle.sg_describe.specs.sg_facts.Object.{Object}
 use Rattle.sg_describe.specs.sg_facts.Track.{arg_at, field_at, row_at, word_of}
@@ -62,9 +64,9 @@ module _ (o : Object) (client seq desc : ℕ) (args : List Value) where
   abbrev Same : ℕ → Row → ℕ → Type 0
   Same fun r n = answer_of described_event (call_of fun) false o.given (with r n) ≡ event_answer fun o.given n asked
 
-  waited : (r : Row) (n : ℕ) → nat_le n 4294967295 ≡ true → Same 2 r n
-  waited r zero fits = refl
-  waited r (suc n) fits = let less : nat_le n 4294967295 ≡ true = grind (arith, nat_tests, fits) in rw less refl
+  waited : (r : Row) (n : ℕ) (b : Bool) → (n == 0) ≡ b → nat_le (n - 1) 4294967295 ≡ true → Same 2 r n
+  waited r n true none fits = rw none refl
+  waited r n false none fits = rw (none, fits) refl
 
   -- a number lies above another where it isn't at most that
   above : (n : ℕ) → nat_lt 4294967295 n ≡ not (nat_le n 4294967295)
@@ -91,7 +93,7 @@ module _ (o : Object) (client seq desc : ℕ) (args : List Value) where
   same (suc zero) sound passes = refl
   same (suc (suc zero)) sound passes =
       let found = row_of_call event_facts o (call_of 2) passes refl refl in
-      on_row 2 sound found.0 found.1 (waited found.0)
+      on_row 2 sound found.0 found.1 (λ n fits. waited found.0 n (n == 0) refl (grind (arith, nat_tests, fits)))
   same (suc (suc (suc zero))) sound passes =
       let found = row_of_call event_facts o (call_of 3) passes refl refl in
       on_row 3 sound found.0 found.1 (λ n fits. triggered found.0 n (nat_le (n + asked) 4294967295) refl (above (n + asked)))
@@ -113,7 +115,11 @@ parts_same (suc (suc (suc (suc (suc zero))))) low high = refl
 parts_same (suc (suc (suc (suc (suc (suc n)))))) low high = absurd (omega (arith, high))
 
 described : described_of_text own_event_tree ≡ described_event
+unfolding shape_of_text
 described = refl
+
+pub event_is_safe : is_safe (described_of_text own_event_tree) ≡ true
+event_is_safe = subst (λ d. is_safe d ≡ true) (sym described) (refl)
 
 pub event_answers : AnswersAs (described_of_text own_event_tree) Events
 event_answers = subst (λ d. AnswersAs d Events) (sym described) (record {

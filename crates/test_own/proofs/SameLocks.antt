@@ -1,6 +1,6 @@
 -- Locks that a text describes answer what locks do.
-use Rattle.std.proofs.Common.{◌≡◌, ℕ, zero, suc, ◌≤◌, Bool, true, false, List, [], ◌∷◌, None, Some, length, refl, sym, ◌∙◌, ap, subst, arith}
-use Rattle.std.specs.Prelude.{◌==◌, nat_le}
+use Rattle.std.proofs.Common.{◌≡◌, ℕ, zero, suc, ◌≤◌, Bool, true, false, not, List, [], ◌∷◌, None, Some, length, refl, sym, ◌∙◌, ap, subst, arith}
+use Rattle.std.specs.Prelude.{◌==◌, nat_le, nat_lt}
 use Rattle.std.specs.Option.{option_map_or}
 use Rattle.std.specs.declared.option.Option.{Option}
 use Rattle.std.proofs.lemmas.Bool.Decides.{nat_tests}
@@ -16,6 +16,8 @@ use Rattle.sg_describe.specs.sg_described.declared.description.Operand.TheVarian
 use Rattle.sg_describe.specs.sg_described.declared.description.Relation.TheVariants.{Is, IsNot, Above}
 use Rattle.sg_describe.specs.sg_described.declared.description.Term.TheVariants.{Only}
 use Rattle.sg_describe.specs.sg_described.declared.description.Verdict.TheVariants.{Refuse, Wait}
+use Rattle.sg_describe.specs.sg_described.Safe.{is_safe}
+use Rattle.sg_shape.specs.ShapeOfText.{shape_of_text}
 use Rattle.sg_describe.specs.sg_facts.Laws.{Passes}
 use Rattle.sg_describe.specs.sg_facts.Object.{Object}
 use Rattle.sg_describe.specs.sg_facts.Track.{field_at, row_at, word_of}
@@ -43,6 +45,10 @@ described_lock = record {
       ∷ [];
 }
 
+-- a number is above 0, or it is 0
+above_zero : (n : ℕ) → nat_lt 0 n ≡ not (n == 0)
+above_zero n = grind (arith, nat_tests)
+
 module _ (o : Object) (client seq desc : ℕ) (args : List Value) where
   abbrev call_of : ℕ → Call
   call_of fun = record { client = client; seq = seq; fun = fun; desc = desc; args = args }
@@ -51,19 +57,19 @@ module _ (o : Object) (client seq desc : ℕ) (args : List Value) where
   abbrev with : Row → ℕ → Option Row
   with r n = Some (record r { fields = Word n ∷ [] })
 
-  taken : (r : Row) (n : ℕ) (a : Bool) → (n == client) ≡ a → nat_le client 4294967295 ≡ true → answer_of described_lock (call_of 2) false o.given (with r n) ≡ lock_answer 2 o.given n client
-  taken r zero true own high = rw (own, high) refl
-  taken r zero false own high = rw (own, high) refl
-  taken r (suc n) true own high = rw (own, high) refl
-  taken r (suc n) false own high = rw (own, high) refl
+  taken : (r : Row) (n : ℕ) (a b : Bool) → (n == client) ≡ a → (n == 0) ≡ b → nat_lt 0 n ≡ not b → nat_le client 4294967295 ≡ true
+      → answer_of described_lock (call_of 2) false o.given (with r n) ≡ lock_answer 2 o.given n client
+  taken r n true b own free above high = rw own refl
+  taken r n false true own free above high = rw (own, free, above, high) refl
+  taken r n false false own free above high = rw (own, free, above) refl
 
   released : (r : Row) (n : ℕ) (a : Bool) → (n == client) ≡ a → answer_of described_lock (call_of 3) false o.given (with r n) ≡ lock_answer 3 o.given n client
   released r n true own = rw own refl
   released r n false own = rw own refl
 
-  freed : (r : Row) (n : ℕ) → answer_of described_lock (call_of 4) false o.given (with r n) ≡ lock_answer 4 o.given n client
-  freed r zero = refl
-  freed r (suc n) = refl
+  freed : (r : Row) (n : ℕ) (b : Bool) → (n == 0) ≡ b → nat_lt 0 n ≡ not b → answer_of described_lock (call_of 4) false o.given (with r n) ≡ lock_answer 4 o.given n client
+  freed r n true free above = rw (free, above) refl
+  freed r n false free above = rw (free, above) refl
 
   -- the owner in a row, or 0
   abbrev word_in : Option Row → ℕ
@@ -85,13 +91,13 @@ module _ (o : Object) (client seq desc : ℕ) (args : List Value) where
   same (suc (suc zero)) sound passes =
       let found = row_of_call lock_facts o (call_of 2) passes refl refl in
       let last = passes.within.client_last in
-      on_row 2 sound found.0 found.1 (λ n. taken found.0 n (n == client) refl (grind (arith, nat_tests, last)))
+      on_row 2 sound found.0 found.1 (λ n. taken found.0 n (n == client) (n == 0) refl refl (above_zero n) (grind (arith, nat_tests, last)))
   same (suc (suc (suc zero))) sound passes =
       let found = row_of_call lock_facts o (call_of 3) passes refl refl in
       on_row 3 sound found.0 found.1 (λ n. released found.0 n (n == client) refl)
   same (suc (suc (suc (suc zero)))) sound passes =
       let found = row_of_call lock_facts o (call_of 4) passes refl refl in
-      on_row 4 sound found.0 found.1 (freed found.0)
+      on_row 4 sound found.0 found.1 (λ n. freed found.0 n (n == 0) refl (above_zero n))
   same (suc (suc (suc (suc (suc n))))) sound passes = absurd (let high = passes.is_call.last in omega (arith, high))
 
 parts_same : (fun : ℕ) → 1 ≤ fun → fun ≤ 4 → described_parts described_lock fun ≡ lock_parts fun
@@ -103,7 +109,11 @@ parts_same (suc (suc (suc (suc zero)))) low high = refl
 parts_same (suc (suc (suc (suc (suc n))))) low high = absurd (omega (arith, high))
 
 described : described_of_text own_lock_tree ≡ described_lock
+unfolding shape_of_text
 described = refl
+
+pub lock_is_safe : is_safe (described_of_text own_lock_tree) ≡ true
+lock_is_safe = subst (λ d. is_safe d ≡ true) (sym described) (refl)
 
 pub lock_answers : AnswersAs (described_of_text own_lock_tree) Locks
 lock_answers = subst (λ d. AnswersAs d Locks) (sym described) (record {

@@ -1,4 +1,4 @@
 pub mod OwnTexts
 pub mod Standard
 pub use Rattle.sg_load.specs as sg_load
-pub use Rattle.sg_describe.specs.sg_shape as sg_shape
+pub use Rattle.sg_shape.specs as sg_shape

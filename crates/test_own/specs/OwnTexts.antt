@@ -4,18 +4,18 @@ use Rattle.std.specs.Prelude.{ℕ, ◌≡◌, ◌≤◌, List, [], ◌∷◌, �
 use Rattle.sg_describe.specs.sg_described.Described.{Described}
 use Rattle.sg_describe.specs.sg_described.DescribedSound.{IsDescribedSound}
 use Rattle.sg_describe.specs.sg_described.Meaning.{described_parts, described_table}
-use Rattle.sg_describe.specs.sg_shape.sg_check_statements.sg_parse.declared.tree.Statement.{Statement}
-use Rattle.sg_describe.specs.sg_shape.sg_check_statements.sg_parse.declared.tree.Statement.TheVariants.{Answer}
-use Rattle.sg_describe.specs.sg_shape.sg_check_statements.sg_parse.declared.tree.Tree.{Tree}
-use Rattle.sg_describe.specs.sg_shape.sg_check_statements.sg_parse.sg_rules.declared.tree.Operand.{Operand}
-use Rattle.sg_describe.specs.sg_shape.sg_check_statements.sg_parse.sg_rules.declared.tree.Operand.TheVariants.{Number, Caller, Argument, Named}
-use Rattle.sg_describe.specs.sg_shape.sg_check_statements.sg_parse.sg_rules.declared.tree.Operator.TheVariants.{Least}
-use Rattle.sg_describe.specs.sg_shape.sg_check_statements.sg_parse.sg_rules.declared.tree.Relation.{Relation}
-use Rattle.sg_describe.specs.sg_shape.sg_check_statements.sg_parse.sg_rules.declared.tree.Relation.TheVariants.{Is, IsNot, Above}
-use Rattle.sg_describe.specs.sg_shape.sg_check_statements.sg_parse.sg_rules.declared.tree.Rule.{Rule}
-use Rattle.sg_describe.specs.sg_shape.sg_check_statements.sg_parse.sg_rules.declared.tree.Rule.TheVariants.{Refuse, Wait, Give}
-use Rattle.sg_describe.specs.sg_shape.sg_check_statements.sg_parse.sg_rules.declared.tree.Term.{Term}
-use Rattle.sg_describe.specs.sg_shape.sg_check_statements.sg_parse.sg_rules.declared.tree.Tests.{Tests}
+use Rattle.sg_shape.specs.sg_check_statements.sg_parse.declared.tree.Statement.{Statement}
+use Rattle.sg_shape.specs.sg_check_statements.sg_parse.declared.tree.Statement.TheVariants.{Answer}
+use Rattle.sg_shape.specs.sg_check_statements.sg_parse.declared.tree.Tree.{Tree}
+use Rattle.sg_shape.specs.sg_check_statements.sg_parse.sg_rules.declared.tree.Operand.{Operand}
+use Rattle.sg_shape.specs.sg_check_statements.sg_parse.sg_rules.declared.tree.Operand.TheVariants.{Number, Caller, Argument, Named}
+use Rattle.sg_shape.specs.sg_check_statements.sg_parse.sg_rules.declared.tree.Operator.TheVariants.{Least}
+use Rattle.sg_shape.specs.sg_check_statements.sg_parse.sg_rules.declared.tree.Relation.{Relation}
+use Rattle.sg_shape.specs.sg_check_statements.sg_parse.sg_rules.declared.tree.Relation.TheVariants.{Is, IsNot, Above}
+use Rattle.sg_shape.specs.sg_check_statements.sg_parse.sg_rules.declared.tree.Rule.{Rule}
+use Rattle.sg_shape.specs.sg_check_statements.sg_parse.sg_rules.declared.tree.Rule.TheVariants.{Refuse, Wait, Give}
+use Rattle.sg_shape.specs.sg_check_statements.sg_parse.sg_rules.declared.tree.Term.{Term}
+use Rattle.sg_shape.specs.sg_check_statements.sg_parse.sg_rules.declared.tree.Tests.{Tests}
 use Rattle.sg_load.specs.Services.{answering}
 use Rattle.sg_load.specs.declared.kind.ServiceKind.{ServiceKind}
 use Rattle.sg_describe.specs.sg_facts.Laws.{Passes}

@@ -1,14 +1,14 @@
 -- The trees of the standard interfaces, each name at place 0.
 use Rattle.std.specs.Prelude.{ℕ, List, [], ◌∷◌, None, Some, codes, false}
-use Rattle.sg_describe.specs.sg_shape.sg_check_statements.sg_parse.declared.tree.Facts.{Facts}
-use Rattle.sg_describe.specs.sg_shape.sg_check_statements.sg_parse.declared.tree.Param.{Param}
-use Rattle.sg_describe.specs.sg_shape.sg_check_statements.sg_parse.declared.tree.Ret.{Ret}
-use Rattle.sg_describe.specs.sg_shape.sg_check_statements.sg_parse.declared.tree.Ret.TheVariants.{Plain, Set, Add, Sub}
-use Rattle.sg_describe.specs.sg_shape.sg_check_statements.sg_parse.declared.tree.Statement.{Statement}
-use Rattle.sg_describe.specs.sg_shape.sg_check_statements.sg_parse.declared.tree.Statement.TheVariants.{One, Two, Proto}
-use Rattle.sg_describe.specs.sg_shape.sg_check_statements.sg_parse.declared.tree.Tree.{Tree}
-use Rattle.sg_describe.specs.sg_shape.sg_check_statements.sg_parse.declared.tree.TypeName.{TypeName}
-use Rattle.sg_describe.specs.sg_shape.sg_check_statements.sg_parse.sg_lex.Lexeme.{Spelling}
+use Rattle.sg_shape.specs.sg_check_statements.sg_parse.declared.tree.Facts.{Facts}
+use Rattle.sg_shape.specs.sg_check_statements.sg_parse.declared.tree.Param.{Param}
+use Rattle.sg_shape.specs.sg_check_statements.sg_parse.declared.tree.Ret.{Ret}
+use Rattle.sg_shape.specs.sg_check_statements.sg_parse.declared.tree.Ret.TheVariants.{Plain, Set, Add, Sub}
+use Rattle.sg_shape.specs.sg_check_statements.sg_parse.declared.tree.Statement.{Statement}
+use Rattle.sg_shape.specs.sg_check_statements.sg_parse.declared.tree.Statement.TheVariants.{One, Two, Proto}
+use Rattle.sg_shape.specs.sg_check_statements.sg_parse.declared.tree.Tree.{Tree}
+use Rattle.sg_shape.specs.sg_check_statements.sg_parse.declared.tree.TypeName.{TypeName}
+use Rattle.sg_shape.specs.sg_check_statements.sg_parse.sg_lex.Lexeme.{Spelling}
 
 -- ---- parts of trees
 

@@ -1,5 +1,5 @@
 // Texts with one place marked, and what is first wrong there.
-use sg_describe::{ShapeError, ShapeFaultKind, parse, shape_of};
+use sg_shape::{ShapeError, ShapeFaultKind, parse, shape_of};
 use std::alloc::{AllocError, Global};
 use std::process::Abort;
 use std::test::Fail;

@@ -1,6 +1,6 @@
 // What is wrong with texts by themselves, kind by kind.
 use crate::cases::{Case, DATA, PARENTS, PLAIN, PRIVATE, VERSION_3, try_each};
-use sg_describe::ShapeFaultKind;
+use sg_shape::ShapeFaultKind;
 use std::test::Fail;
 
 // A private service whose descriptors may have parents of other clients.

@@ -1,6 +1,6 @@
 // Texts at the limits, and past them.
 use crate::cases::{Answer, DATA, PLAIN, VERSION_3, answer};
-use sg_describe::{MOST_PARAMS, MOST_RULES, ShapeFaultKind};
+use sg_shape::{MOST_PARAMS, MOST_RULES, ShapeFaultKind};
 use std::alloc::{AllocError, Global};
 use std::test::Fail;
 

@@ -4,7 +4,7 @@
 ghost use Rattle.std.specs.Prelude.{◌≡◌};
 ghost use Rattle.sg_load.specs.Services.{facts_by};
 ghost use Rattle.sg_load.specs.declared.kind.ServiceKind.TheVariants.{Locks, Events, Pages, Files, Threads, Timers};
-ghost use Rattle.sg_describe.specs.sg_shape.ShapeOfText.{shape_of_text};
+ghost use Rattle.sg_shape.specs.ShapeOfText.{shape_of_text};
 ghost use Rattle.test_own.specs.Standard.{event_tree, lock_tree, mm_tree, ramfs_tree, sched_tree, timer_tree};
 
 /// The shape of the standard interface of locks is that of the service.

@@ -1,5 +1,5 @@
 // The shape that is read of each standard interface.
-use sg_describe::{Service, Shape, parse, shape_of};
+use sg_shape::{Service, Shape, parse, shape_of};
 use sg_load::ServiceKind;
 use std::alloc::Global;
 use std::process::Abort;

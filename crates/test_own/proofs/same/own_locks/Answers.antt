@@ -1,10 +1,9 @@
 -- By computing, and function by function.
-use Rattle.std.proofs.Common.{refl}
-use Rattle.test_own.proofs.SameLocks.{lock_answers}
+use Rattle.test_own.proofs.SameLocks.{lock_answers, lock_is_safe}
 use Rattle.test_own.proofs.same.own_locks.Goals as goal
 
 pub returns-clause-safe : goal.returns-clause-safe
-returns-clause-safe c = refl
+returns-clause-safe c = lock_is_safe
 
 pub returns-clause-answers : goal.returns-clause-answers
 returns-clause-answers c = lock_answers
