@@ -1,6 +1,6 @@
 // The shape that is read of each standard interface.
-use sg_shape::{Service, Shape, parse, shape_of};
 use sg_load::ServiceKind;
+use sg_shape::{Service, Shape, parse, shape_of};
 use std::alloc::Global;
 use std::process::Abort;
 use std::test::Fail;
