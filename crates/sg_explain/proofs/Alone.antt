@@ -4,7 +4,7 @@ use Rattle.std.specs.Prelude.{codes}
 use Rattle.sg_input.specs.sg_facts.Facts.{Facts}
 use Rattle.sg_input.specs.sg_facts.Interface.{Declared}
 use Rattle.sg_input.specs.sg_facts.Words.{line_end}
-use Rattle.sg_input.proofs.OneInput.{judged_alone, never_ready, not_refused}
+use Rattle.sg_input.proofs.OneInput.{judged_alone, never_ready, not_refused, refused_text}
 use Rattle.sg_input.specs.Inputs.{IsInputOf, IsInterface, IsReady, judged_by}
 use Rattle.sg_input.specs.Lines.{too_long_line}
 use Rattle.sg_input.specs.Verdicts.{IsVerdict}
@@ -43,7 +43,7 @@ module _ (services : List Facts) (input : List ℕ) where
   refused_with : (text line : List ℕ) (i : Declared) (script : Script) → IsReady (judged_by services) input i script → IsInterfaceText input text → IsVerdict services text (Refused line)
       → IsInputOf (judged_by services) input (Refused line)
   refused_with text line i script ready (inl (none, fits, same)) verdict = absurd (none ready.interface ready.second ready.texts.cut.divides)
-  refused_with text line i script ready (inr (second, texts)) verdict = inl (inr (inr (text, second, texts, verdict)))
+  refused_with text line i script ready (inr (second, texts)) verdict = inl (inr (inr (text, second, texts, refused_text services text line verdict)))
 
   input_alone : (line : List ℕ) (i : Declared) (script : Script) → IsReady (judged_by services) input i script → IsExplained services input (Refused line) → ⊥
   input_alone line i script ready (inl (inl (none, long), is)) = none ready.interface ready.second ready.texts.cut.divides

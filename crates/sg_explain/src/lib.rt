@@ -24,13 +24,14 @@ pub use parts::put;
 pub use reasons::put_why;
 pub use rebuilt::{put_counts, put_names};
 pub use sg_input::{
-    Accepted, Bytes, History, InputTexts, Interface, Lexer, MOST_DIVIDER, MOST_INPUT,
-    MOST_INTERFACE, MOST_MULTI_INPUT, MOST_RUN, MOST_RUN_INPUT, MOST_SCRIPT, MultiScript, NoMemory,
-    ParseError, Read, RefusalKind, Rule, Script, ScriptError, ScriptFault, Shape, Statement,
-    TOO_LONG, Tests, Tree, accepted_line, compile, compiled, cut, examine, history_of,
-    interface_line, is_own, one_cut, one_input, parse, print_tables, put_rule, put_term, put_tests,
-    read_input, read_multi_input, read_script, refusal_line, refusal_name, script_of, texts_of,
-    upgraded, verdict,
+    Accepted, Bytes, CheckError, History, InputTexts, Interface, Lexer, ListOf, MOST_DIVIDER,
+    MOST_INPUT, MOST_INTERFACE, MOST_MULTI_INPUT, MOST_RUN, MOST_RUN_INPUT, MOST_SCRIPT,
+    MOST_SERVICES, MultiScript, MultiTexts, NoMemory, ParseError, Read, RefusalKind, Rule, Script,
+    ScriptError, ScriptFault, Shape, Statement, TOO_LONG, Tests, Tree, TryCopy, accepted_line,
+    check_for, compile, compiled, cut, history_of, interface_line, is_own, member_line,
+    multi_script_of, multi_texts_of, one_cut, one_input, parse, print_tables, put_rule, put_term,
+    put_tests, read_input, read_script, refusal_line, refusal_name, script_of, texts_of, upgraded,
+    verdict,
 };
 pub use stuck::put_stuck;
 pub use words::{Sentences, TOO_LONG_EXPLAINED, check_words};

@@ -1,6 +1,6 @@
 -- An input is one thing: its two texts are one pair, and each of them has one reading.
 use Rattle.std.proofs.Common.{◌≡◌, inl, inr, ℕ, ◌<◌, ◌≤◌, List, Some, IfOk, length, refl, sym, ◌∙◌, ap, subst, arith}
-use Rattle.std.specs.Prelude.{Ok, Err}
+use Rattle.std.specs.Prelude.{Ok, Err, codes}
 use Rattle.std.specs.declared.result.Result.{Result}
 use Rattle.sg_facts.specs.sg_base.declared.memory.NoMemory.{NoMemory}
 use Rattle.sg_script.specs.sg_lex.Tokens.{answers_of}
@@ -11,9 +11,10 @@ use Rattle.sg_input.specs.sg_parse.declared.tree.Tree.{Tree}
 use Rattle.sg_input.specs.sg_parse.Grammar.Parses.{Parses}
 use Rattle.sg_input.proofs.sg_parse.Grammar.Readings.{only_answer}
 use Rattle.sg_input.specs.sg_check_statements.Faults.{IsAccepted, interface_of}
-use Rattle.sg_input.specs.Verdicts.{IsVerdict, services_for}
+use Rattle.sg_input.specs.Lines.{refused_line}
+use Rattle.sg_input.specs.Verdicts.{IsVerdict, refusal_name, services_for}
 use Rattle.sg_input.specs.Inside.Said.{accepted_line, script_line}
-use Rattle.sg_input.proofs.OneVerdict.{one_verdict}
+use Rattle.sg_input.proofs.OneVerdict.{one_refusal, one_verdict}
 use Rattle.sg_script.specs.declared.fault.ScriptError.{ScriptError}
 use Rattle.sg_script.specs.declared.fault.ScriptError.TheVariants.{NoMemory as no_room, Fault}
 use Rattle.sg_script.specs.declared.fault.ScriptFault.{ScriptFault}
@@ -21,7 +22,7 @@ use Rattle.sg_script.specs.declared.script.Script.{Script}
 use Rattle.sg_script.proofs.Unique.{one_reading}
 use Rattle.sg_input.specs.declared.read.Read.{Read}
 use Rattle.sg_input.specs.declared.read.Read.TheVariants.{Ready, Refused}
-use Rattle.sg_input.specs.Inputs.{AreTexts, IsInputOf, IsInterface, IsReadAs, IsReady, IsRefusedInput, IsScriptOf, Judging, judged_by, most_interface, most_script}
+use Rattle.sg_input.specs.Inputs.{AreTexts, IsInputOf, IsInterface, IsReadAs, IsReady, IsRefusedInput, IsRefusedText, IsScriptOf, Judging, judged_by, most_interface, most_script}
 use Rattle.sg_input.specs.Inside.Parted.{HasLongText, HasNoDivider, IsBadInterface, IsRefusedFront}
 use Rattle.sg_input.proofs.OneCut.{one_cut}
 
@@ -55,15 +56,35 @@ not_refused services text i line (tree, p, is) said =
 -- each text is judged in one way
 pub record IsOneJudging (judging : Judging) : Type 0 where
   pub one : (text : List ℕ) (i j : Declared) → judging.accepts text i → judging.accepts text j → i ≡ j
-  pub line : (text line line' : List ℕ) → judging.refuses text line → judging.refuses text line' → line ≡ line'
-  pub apart : (text : List ℕ) (i : Declared) (line : List ℕ) → judging.accepts text i → judging.refuses text line → ⊥
+  pub flaw : (text name name' : List ℕ) (at at' : ℕ) → judging.flaw text name at → judging.flaw text name' at' → (name ≡ name') × (at ≡ at')
+  pub apart : (text : List ℕ) (i : Declared) (name : List ℕ) (at : ℕ) → judging.accepts text i → judging.flaw text name at → ⊥
 
-one_line_of : (services : List Facts) (text line line' : List ℕ) → IsVerdict services text (Refused line) → IsVerdict services text (Refused line') → line ≡ line'
-one_line_of services text line line' a b =
-    let same : ◌≡◌ {A = Read (List ℕ)} (Refused line) (Refused line') = one_verdict services text (Refused line) (Refused line') a b in cc same
+one_flaw : (services : List Facts) (text name name' : List ℕ) (at at' : ℕ) → (judged_by services).flaw text name at → (judged_by services).flaw text name' at'
+    → (name ≡ name') × (at ≡ at')
+one_flaw services text name name' at at' (kind, bad, is) (kind', bad', is') =
+    let both = one_refusal services text kind kind' at at' bad bad' in (is ∙ ap refusal_name both.0 ∙ sym is', both.1)
+
+flawless : (services : List Facts) (text : List ℕ) (i : Declared) (name : List ℕ) (at : ℕ) → IsInterface services text i → (judged_by services).flaw text name at → ⊥
+flawless services text i name at accepted (kind, bad, is) =
+    not_refused services text i (refused_line (codes "interface refused at ") text at (refusal_name kind)) accepted (kind, at, bad, refl)
 
 pub judged_alone : (services : List Facts) → IsOneJudging (judged_by services)
-judged_alone services = record { one = one_interface services; line = one_line_of services; apart = not_refused services }
+judged_alone services = record { one = one_interface services; flaw = one_flaw services; apart = flawless services }
+
+-- what a verdict refuses is refused as the text of an interface
+pub refused_text : (services : List Facts) (text line : List ℕ) → IsVerdict services text (Refused line) → IsRefusedText (judged_by services) text line
+refused_text services text line (kind, at, bad, is) = (refusal_name kind, at, (kind, bad, refl), is)
+
+module _ (judging : Judging) (alone : IsOneJudging judging) (text : List ℕ) where
+  -- a text is refused with one line
+  one_text_line : (line line' : List ℕ) → IsRefusedText judging text line → IsRefusedText judging text line' → line ≡ line'
+  one_text_line line line' (name, at, bad, is) (name', at', bad', is') =
+      let both = alone.flaw text name name' at at' bad bad' in
+      is ∙ ap (refused_line (codes "interface refused at ") text at) both.0 ∙ ap (λ n. refused_line (codes "interface refused at ") text n name') both.1 ∙ sym is'
+
+  -- it isn't accepted and refused
+  never_both : (line : List ℕ) (i : Declared) → judging.accepts text i → IsRefusedText judging text line → ⊥
+  never_both line i is (name, at, bad, said) = alone.apart text i name at is bad
 
 -- ---- the two texts
 
@@ -91,14 +112,14 @@ module _ (most : ℕ) (judging : Judging) (alone : IsOneJudging judging) (input 
 
   bad_interfaces : (line line' : List ℕ) → IsBadInterface most judging input line → IsBadInterface most judging input line' → line ≡ line'
   bad_interfaces line line' a b =
-      alone.line a.0 line line' a.3 (subst (λ v. judging.refuses v line') (sym (same_interface a.0 a.1 b.0 b.1 a.2 b.2)) b.3)
+      one_text_line judging alone a.0 line line' a.3 (subst (λ v. IsRefusedText judging v line') (sym (same_interface a.0 a.1 b.0 b.1 a.2 b.2)) b.3)
 
   -- an input that is refused whatever its second text is has no accepted interface beside a text that fits
   pub not_front : (line a b : List ℕ) (i : Declared) → IsRefusedFront most judging input line → AreTexts most input a b → judging.accepts a i → ⊥
   not_front line a b i (inl (none, said)) t is = none a b t.cut.divides
   not_front line a b i (inr (inl (long, said))) t is = not_long a b long t
   not_front line a b i (inr (inr bad)) t is =
-      alone.apart a i line is (subst (λ v. judging.refuses v line) (same_interface bad.0 bad.1 a b bad.2 t) bad.3)
+      never_both judging alone a line i is (subst (λ v. IsRefusedText judging v line) (same_interface bad.0 bad.1 a b bad.2 t) bad.3)
 
   not_divided : (line : List ℕ) → HasNoDivider input → IsBadInterface most judging input line → ⊥
   not_divided line none bad = none bad.0 bad.1 bad.2.cut.divides

@@ -4,12 +4,18 @@ use Rattle.sg_facts.specs.Interface.{Declared}
 use Rattle.sg_input.specs.declared.read.Read.{Read}
 use Rattle.sg_input.specs.declared.read.Read.TheVariants.{Ready, Refused}
 use Rattle.sg_input.specs.Inputs.{AreTexts, IsReadAs, IsRefusedInput, Judging}
-use Rattle.sg_input.specs.Inside.Parted.{AreInputTexts, IsRefusedFront}
+use Rattle.sg_input.specs.MultiInputs.{IsMultiRefused}
+use Rattle.sg_input.specs.Inside.Parted.{AreInputTexts, AreMultiInputTexts, IsRefusedFront}
 
 -- what is refused whatever its texts are is refused whatever its second text is
 pub texts_refused : (most : ℕ) (judging : Judging) (input line : List ℕ) → AreInputTexts most input (Refused line) → IsRefusedFront most judging input line
 texts_refused most judging input line (inl none) = inl none
 texts_refused most judging input line (inr long) = inr (inl long)
+
+-- what is refused whatever its texts are is refused, where it is for several services
+pub multi_texts_refused : (judging : Judging) (input line : List ℕ) → AreMultiInputTexts input (Refused line) → IsMultiRefused judging input line
+multi_texts_refused judging input line (inl none) = inl (inl none)
+multi_texts_refused judging input line (inr ((texts, script, parts, some, long), said)) = inl (inr (inl (texts, script, parts, some, long, said)))
 
 -- an interface is accepted, shown under another name, and the second text is this under it
 module _ {A : Type 0} (most : ℕ) (Reads : Declared → List ℕ → Read A → Type 0) (judging : Judging) (input interface second : List ℕ) (i shown : Declared) (made : Read A)

@@ -6,7 +6,7 @@ use Rattle.sg_facts.specs.Interface.{Declared}
 use Rattle.sg_input.specs.sg_parse.declared.tree.Tree.{Tree}
 use Rattle.sg_input.specs.sg_parse.Grammar.Parses.{Parses}
 use Rattle.sg_input.specs.sg_check_statements.Faults.{IsAccepted}
-use Rattle.sg_input.specs.Verdicts.{IsVerdict, services_for}
+use Rattle.sg_input.specs.Verdicts.{IsRefused, refusal_name, services_for}
 use Rattle.sg_entries.specs.Entry.{shows_named}
 use Rattle.sg_entries.specs.Reads.{IsReadOf}
 use Rattle.sg_entries.specs.declared.error.EntriesError.TheVariants.{Fault as EntriesFault}
@@ -19,6 +19,7 @@ use Rattle.sg_script.specs.declared.script.Script.{Script}
 use Rattle.sg_script.specs.Reads.{IsReadingOf}
 use Rattle.sg_input.specs.declared.read.Read.{Read}
 use Rattle.sg_input.specs.declared.read.Read.TheVariants.{Ready, Refused}
+use Rattle.sg_input.specs.declared.refusal.RefusalKind.{RefusalKind}
 use Rattle.sg_input.specs.Divider.{Divides, IsCut}
 use Rattle.sg_input.specs.Lines.{entries_kind_name, refused_line, script_kind_name, too_long_line}
 
@@ -52,12 +53,21 @@ pub record Judging : Type 1 where
   pub services : List Facts
   -- a text is accepted, with this interface
   pub accepts : List ℕ → Declared → Type 0
-  -- this line refuses a text
-  pub refuses : List ℕ → List ℕ → Type 0
+  -- this is wrong with a text, by its name, at a place
+  pub flaw : List ℕ → List ℕ → ℕ → Type 0
 
 -- a text is judged against these services, and is of one of them
 abbrev pub judged_by : List Facts → Judging
-judged_by services = record { services = services; accepts = IsInterface services; refuses = λ text line. IsVerdict services text (Refused line) }
+judged_by services = record {
+  services = services;
+  accepts = IsInterface services;
+  flaw = λ text name at. (kind : RefusalKind) × IsRefused services text kind at × (name ≡ refusal_name kind);
+}
+
+-- this line refuses the text of an interface, for what is wrong with it
+abbrev pub IsRefusedText : Judging → List ℕ → List ℕ → Type 0
+IsRefusedText judging text line =
+    (name : List ℕ) × (at : ℕ) × judging.flaw text name at × (line ≡ refused_line (codes "interface refused at ") text at name)
 
 -- an interface is accepted, and under it the second text stands for this
 pub record IsReadAs {A : Type 0} (most : ℕ) (Reads : Declared → List ℕ → Read A → Type 0) (judging : Judging) (input : List ℕ) (i : Declared) (read : A) : Type 0 where
@@ -76,7 +86,7 @@ IsRefusedInput most Reads judging input line =
     ⊎ ((((interface : List ℕ) × (second : List ℕ) × IsCut input interface second
     × ((most_interface < length interface) ⊎ (most < length second))) × (line ≡ too_long_line))
     -- or the interface is refused with this line
-    ⊎ ((interface : List ℕ) × (second : List ℕ) × AreTexts most input interface second × judging.refuses interface line)))
+    ⊎ ((interface : List ℕ) × (second : List ℕ) × AreTexts most input interface second × IsRefusedText judging interface line)))
     -- or an interface is accepted, and under it the second text is refused with this line
     ⊎ ((interface : List ℕ) × (second : List ℕ) × AreTexts most input interface second
     × (i : Declared) × judging.accepts interface i × Reads i second (Refused line))

@@ -1,6 +1,5 @@
 -- What the contracts of private functions cite.
 pub mod Dividing
 pub mod Parted
-pub mod Members
 pub mod Places
 pub mod Said

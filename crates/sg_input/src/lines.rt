@@ -8,7 +8,7 @@ ghost use Rattle.sg_input.specs.Inside.Said.{accepted_line, run_line};
 use crate::places::{column_of, line_of};
 use crate::refusal::{RefusalKind, refusal_name};
 use sg_entries::EntriesKind;
-use sg_facts::{Bytes, Interface, NoMemory};
+use sg_facts::{Bytes, NoMemory};
 use sg_script::{ScriptFault, ScriptKind};
 use std::alloc::Global;
 
@@ -44,19 +44,18 @@ pub fn interface_line(alloc: Global, text: &[u8], at: usize, name: &str) -> Resu
     Ok(Bytes::from_vec(said.into_bytes()))
 }
 
-/// The line of a text that is refused after these members, at a place and by the name of what is wrong there.
+/// The line of the text of a number, counted from 1, that is refused at a place, by the name of what is wrong there.
 pub fn member_line(
     alloc: Global,
-    members: &[Interface],
+    number: usize,
     text: &[u8],
     at: usize,
     name: &str,
 ) -> Result<Bytes, NoMemory>
-    ensures { IfOk result (λ line. line ≡ member_line members.now text.now at name.now) }
+    ensures { IfOk result (λ line. line ≡ member_line number text.now at name.now) }
 {
     let line = line_of(text, at);
     let column = column_of(text, at);
-    let number = members.len() + 1;
     let said = format!(in alloc; "interface {number} refused at {line}:{column}: {name}\n")?;
     Ok(Bytes::from_vec(said.into_bytes()))
 }

@@ -1,18 +1,20 @@
 // What an input is, or why it is refused.
-ghost use Rattle.std.specs.Prelude.{◌≡◌, ℕ, List, map, true, IfOk};
+ghost use Rattle.std.specs.Prelude.{◌≡◌, ◌≤◌, ℕ, List, length, map, true, IfOk};
 ghost use Rattle.sg_facts.specs.Facts.{Facts, facts_of};
 ghost use Rattle.sg_facts.specs.Interface.{Declared};
+ghost use Rattle.sg_script.specs.Scripts.{most_members};
 ghost use Rattle.sg_script.specs.declared.script.Script.{Script as OneScript};
 ghost use Rattle.sg_input.specs.sg_check_statements.Shapes.{are_shapes};
 ghost use Rattle.sg_input.specs.declared.read.Read.{Read as AnyRead};
 ghost use Rattle.sg_input.specs.Inputs.{AreTexts, IsInputOf, IsInterface, IsScriptOf, judged_by, most_script};
+ghost use Rattle.sg_input.specs.MultiInputs.{IsMultiScriptOf};
 
 use crate::limits::MOST_SCRIPT;
 use crate::lines::script_line;
 use crate::parted::{InputParts, input_parts};
 use crate::{Accepted, Read};
 use sg_facts::{Interface, NoMemory, Shape};
-use sg_script::{Script, ScriptError, read};
+use sg_script::{MultiScript, Script, ScriptError, read, read_multi};
 use std::alloc::Global;
 
 /// What an input is, where its interface may be of one of these shapes: an interface that is accepted with a script for it
@@ -70,6 +72,23 @@ pub fn script_of(alloc: Global, text: &[u8], iface: &Interface) -> Result<Read<S
     ensures { IfOk result (IsScriptOf iface.now text.now) }
 {
     match read(alloc, text, iface) {
+        Ok(script) => Ok(Read::Ready(script)),
+        Err(ScriptError::NoMemory) => Err(NoMemory),
+        Err(ScriptError::Fault(fault)) => Ok(Read::Refused(script_line(alloc, text, fault)?)),
+    }
+}
+
+/// What a text is as a script for several interfaces, its members: the script, or the line that refuses it, with its first flaw. The only error is
+/// want of memory.
+pub fn multi_script_of(
+    alloc: Global,
+    text: &[u8],
+    members: &[Interface],
+) -> Result<Read<MultiScript>, NoMemory>
+    requires { length members.now ≤ most_members }
+    ensures { IfOk result (IsMultiScriptOf members.now text.now) }
+{
+    match read_multi(alloc, text, members) {
         Ok(script) => Ok(Read::Ready(script)),
         Err(ScriptError::NoMemory) => Err(NoMemory),
         Err(ScriptError::Fault(fault)) => Ok(Read::Refused(script_line(alloc, text, fault)?)),

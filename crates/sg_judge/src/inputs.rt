@@ -12,8 +12,8 @@ ghost use Rattle.sg_explain.specs.sg_input.sg_script.declared.script.Script.{Scr
 ghost use Rattle.sg_judge.specs.AnyInputs.{IsAcceptedAs, IsAnyInputOf, IsAnyRunInputOf, any_judging, interfaces_in};
 ghost use Rattle.sg_judge.specs.Inside.Examined.{AreAnyParts};
 
+use crate::examining::read_any;
 use crate::interface::AnyInterface;
-use crate::judging::examine_any;
 use sg_explain::{
     History, InputTexts, MOST_RUN, MOST_SCRIPT, NoMemory, Read, Script, Shape, history_of,
     script_of, texts_of,
@@ -89,7 +89,7 @@ fn parts_of_texts<'a>(
     ensures { IfOk result (λ parts. (most : ℕ) (input : List ℕ) → AreTexts most input texts.entry.interface.now texts.entry.second.now
         → AreAnyParts most (map facts_of shapes.now) input parts) }
 {
-    match examine_any(alloc, texts.interface, shapes)? {
+    match read_any(alloc, texts.interface, shapes)? {
         Read::Ready(any) => Ok(Read::Ready(AnyParts {
             any,
             second: texts.second,

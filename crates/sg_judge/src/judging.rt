@@ -9,14 +9,13 @@ ghost use Rattle.sg_judge.specs.Said.{IsOwnSaid, OwnAccepted, OwnTables, version
 ghost use Rattle.sg_explain.specs.sg_input.Lines.{refused_line};
 ghost use Rattle.sg_explain.specs.sg_input.Verdicts.{refusal_name};
 ghost use Rattle.sg_explain.specs.sg_input.declared.refusal.RefusalKind.TheVariants.{Syntax};
-ghost use Rattle.sg_judge.specs.Inside.Examined.{IsAnyExamined, IsOwnExamined};
+ghost use Rattle.sg_judge.specs.Inside.Examined.{IsOwnExamined};
 ghost use Rattle.sg_judge.specs.Inside.Places.{place_after};
 
-use crate::interface::AnyInterface;
 use crate::lines::own_line;
 use sg_explain::{
     Bytes, Lexer, NoMemory, ParseError, Read, RefusalKind, Shape, Tree, accepted_line, compile,
-    examine, is_own, parse, print_tables, refusal_line,
+    is_own, parse, print_tables, refusal_line,
 };
 use sg_own::{OwnError, OwnInterface, check_own};
 use std::alloc::Global;
@@ -159,60 +158,6 @@ fn place_after(lexer: &mut Lexer, passed: usize) -> usize
         Some(_) if passed > 0 => place_after(lexer, passed - 1),
         Some(Ok(token)) => token.at,
         _ => 0,
-    }
-}
-
-/// The interface of a text, with what it describes where its service is its own; or the line that refuses it, as `verdict` says. The shapes are
-/// as for `verdict`. The only error is want of memory.
-pub(crate) fn examine_any(
-    alloc: Global,
-    text: &[u8],
-    shapes: &[Shape],
-) -> Result<Read<AnyInterface>, NoMemory>
-    requires { are_shapes (map facts_of shapes.now) ≡ true }
-    ensures { IfOk result (IsAnyExamined (map facts_of shapes.now) text.now) }
-{
-    match own_tree(alloc, text)? {
-        Some(tree) => own_interface(alloc, text, &tree),
-        None => interface_of_services(alloc, text, shapes),
-    }
-}
-
-// The same of a text that describes a service of its own, whatever the services.
-fn own_interface(alloc: Global, text: &[u8], tree: &Tree) -> Result<Read<AnyInterface>, NoMemory>
-    requires { IsOwnText text.now tree.now }
-    ensures { IfOk result (λ made. (services : List Facts) → IsAnyExamined services text.now made) }
-{
-    match examined(alloc, text, tree)? {
-        Read::Ready(
-            OwnInterface {
-                accepted,
-                description,
-            },
-        ) => Ok(Read::Ready(AnyInterface {
-            accepted,
-            own: Some(description),
-        })),
-        Read::Refused(line) => Ok(Read::Refused(line)),
-    }
-}
-
-// The same of a text that describes none.
-fn interface_of_services(
-    alloc: Global,
-    text: &[u8],
-    shapes: &[Shape],
-) -> Result<Read<AnyInterface>, NoMemory>
-    requires shapes { are_shapes (map facts_of shapes.now) ≡ true }
-    requires other { IsOfServices text.now }
-    ensures { IfOk result (IsAnyExamined (map facts_of shapes.now) text.now) }
-{
-    match examine(alloc, text, shapes)? {
-        Read::Ready(accepted) => Ok(Read::Ready(AnyInterface {
-            accepted,
-            own: None,
-        })),
-        Read::Refused(line) => Ok(Read::Refused(line)),
     }
 }
 

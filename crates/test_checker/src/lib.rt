@@ -14,7 +14,6 @@
 //! - `triples`, `walks`: what descriptors come to and how they are rebuilt, of interfaces that no text declares (`interfaces`)
 //! - `tables`: the tables of the standard interfaces, and their text
 //! - `verdicts`: what is said of a text
-//! - `several`: what an input for several services is
 #![tactic(auto)]
 
 #[cfg(test)]
@@ -49,8 +48,6 @@ mod pairs;
 mod prototypes;
 #[cfg(test)]
 mod reach;
-#[cfg(test)]
-mod several;
 mod shapes;
 #[cfg(test)]
 mod standard;

@@ -1,10 +1,11 @@
-//! What is said of texts that describe services of their own.
+//! What is said of texts that describe services of their own, and what inputs for several services are.
 //!
 //! The tests:
 //! - `cases`: texts with one piece changed, and the line that is said of each (`Case`, `try_each`); `flaws` lists them, kind by kind
 //! - `examples`: the examples
 //! - `explained`: what is explained of texts
 //! - `names`: the words of the rules as names of fields
+//! - `several`: what an input for several services is, of which some may be of one's own
 //! - `tokens`: the examples with each token left out, doubled or replaced
 #![tactic(auto)]
 
@@ -18,5 +19,7 @@ mod explained;
 mod flaws;
 #[cfg(test)]
 mod names;
+#[cfg(test)]
+mod several;
 #[cfg(test)]
 mod tokens;
