@@ -6,7 +6,7 @@ use Rattle.std.proofs.lemmas.Bool.{cases_lt}
 use Rattle.std.proofs.lemmas.Bool.Decides.{nat_tests}
 use Rattle.std.proofs.lemmas.List.{map-append}
 use Rattle.std.proofs.lemmas.List.Elements.{filter-append}
-use Rattle.sg_multi.specs.declared.member.Member.{Member}
+use Rattle.sg_multi.specs.Members.{Membered}
 use Rattle.sg_multi.specs.sg_sim.sg_plain.Calls.{ascending_from, most_client}
 use Rattle.sg_multi.specs.sg_sim.sg_script.declared.multi.MultiScript.{MultiScript}
 use Rattle.sg_multi.specs.Calls.{has_multi_calls}
@@ -29,7 +29,7 @@ callers_more test n =
     ap (filter test) (ascending_more 1 n) ∙ filter-append test (ascending_from 1 n) ((1 + n) ∷ [])
     ∙ ap (λ m. filter test (ascending_from 1 n) ++ cond (test m) (m ∷ []) []) next
 
-module _ (members : List Member) (script : MultiScript) (given : List (List ℕ)) (n : ℕ) where
+module _ (members : List Membered) (script : MultiScript) (given : List (List ℕ)) (n : ℕ) where
   abbrev ended : ℕ → ℕ × MultiEnd
   ended c = (c, end_of_client members script given c)
 

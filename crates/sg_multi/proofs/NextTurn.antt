@@ -6,8 +6,8 @@ use Rattle.std.specs.Option.{option_map_or}
 use Rattle.std.specs.declared.option.Option.{Option}
 use Rattle.std.proofs.lemmas.Bool.{cases_lt}
 use Rattle.sg_facts.specs.sg_base.declared.reply.Reply.{Reply}
+use Rattle.sg_multi.specs.Members.{Membered}
 use Rattle.sg_multi.proofs.sg_sim.sg_play.Following.Whose.{from_one}
-use Rattle.sg_multi.specs.declared.member.Member.{Member}
 use Rattle.sg_multi.specs.sg_sim.Inside.Givens.{lists_of}
 use Rattle.sg_multi.specs.sg_sim.sg_plain.Calls.{ascending_from, most_client}
 use Rattle.sg_multi.specs.sg_sim.sg_plain.Inside.Turns.{first_of, in_a_circle, is_under_way, some_or}
@@ -102,7 +102,7 @@ drop_whole (x ∷ l) = drop_whole l
 
 -- ---- the turn
 
-module _ (members : List Member) (script : MultiScript) (given : List (List ℕ)) (merged : List MultiEntry) (passed last : ℕ) (some : 1 ≤ most_client script.clients)
+module _ (members : List Membered) (script : MultiScript) (given : List (List ℕ)) (merged : List MultiEntry) (passed last : ℕ) (some : 1 ≤ most_client script.clients)
     (turns : list_all (λ client. nat_le 1 client) script.schedule ≡ true) where
   abbrev s : Stage MultiEntry
   s = stage_now members script given merged passed last

@@ -1,7 +1,7 @@
 -- How clients end over several services, and the parts of a play that change.
 use Rattle.std.specs.Prelude.{ℕ, ◌≡◌, ◌-◌, ◌<◌, ◌≤◌, Bool, if◌then◌else◌, true, false, List, [], ◌∷◌, Some, filter, map, slice_get}
 use Rattle.std.specs.Option.{option_map_or}
-use Rattle.sg_multi.specs.declared.member.Member.{Member}
+use Rattle.sg_multi.specs.Members.{Membered}
 use Rattle.sg_multi.specs.sg_sim.Inside.Givens.{lists_of}
 use Rattle.sg_multi.specs.sg_sim.sg_plain.Calls.{ascending_from, most_client}
 use Rattle.sg_multi.specs.sg_sim.sg_script.declared.multi.MultiScript.{MultiScript}
@@ -20,15 +20,15 @@ use Rattle.sg_multi.specs.declared.running.Running.{Running}
 -- ---- how clients end
 
 -- a client that has a call more waits in it, and any other is done
-abbrev pub end_of_client : List Member → MultiScript → List (List ℕ) → ℕ → MultiEnd
+abbrev pub end_of_client : List Membered → MultiScript → List (List ℕ) → ℕ → MultiEnd
 end_of_client members script given client = option_map_or (λ c. Blocked c.member (seat_at members (c.member - 1) client).call) (next_of script given client) Done
 
 -- the end of a client, where it has a call
-abbrev pub end_by : List Member → MultiScript → List (List ℕ) → ℕ → List (ℕ × MultiEnd)
+abbrev pub end_by : List Membered → MultiScript → List (List ℕ) → ℕ → List (ℕ × MultiEnd)
 end_by members script given client = if has_multi_calls script client then (client, end_of_client members script given client) ∷ [] else []
 
 -- the ends of the clients with a call, from 1 up to a number
-abbrev pub ends_up_to : List Member → MultiScript → List (List ℕ) → ℕ → List (ℕ × MultiEnd)
+abbrev pub ends_up_to : List Membered → MultiScript → List (List ℕ) → ℕ → List (ℕ × MultiEnd)
 ends_up_to members script given last = map (λ c. (c, end_of_client members script given c)) (filter (has_multi_calls script) (ascending_from 1 last))
 
 -- ---- the parts of a play that change
@@ -45,7 +45,7 @@ pub record KeepsRunning (script : MultiScript) (r : Running) : Type 0 where
   pub begins : Begins r.members script keeps.merged
 
 -- the members are of the services that they were of, with their tables
-abbrev pub SameMembers : List Member → List Member → Type 0
+abbrev pub SameMembers : List Membered → List Membered → Type 0
 SameMembers members later = map stubs_in later ≡ map stubs_in members
 
 -- whether client 1 is still at the calls of the setup

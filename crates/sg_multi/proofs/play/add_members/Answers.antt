@@ -1,8 +1,8 @@
 -- One member more.
 use Rattle.std.proofs.Common.{◌≡◌, ◌∙◌, ℕ, ◌+◌, ◌<◌, ◌≤◌, ◌∷◌, [], List, Some, length, ap, arith, slice_get, subst, sym, length-append}
 use Rattle.sg_facts.specs.Limits.{last_client}
+use Rattle.sg_multi.specs.Members.{Membered}
 use Rattle.sg_multi.specs.sg_edge.Stops.{AscendsAbove}
-use Rattle.sg_multi.specs.declared.member.Member.{Member}
 use Rattle.sg_multi.specs.sg_load.Services.{facts_by}
 use Rattle.sg_multi.specs.Beginning.{AreNew}
 use Rattle.sg_multi.specs.declared.play.MemberTables.{MemberTables}
@@ -15,7 +15,7 @@ use Rattle.sg_multi.proofs.play.add_members.Goals as goal
 
 pub tables-init : goal.tables-init
 tables-init c =
-    (ap (λ (l : List Member). length l) c.requires.none, λ k t plan m its stop there. let none : Some m ≡ slice_get [] k = sym there ∙ ap (λ l. slice_get l k) c.requires.none in absurd (cc none))
+    (ap (λ (l : List Membered). length l) c.requires.none, λ k t plan m its stop there. let none : Some m ≡ slice_get [] k = sym there ∙ ap (λ l. slice_get l k) c.requires.none in absurd (cc none))
 
 pub bounds-stops-place : goal.bounds-stops-place
 bounds-stops-place c =
@@ -61,7 +61,7 @@ tables-preserved c =
     let added = c.in_ok-add_member.ensures in
     let old = c.tables.members in
     let before = c.tables.invariant in (
-      ap (λ (l : List Member). length l) added.1 ∙ length-append old (added.0 ∷ []) ∙ ap (λ n. n + 1) before.0,
+      ap (λ (l : List Membered). length l) added.1 ∙ length-append old (added.0 ∷ []) ∙ ap (λ n. n + 1) before.0,
       subst (AreNew tables c.args.script.now.stops c.args.clients) (sym added.1) (new_more tables c.args.script.now.stops c.args.clients old c.tables.place t p added.0 before.0 there points added.2 before.1),
     )
 

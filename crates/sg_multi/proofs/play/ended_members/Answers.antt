@@ -1,6 +1,6 @@
 -- What one member more came to.
 use Rattle.std.proofs.Common.{◌≡◌, ◌∙◌, ◌+◌, ◌∷◌, [], List, Some, length, ap, arith, refl, slice_get, subst, sym, length-append}
-use Rattle.sg_multi.specs.declared.member.Member.{Member}
+use Rattle.sg_multi.specs.Members.{Membered}
 use Rattle.sg_multi.specs.sg_sim.sg_play.sg_hist.declared.ended.Ended.{Ended}
 use Rattle.sg_multi.specs.Inside.Ended.{AreEnded, IsEndedMember}
 use Rattle.sg_multi.proofs.Growing.{ended_more}
@@ -22,7 +22,7 @@ members-preserved c =
     let k = c.members.member-index in
     let m = c.member-item.result in
     let e = c.in_ok-ended_member.field-0 in
-    let there : slice_get ms k ≡ Some m = read_there ms k m c.members-test.true ∙ ap (λ (x : Member). Some x) (sym c.member-item.is) in
+    let there : slice_get ms k ≡ Some m = read_there ms k m c.members-test.true ∙ ap (λ (x : Membered). Some x) (sym c.member-item.is) in
     let pushed = c.in_ok-push.ensures.ok in (
       ap (λ n. n + 1) before.0,
       ap (λ (l : List Ended). length l) pushed ∙ length-append c.members.ended (e ∷ []) ∙ ap (λ n. n + 1) before.1,

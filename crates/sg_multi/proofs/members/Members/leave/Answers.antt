@@ -18,4 +18,4 @@ returns c = λ m there.
     let old = c.index_mut.result.now in
     let is = same_there c.args.self.now c.args.place old m (now_there c.self.inside.list.items c.args.self.now c.args.place old c.self.view_is c.requires.there c.index_mut.ensures.value) there in
     changed c.args.self.now c.self.inside.list.items c.args.place old c.leave.new.self m (happened (with_leave (view_in m) c.args.client)) c.self.view_is there is
-    (c.leave.ensures.view ∙ ap (λ x. happened (with_leave (view_in x) c.args.client)) is) c.leave.ensures.kind c.leave.ensures.tables c.leave.ensures.plan
+    (c.leave.ensures.view ∙ ap (λ x. happened (with_leave (view_in x) c.args.client)) is) c.leave.ensures.service c.leave.ensures.tables c.leave.ensures.plan

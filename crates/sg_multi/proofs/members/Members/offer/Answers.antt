@@ -33,7 +33,7 @@ returns-clause-ok c = λ m there.
     let is = same_there c.args.self.now c.args.place old m (now_there c.self.inside.list.items c.args.self.now c.args.place old c.self.view_is c.requires.there c.index_mut.ensures.value) there in
     let then : WorldView → WorldView = λ v. happened (offered v c.args.client (record { client = c.args.client; seq = (seat_of v c.args.client).seq + 1; fun = c.args.fun; desc = c.args.desc; args = c.args.args })) in
     ok_so (view_in new ≡ then (view_in old)) (ChangesAt c.args.self.now c.args.place m (then (view_in m)) later) c.offer.result
-    (λ view. changed c.args.self.now c.self.inside.list.items c.args.place old new m (then (view_in m)) c.self.view_is there is (view ∙ ap (λ x. then (view_in x)) is) c.offer.ensures.kind c.offer.ensures.tables c.offer.ensures.plan)
+    (λ view. changed c.args.self.now c.self.inside.list.items c.args.place old new m (then (view_in m)) c.self.view_is there is (view ∙ ap (λ x. then (view_in x)) is) c.offer.ensures.service c.offer.ensures.tables c.offer.ensures.plan)
     c.offer.ensures.ok
 
 pub returns-clause-err : goal.returns-clause-err
@@ -43,5 +43,5 @@ returns-clause-err c = λ m there.
     let later = slice_set c.self.inside.list.items c.args.place new in
     let is = same_there c.args.self.now c.args.place old m (now_there c.self.inside.list.items c.args.self.now c.args.place old c.self.view_is c.requires.there c.index_mut.ensures.value) there in
     err_so (view_in new ≡ happened (view_in old)) (ChangesAt c.args.self.now c.args.place m (happened (view_in m)) later) c.offer.result
-    (λ view. changed c.args.self.now c.self.inside.list.items c.args.place old new m (happened (view_in m)) c.self.view_is there is (view ∙ ap (λ x. happened (view_in x)) is) c.offer.ensures.kind c.offer.ensures.tables c.offer.ensures.plan)
+    (λ view. changed c.args.self.now c.self.inside.list.items c.args.place old new m (happened (view_in m)) c.self.view_is there is (view ∙ ap (λ x. happened (view_in x)) is) c.offer.ensures.service c.offer.ensures.tables c.offer.ensures.plan)
     c.offer.ensures.err

@@ -2,7 +2,7 @@
 use Rattle.std.proofs.Common.{◌≡◌, ◌∙◌, ◌+◌, ◌-◌, ◌<◌, ◌^◌, true, ap, arith, sym, subst}
 use Rattle.sg_facts.specs.Interface.{Declared, declares}
 use Rattle.sg_facts.specs.Kinds.{FitsKinds}
-use Rattle.sg_multi.specs.Members.{view_in, world_in}
+use Rattle.sg_multi.specs.Members.{view_in}
 use Rattle.sg_multi.specs.sg_sim.sg_plain.Playing.Given.{GaveIds}
 use Rattle.sg_multi.specs.sg_sim.sg_plain.Playing.Turns.{is_free_phase}
 use Rattle.sg_multi.specs.sg_sim.sg_play.NextCall.{IsResolved}
@@ -65,7 +65,7 @@ offer-requires-clause-free c =
     let made = c.in_ok-next.next in
     let free : is_free_phase (seat_of (view_in m) c.args.client).phase ≡ true
     = subst (λ p. is_free_phase p ≡ true) (c.phase.ensures ∙ ap (λ (s : Seat). s.phase) (seat_is r.members (c.args.call.now.member - 1) m c.args.client there)) (sym c.is_free.ensures ∙ c.if-not-is_free.false) in
-    let resolved : IsResolved (world_in m).tables.iface.facts own c.args.call.now.call made
+    let resolved : IsResolved m.world.tables.iface.facts own c.args.call.now.call made
     = subst (λ (i : Declared). IsResolved i.facts own c.args.call.now.call made) c.interface-used.ensures
     (c.in_ok-next.ensures.call own (subst (GaveIds own) (sym c.of.ensures) (gave_own r.members c.args.script.now r.given r.order.items c.requires.keeps.keeps c.args.client c.requires.first c.requires.last c.args.call.now c.requires.next m there free))) in
     at_place (λ x. IsFree (seat_of (view_in x) c.args.client).phase) r.members c.from-place.result c.args.call.now.member m c.from-place.ensures there (free_is (seat_of (view_in m) c.args.client).phase free)
@@ -79,7 +79,7 @@ offer-requires-clause-numbered c =
     let made = c.in_ok-next.next in
     let free : is_free_phase (seat_of (view_in m) c.args.client).phase ≡ true
     = subst (λ p. is_free_phase p ≡ true) (c.phase.ensures ∙ ap (λ (s : Seat). s.phase) (seat_is r.members (c.args.call.now.member - 1) m c.args.client there)) (sym c.is_free.ensures ∙ c.if-not-is_free.false) in
-    let resolved : IsResolved (world_in m).tables.iface.facts own c.args.call.now.call made
+    let resolved : IsResolved m.world.tables.iface.facts own c.args.call.now.call made
     = subst (λ (i : Declared). IsResolved i.facts own c.args.call.now.call made) c.interface-used.ensures
     (c.in_ok-next.ensures.call own (subst (GaveIds own) (sym c.of.ensures) (gave_own r.members c.args.script.now r.given r.order.items c.requires.keeps.keeps c.args.client c.requires.first c.requires.last c.args.call.now c.requires.next m there free))) in
     at_place (λ x. (seat_of (view_in x) c.args.client).seq + 1 < 2 ^ 32) r.members c.from-place.result c.args.call.now.member m c.from-place.ensures there (numbered_here r.members c.args.script.now r.given r.order.items c.requires.keeps.keeps c.args.client c.requires.first c.requires.last c.args.call.now c.requires.next m there free made resolved c.in_ok-next.ensures.words)
@@ -93,10 +93,10 @@ offer-requires-clause-declared c =
     let made = c.in_ok-next.next in
     let free : is_free_phase (seat_of (view_in m) c.args.client).phase ≡ true
     = subst (λ p. is_free_phase p ≡ true) (c.phase.ensures ∙ ap (λ (s : Seat). s.phase) (seat_is r.members (c.args.call.now.member - 1) m c.args.client there)) (sym c.is_free.ensures ∙ c.if-not-is_free.false) in
-    let resolved : IsResolved (world_in m).tables.iface.facts own c.args.call.now.call made
+    let resolved : IsResolved m.world.tables.iface.facts own c.args.call.now.call made
     = subst (λ (i : Declared). IsResolved i.facts own c.args.call.now.call made) c.interface-used.ensures
     (c.in_ok-next.ensures.call own (subst (GaveIds own) (sym c.of.ensures) (gave_own r.members c.args.script.now r.given r.order.items c.requires.keeps.keeps c.args.client c.requires.first c.requires.last c.args.call.now c.requires.next m there free))) in
-    at_place (λ x. declares (world_in x).tables.iface made.fun ≡ true) r.members c.from-place.result c.args.call.now.member m c.from-place.ensures there (declared_here r.members c.args.script.now r.given r.order.items c.requires.keeps.keeps c.args.client c.requires.first c.requires.last c.args.call.now c.requires.next m there free made resolved c.in_ok-next.ensures.words)
+    at_place (λ x. declares x.world.tables.iface made.fun ≡ true) r.members c.from-place.result c.args.call.now.member m c.from-place.ensures there (declared_here r.members c.args.script.now r.given r.order.items c.requires.keeps.keeps c.args.client c.requires.first c.requires.last c.args.call.now c.requires.next m there free made resolved c.in_ok-next.ensures.words)
 
 pub offer-requires-clause-fits : goal.offer-requires-clause-fits
 offer-requires-clause-fits c =
@@ -107,10 +107,10 @@ offer-requires-clause-fits c =
     let made = c.in_ok-next.next in
     let free : is_free_phase (seat_of (view_in m) c.args.client).phase ≡ true
     = subst (λ p. is_free_phase p ≡ true) (c.phase.ensures ∙ ap (λ (s : Seat). s.phase) (seat_is r.members (c.args.call.now.member - 1) m c.args.client there)) (sym c.is_free.ensures ∙ c.if-not-is_free.false) in
-    let resolved : IsResolved (world_in m).tables.iface.facts own c.args.call.now.call made
+    let resolved : IsResolved m.world.tables.iface.facts own c.args.call.now.call made
     = subst (λ (i : Declared). IsResolved i.facts own c.args.call.now.call made) c.interface-used.ensures
     (c.in_ok-next.ensures.call own (subst (GaveIds own) (sym c.of.ensures) (gave_own r.members c.args.script.now r.given r.order.items c.requires.keeps.keeps c.args.client c.requires.first c.requires.last c.args.call.now c.requires.next m there free))) in
-    at_place (λ x. FitsKinds (world_in x).tables.iface.facts (record { client = c.args.client; seq = (seat_of (view_in x) c.args.client).seq + 1; fun = made.fun; desc = made.desc; args = made.args })) r.members c.from-place.result c.args.call.now.member m c.from-place.ensures there (fits_here r.members c.args.script.now r.given r.order.items c.requires.keeps.keeps c.args.client c.requires.first c.requires.last c.args.call.now c.requires.next m there free made resolved c.in_ok-next.ensures.words)
+    at_place (λ x. FitsKinds x.world.tables.iface.facts (record { client = c.args.client; seq = (seat_of (view_in x) c.args.client).seq + 1; fun = made.fun; desc = made.desc; args = made.args })) r.members c.from-place.result c.args.call.now.member m c.from-place.ensures there (fits_here r.members c.args.script.now r.given r.order.items c.requires.keeps.keeps c.args.client c.requires.first c.requires.last c.args.call.now c.requires.next m there free made resolved c.in_ok-next.ensures.words)
 
 pub returns-clause-keeps : goal.returns-clause-keeps
 returns-clause-keeps c =
@@ -121,7 +121,7 @@ returns-clause-keeps c =
     let made = c.in_ok-next.next in
     let free : is_free_phase (seat_of (view_in m) c.args.client).phase ≡ true
     = subst (λ p. is_free_phase p ≡ true) (c.phase.ensures ∙ ap (λ (s : Seat). s.phase) (seat_is r.members (c.args.call.now.member - 1) m c.args.client there)) (sym c.is_free.ensures ∙ c.if-not-is_free.false) in
-    let resolved : IsResolved (world_in m).tables.iface.facts own c.args.call.now.call made
+    let resolved : IsResolved m.world.tables.iface.facts own c.args.call.now.call made
     = subst (λ (i : Declared). IsResolved i.facts own c.args.call.now.call made) c.interface-used.ensures
     (c.in_ok-next.ensures.call own (subst (GaveIds own) (sym c.of.ensures) (gave_own r.members c.args.script.now r.given r.order.items c.requires.keeps.keeps c.args.client c.requires.first c.requires.last c.args.call.now c.requires.next m there free))) in
     let still = offered_at r.members c.args.script.now r.given r.order.items c.requires.keeps.keeps c.args.client c.requires.first c.requires.last c.args.call.now c.requires.next m there free made resolved c.in_ok-next.ensures.words c.from-place.result c.from-place.ensures c.offer.new.self c.offer.result c.offer.ensures.ok c.offer.ensures.err in
@@ -136,7 +136,7 @@ returns-clause-same c =
     let made = c.in_ok-next.next in
     let free : is_free_phase (seat_of (view_in m) c.args.client).phase ≡ true
     = subst (λ p. is_free_phase p ≡ true) (c.phase.ensures ∙ ap (λ (s : Seat). s.phase) (seat_is r.members (c.args.call.now.member - 1) m c.args.client there)) (sym c.is_free.ensures ∙ c.if-not-is_free.false) in
-    let resolved : IsResolved (world_in m).tables.iface.facts own c.args.call.now.call made
+    let resolved : IsResolved m.world.tables.iface.facts own c.args.call.now.call made
     = subst (λ (i : Declared). IsResolved i.facts own c.args.call.now.call made) c.interface-used.ensures
     (c.in_ok-next.ensures.call own (subst (GaveIds own) (sym c.of.ensures) (gave_own r.members c.args.script.now r.given r.order.items c.requires.keeps.keeps c.args.client c.requires.first c.requires.last c.args.call.now c.requires.next m there free))) in
     (offered_at r.members c.args.script.now r.given r.order.items c.requires.keeps.keeps c.args.client c.requires.first c.requires.last c.args.call.now c.requires.next m there free made resolved c.in_ok-next.ensures.words c.from-place.result c.from-place.ensures c.offer.new.self c.offer.result c.offer.ensures.ok c.offer.ensures.err).same
@@ -150,7 +150,7 @@ returns-clause-players c =
     let made = c.in_ok-next.next in
     let free : is_free_phase (seat_of (view_in m) c.args.client).phase ≡ true
     = subst (λ p. is_free_phase p ≡ true) (c.phase.ensures ∙ ap (λ (s : Seat). s.phase) (seat_is r.members (c.args.call.now.member - 1) m c.args.client there)) (sym c.is_free.ensures ∙ c.if-not-is_free.false) in
-    let resolved : IsResolved (world_in m).tables.iface.facts own c.args.call.now.call made
+    let resolved : IsResolved m.world.tables.iface.facts own c.args.call.now.call made
     = subst (λ (i : Declared). IsResolved i.facts own c.args.call.now.call made) c.interface-used.ensures
     (c.in_ok-next.ensures.call own (subst (GaveIds own) (sym c.of.ensures) (gave_own r.members c.args.script.now r.given r.order.items c.requires.keeps.keeps c.args.client c.requires.first c.requires.last c.args.call.now c.requires.next m there free))) in
     (offered_at r.members c.args.script.now r.given r.order.items c.requires.keeps.keeps c.args.client c.requires.first c.requires.last c.args.call.now c.requires.next m there free made resolved c.in_ok-next.ensures.words c.from-place.result c.from-place.ensures c.offer.new.self c.offer.result c.offer.ensures.ok c.offer.ensures.err).players
@@ -164,7 +164,7 @@ returns-clause-asked c =
     let made = c.in_ok-next.next in
     let free : is_free_phase (seat_of (view_in m) c.args.client).phase ≡ true
     = subst (λ p. is_free_phase p ≡ true) (c.phase.ensures ∙ ap (λ (s : Seat). s.phase) (seat_is r.members (c.args.call.now.member - 1) m c.args.client there)) (sym c.is_free.ensures ∙ c.if-not-is_free.false) in
-    let resolved : IsResolved (world_in m).tables.iface.facts own c.args.call.now.call made
+    let resolved : IsResolved m.world.tables.iface.facts own c.args.call.now.call made
     = subst (λ (i : Declared). IsResolved i.facts own c.args.call.now.call made) c.interface-used.ensures
     (c.in_ok-next.ensures.call own (subst (GaveIds own) (sym c.of.ensures) (gave_own r.members c.args.script.now r.given r.order.items c.requires.keeps.keeps c.args.client c.requires.first c.requires.last c.args.call.now c.requires.next m there free))) in
     offered_asks r.members c.args.script.now r.given r.order.items c.requires.keeps.keeps c.args.client c.requires.first c.requires.last c.args.call.now c.requires.next m there free made resolved c.in_ok-next.ensures.words c.from-place.result c.from-place.ensures c.offer.new.self c.offer.result c.offer.ensures.ok

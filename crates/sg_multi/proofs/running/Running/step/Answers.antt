@@ -1,8 +1,7 @@
 -- The member is noted where the client has an entry more.
 use Rattle.std.proofs.Common.{◌≡◌, ◌∙◌, ◌≤◌, ◌<◌, ◌-◌, List, false, true, length, map, ap, arith, nat_lt, sym, subst}
 use Rattle.std.specs.Prelude.{option_map}
-use Rattle.sg_multi.specs.Members.{view_in}
-use Rattle.sg_multi.specs.declared.member.Member.{Member}
+use Rattle.sg_multi.specs.Members.{Membered, view_in}
 use Rattle.sg_multi.specs.sg_sim.Inside.Givens.{lists_of, room_for}
 use Rattle.sg_multi.specs.sg_sim.sg_play.sg_clients.Clients.{IsClient}
 use Rattle.sg_multi.specs.sg_sim.sg_plain.Playing.Turns.{is_free_phase}
@@ -35,7 +34,7 @@ returns-in_err-reserve-clause-same c =
 
 pub member_of-requires-clause-there : goal.member_of-requires-clause-there
 member_of-requires-clause-there c =
-    subst (λ (l : List Member). c.args.member ≤ length l) (sym c.reserve.ensures.members) c.requires.there
+    subst (λ (l : List Membered). c.args.member ≤ length l) (sym c.reserve.ensures.members) c.requires.there
 
 pub entries_of-before-requires : goal.entries_of-before-requires
 entries_of-before-requires c =
@@ -51,7 +50,7 @@ overflow_sub-place c =
 
 pub step-requires-clause-there : goal.step-requires-clause-there
 step-requires-clause-there c =
-    omega (arith, c.from-place.ensures, c.requires.some, c.requires.there, ap (λ (l : List Member). length l) c.reserve.ensures.members)
+    omega (arith, c.from-place.ensures, c.requires.some, c.requires.there, ap (λ (l : List Membered). length l) c.reserve.ensures.members)
 
 pub step-requires-clause-client : goal.step-requires-clause-client
 step-requires-clause-client c =
@@ -93,7 +92,7 @@ member_of-requires-2-clause-there c =
     let m = c.member_of.result.now in
     let lists = lists_of q.given in
     let later = c.step.new.self in
-    omega (arith, c.requires.there, as_many q.members later (stepped_same q.members s (lists_of q.given) q.order.items keeps.keeps c.args.client c.requires.first c.requires.last c.args.member c.from-place.result c.requires.some c.from-place.ensures m c.member_of.ensures later c.in_ok-did.did c.in_ok-did.ensures.did), ap (λ (l : List Member). length l) c.reserve.ensures.members)
+    omega (arith, c.requires.there, as_many q.members later (stepped_same q.members s (lists_of q.given) q.order.items keeps.keeps c.args.client c.requires.first c.requires.last c.args.member c.from-place.result c.requires.some c.from-place.ensures m c.member_of.ensures later c.in_ok-did.did c.in_ok-did.ensures.did), ap (λ (l : List Membered). length l) c.reserve.ensures.members)
 
 pub entries_of-after-requires : goal.entries_of-after-requires
 entries_of-after-requires c =
