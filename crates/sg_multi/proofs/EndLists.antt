@@ -57,7 +57,7 @@ some_first (y ∷ xs) (Some x) is = some (length xs)
 -- ---- turns
 
 -- one client more can't take a turn
-pub none_more : (script : MultiScript) (r : Running) (behind client : ℕ) → NoneAfter script r behind client → may_go_now script r (client + 1) ≡ false → NoneAfter script r behind (client + 1)
+pub none_more : {N : Type 0} (script : MultiScript) (r : Running N) (behind client : ℕ) → NoneAfter script r behind client → may_go_now script r (client + 1) ≡ false → NoneAfter script r behind (client + 1)
 none_more script r behind client before not other above within = by (cases_lt client other)
   where
     by : (client < other) ⊎ (other ≤ client) → may_go_now script r other ≡ false
@@ -65,7 +65,7 @@ none_more script r behind client before not other above within = by (cases_lt cl
     by (inr less) = before other above less
 
 -- nobody can, behind a client and up to it
-pub nobody : (script : MultiScript) (r : Running) (last : ℕ) → NoneAfter script r last (most_client script.clients) → NoneAfter script r 0 last → NobodyGoesNow script r
+pub nobody : {N : Type 0} (script : MultiScript) (r : Running N) (last : ℕ) → NoneAfter script r last (most_client script.clients) → NoneAfter script r 0 last → NobodyGoesNow script r
 nobody script r last behind around client first within = by (cases_lt last client)
   where
     by : (last < client) ⊎ (client ≤ last) → may_go_now script r client ≡ false

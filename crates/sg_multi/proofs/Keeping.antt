@@ -144,20 +144,20 @@ split_last (x ∷ y ∷ es) (suc n) count = let rest = split_last (y ∷ es) n (
 
 -- what holds of a member's world at another view holds of the member that has it
 pub moved : (P : Setting → WorldView → Type 0) (old new : Membered) (now : WorldView) → new.service ≡ old.service → new.world.tables ≡ old.world.tables → view_in new ≡ now → P (setting_in old) now → P (setting_in new) (view_in new)
-moved P old new now kind tables view is =
+moved P old new now service tables view is =
     subst (P (setting_in new)) (sym view)
-    (subst (λ (t : Compiled). P (setting_by new.service t) now) (sym tables) (subst (λ (k : Serving). P (setting_by k old.world.tables) now) (sym kind) is))
+    (subst (λ (t : Compiled). P (setting_by new.service t) now) (sym tables) (subst (λ (k : Serving). P (setting_by k old.world.tables) now) (sym service) is))
 
 -- the world of a member is that of a play of its own, at another view
 member_moved : (old new : Membered) (now : WorldView) → new.service ≡ old.service → new.world.tables ≡ old.world.tables → view_in new ≡ now → KeepsMember (setting_in old) now → KeepsMember (setting_in new) (view_in new)
-member_moved old new now kind tables view is = moved KeepsMember old new now kind tables view is
+member_moved old new now service tables view is = moved KeepsMember old new now service tables view is
 
 -- by what a run is judged that is of a service with some tables
 pub stubs_alike : (k l : Serving) → k ≡ l → (s t : Compiled) → s ≡ t → stubs_of (setting_by k s) ≡ stubs_of (setting_by l t)
 stubs_alike k l same s t alike = ap (λ x. stubs_of (setting_by x s)) same ∙ ap (λ x. stubs_of (setting_by l x)) alike
 
 stubs_moved : (old new : Membered) → new.service ≡ old.service → new.world.tables ≡ old.world.tables → stubs_in new ≡ stubs_in old
-stubs_moved old new kind tables = stubs_alike new.service old.service kind new.world.tables old.world.tables tables
+stubs_moved old new service tables = stubs_alike new.service old.service service new.world.tables old.world.tables tables
 
 module _ (members later : List Membered) (script : MultiScript) (given : List (List ℕ)) (order : List ℕ) (place : ℕ) (m : Membered) (now : WorldView) (changes : ChangesAt members place m now later)
     (is : KeepsMulti members script given order) where

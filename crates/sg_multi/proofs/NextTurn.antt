@@ -226,7 +226,7 @@ module _ (members : List Membered) (script : MultiScript) (given : List (List �
 
 -- ---- of a play as it stands
 
-module _ (script : MultiScript) (r : Running) (is : KeepsRunning script r) where
+module _ {N : Type 0} (script : MultiScript) (r : Running N) (is : KeepsRunning script r) where
   there_is_one : 1 ≤ most_client script.clients
   there_is_one = first_client 0 script.clients is.keeps.playable.clients
 
@@ -253,7 +253,7 @@ module _ (script : MultiScript) (r : Running) (is : KeepsRunning script r) where
           (omega (arith, found.within, is.last_there)) found.may (λ other from. found.before other (omega (arith, from)))
 
 -- one turn more of the schedule that its client can't take
-pub more_scheduled : (script : MultiScript) (r : Running) (at client : ℕ) → NoneScheduled script r at → slice_get script.schedule at ≡ Some client
+pub more_scheduled : {N : Type 0} (script : MultiScript) (r : Running N) (at client : ℕ) → NoneScheduled script r at → slice_get script.schedule at ≡ Some client
     → (1 ≤ client → client ≤ most_client script.clients → may_go_now script r client ≡ false) → NoneScheduled script r (at + 1)
 more_scheduled script r at client before there none k other from below is first within = by (cases_lt k at)
   where

@@ -127,8 +127,8 @@ seat_is members place m client there = ap (λ o. option_map_or (λ (x : Membered
 
 -- what a world tells of itself after a change
 pub told_back : (old new : Membered) (now : WorldView) → new.service ≡ old.service → new.world.tables ≡ old.world.tables → view_in new ≡ now → RecoversSoFar (setting_in new) (view_in new) → RecoversSoFar (setting_in old) now
-told_back old new now kind tables view told =
-    subst (λ (k : Serving). RecoversSoFar (setting_by k old.world.tables) now) kind
+told_back old new now service tables view told =
+    subst (λ (k : Serving). RecoversSoFar (setting_by k old.world.tables) now) service
     (subst (λ (t : Compiled). RecoversSoFar (setting_by new.service t) now) tables (subst (RecoversSoFar (setting_in new)) view told))
 
 module _ (members : List Membered) (script : MultiScript) (lists : List (Roomy ℕ)) (order : List ℕ) (is : KeepsMulti members script (lists_of lists) order) (client : ℕ) (first : 1 ≤ client)
@@ -171,7 +171,7 @@ module _ (members : List Membered) (script : MultiScript) (lists : List (Roomy �
       own = entries_in (own_in client is.merged)
 
       unchanged : ChangesAt members place m w members
-      unchanged = record { new = m; are = set_self members place m there; there = there; view_is = refl; kind = refl; tables = refl; plan = refl }
+      unchanged = record { new = m; are = set_self members place m there; there = there; view_is = refl; service = refl; tables = refl; plan = refl }
 
       handed : length (own_in client is.merged) ≡ length (given_in given client)
       handed = all_handed members members script given order place m w unchanged is client first last free call next its_place
@@ -425,11 +425,11 @@ pub record KeepsParts (script : MultiScript) (members : List Membered) (given : 
   pub follows : NoneStruck members → FollowsMulti members script given keeps.merged passed last
 
 -- as they stand
-pub parts_of : (script : MultiScript) (r : Running) → KeepsRunning script r → KeepsParts script r.members (lists_of r.given) r.order.items r.passed r.last
+pub parts_of : {N : Type 0} (script : MultiScript) (r : Running N) → KeepsRunning script r → KeepsParts script r.members (lists_of r.given) r.order.items r.passed r.last
 parts_of script r is = record { keeps = is.keeps; sets_up = is.sets_up; asked = is.asked; begins = is.begins; follows = is.follows }
 
 -- and with the client of the last turn one of the play's
-pub running_of : (script : MultiScript) (r : Running) → r.last ≤ most_client script.clients → KeepsParts script r.members (lists_of r.given) r.order.items r.passed r.last → KeepsRunning script r
+pub running_of : {N : Type 0} (script : MultiScript) (r : Running N) → r.last ≤ most_client script.clients → KeepsParts script r.members (lists_of r.given) r.order.items r.passed r.last → KeepsRunning script r
 running_of script r last parts = record { keeps = parts.keeps; last_there = last; sets_up = parts.sets_up; asked = parts.asked; begins = parts.begins; follows = parts.follows }
 
 -- parts that are equal
@@ -439,7 +439,7 @@ parts_same script members now given later order noted passed last same lists ite
     subst (λ ms. KeepsParts script ms later noted passed last) (sym same) (subst (λ l. KeepsParts script members l noted passed last) (sym lists) (subst (λ o. KeepsParts script members given o passed last) (sym items) is))
 
 -- memory was taken
-pub reserved_keeps : (script : MultiScript) (r q : Running) → q.members ≡ r.members → lists_of q.given ≡ lists_of r.given → q.order.items ≡ r.order.items → q.passed ≡ r.passed → q.last ≡ r.last → KeepsRunning script r → KeepsRunning script q
+pub reserved_keeps : {N : Type 0} (script : MultiScript) (r q : Running N) → q.members ≡ r.members → lists_of q.given ≡ lists_of r.given → q.order.items ≡ r.order.items → q.passed ≡ r.passed → q.last ≡ r.last → KeepsRunning script r → KeepsRunning script q
 reserved_keeps script r q members lists items passed last is =
     running_of script q (subst (λ n. n ≤ most_client script.clients) (sym last) is.last_there)
     (parts_same script r.members q.members (lists_of r.given) (lists_of q.given) r.order.items q.order.items q.passed q.last members lists items
@@ -447,7 +447,7 @@ reserved_keeps script r q members lists items passed last is =
     (subst (KeepsParts script r.members (lists_of r.given) r.order.items r.passed) (sym last) (parts_of script r is))))
 
 -- and the next turn is the same
-pub reserved_turn : (script : MultiScript) (r q : Running) (client taken : ℕ) → q.members ≡ r.members → lists_of q.given ≡ lists_of r.given → q.passed ≡ r.passed → q.last ≡ r.last → TakesNextTurn script r client taken → (merged : List MultiEntry)
+pub reserved_turn : {N : Type 0} (script : MultiScript) (r q : Running N) (client taken : ℕ) → q.members ≡ r.members → lists_of q.given ≡ lists_of r.given → q.passed ≡ r.passed → q.last ≡ r.last → TakesNextTurn script r client taken → (merged : List MultiEntry)
     → IsNextMultiTurn script (stage_now q.members script (lists_of q.given) merged q.passed q.last) client taken
 reserved_turn script r q client taken members lists passed last turn merged =
     subst (λ ms. IsNextMultiTurn script (stage_now ms script (lists_of q.given) merged q.passed q.last) client taken) (sym members)
@@ -456,21 +456,21 @@ reserved_turn script r q client taken members lists passed last turn merged =
     (subst (λ k. IsNextMultiTurn script (stage_now r.members script (lists_of r.given) merged r.passed k) client taken) (sym last) (turn merged))))
 
 -- there is a first client
-pub first_there : (script : MultiScript) (r : Running) → KeepsRunning script r → 1 ≤ most_client script.clients
+pub first_there : {N : Type 0} (script : MultiScript) (r : Running N) → KeepsRunning script r → 1 ≤ most_client script.clients
 first_there script r is = first_client 0 script.clients is.keeps.playable.clients
 
 -- the member of an entry was noted where one was made, and then what the client was given where a reply was handed over
-pub noted_keeps : (script : MultiScript) (q : Running) (later : List Membered) (a b : Running) (client member : ℕ) (did : Did) (handed : Option ℕ) (made : Bool) (old new : ℕ) → made ≡ nat_lt old new → handed ≡ handed_by did
+pub noted_keeps : {N : Type 0} (script : MultiScript) (q : Running N) (later : List Membered) (a b : Running N) (client member : ℕ) (did : Did) (handed : Option ℕ) (made : Bool) (old new : ℕ) → made ≡ nat_lt old new → handed ≡ handed_by did
     → a.order.items ≡ cond made (q.order.items ++ member ∷ []) q.order.items → a ≡ record q { members = later; order = a.order }
     → lists_of b.given ≡ with_handed (lists_of a.given) client handed → b ≡ record a { given = b.given } → client ≤ most_client script.clients → (taken : ℕ)
     → KeepsParts script later (with_handed (lists_of q.given) client (handed_by did)) (cond (nat_lt old new) (q.order.items ++ member ∷ []) q.order.items) taken client
     → KeepsRunning script (record b { passed = taken; last = client })
-noted_keeps script q later a b client member did handed made old new is_made is_handed items rest_a lists rest_b within taken kept =
-    let members : b.members ≡ later = ap (λ (x : Running). x.members) rest_b ∙ ap (λ (x : Running). x.members) rest_a in
+noted_keeps {N = N} script q later a b client member did handed made old new is_made is_handed items rest_a lists rest_b within taken kept =
+    let members : b.members ≡ later = ap (λ (x : Running N). x.members) rest_b ∙ ap (λ (x : Running N). x.members) rest_a in
     let given : lists_of b.given ≡ with_handed (lists_of q.given) client (handed_by did)
-    = lists ∙ ap (λ (x : Running). with_handed (lists_of x.given) client handed) rest_a ∙ ap (with_handed (lists_of q.given) client) is_handed in
+    = lists ∙ ap (λ (x : Running N). with_handed (lists_of x.given) client handed) rest_a ∙ ap (with_handed (lists_of q.given) client) is_handed in
     let order : b.order.items ≡ cond (nat_lt old new) (q.order.items ++ member ∷ []) q.order.items
-    = ap (λ (x : Running). x.order.items) rest_b ∙ items ∙ ap (λ t. cond t (q.order.items ++ member ∷ []) q.order.items) is_made in
+    = ap (λ (x : Running N). x.order.items) rest_b ∙ items ∙ ap (λ t. cond t (q.order.items ++ member ∷ []) q.order.items) is_made in
     running_of script (record b { passed = taken; last = client }) within
     (parts_same script later b.members (with_handed (lists_of q.given) client (handed_by did)) (lists_of b.given)
     (cond (nat_lt old new) (q.order.items ++ member ∷ []) q.order.items) b.order.items taken client members given order kept)
@@ -481,7 +481,7 @@ its_next None member is = absurd (cc is)
 its_next (Some c) member is = (c, refl, cc is)
 
 -- a client that has no call more takes its turn: nothing is done
-pub idle_turn : (script : MultiScript) (r : Running) (client taken : ℕ) → KeepsRunning script r → 1 ≤ client → client ≤ most_client script.clients → next_of script (lists_of r.given) client ≡ None → TakesNextTurn script r client taken
+pub idle_turn : {N : Type 0} (script : MultiScript) (r : Running N) (client taken : ℕ) → KeepsRunning script r → 1 ≤ client → client ≤ most_client script.clients → next_of script (lists_of r.given) client ≡ None → TakesNextTurn script r client taken
     → KeepsRunning script (record r { passed = taken; last = client })
 idle_turn script r client taken is first last none turn = record {
   keeps = is.keeps;
@@ -493,7 +493,7 @@ idle_turn script r client taken is first last none turn = record {
 }
 
 -- where it was a client's turn, it is so behind its offer
-pub turn_after_offer : (script : MultiScript) (r q : Running) (client taken : ℕ) → players_now q.members script (lists_of q.given) ≡ players_now r.members script (lists_of r.given) → q.passed ≡ r.passed → q.last ≡ r.last
+pub turn_after_offer : {N : Type 0} (script : MultiScript) (r q : Running N) (client taken : ℕ) → players_now q.members script (lists_of q.given) ≡ players_now r.members script (lists_of r.given) → q.passed ≡ r.passed → q.last ≡ r.last
     → TakesNextTurn script r client taken → TakesNextTurn script q client taken
 turn_after_offer script r q client taken players passed last turn merged =
     subst (λ ps. IsNextMultiTurn script (record { history = merged; players = ps; schedule = drop q.passed script.schedule; last = q.last }) client taken) (sym players)
@@ -501,7 +501,7 @@ turn_after_offer script r q client taken players passed last turn merged =
     (subst (λ k. IsNextMultiTurn script (record { history = merged; players = players_now r.members script (lists_of r.given); schedule = drop r.passed script.schedule; last = k }) client taken) (sym last) (turn merged)))
 
 -- there are no more members than there may be
-pub few_members : (script : MultiScript) (r : Running) → KeepsRunning script r → length r.members ≤ most_members
+pub few_members : {N : Type 0} (script : MultiScript) (r : Running N) → KeepsRunning script r → length r.members ≤ most_members
 few_members script r is = subst (λ n. n ≤ most_members) (length_mapped (λ (x : Membered). x.world.tables.iface) r.members) is.keeps.playable.at_most
 
 -- what the runs of members came to is what their worlds have done

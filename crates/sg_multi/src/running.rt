@@ -119,8 +119,11 @@ impl<N: Describes> Running<N> {
         if !is_free(self.phase(client, call.member)) {
             return Ok(());
         }
-        let member = member_of(&self.members, call.member);
-        let next = member.next_call(alloc, self.given.of(client), &call.call)?;
+        let next = member_of(&self.members, call.member).next_call(
+            alloc,
+            self.given.of(client),
+            &call.call,
+        )?;
         let NextCall { fun, desc, args } = next;
         let place = usize::from(call.member) - 1;
         self.members.offer(alloc, place, client, fun, desc, args)

@@ -13,12 +13,12 @@ use Rattle.sg_multi.proofs.Turning.{few_members, first_there, of_members}
 use Rattle.sg_multi.proofs.play.ended.Goals as goal
 
 pub ended_members-requires : goal.ended_members-requires
-ended_members-requires c =
+ended_members-requires g c =
     let r = c.args.running.now in
     omega (arith, few_members c.args.script.now r c.requires.keeps, ap (λ (l : List Membered). length l) c.as_slice.ensures)
 
 pub returns-clause-played : goal.returns-clause-played
-returns-clause-played c =
+returns-clause-played g c =
     let r = c.args.running.now in
     let s = c.args.script.now in
     let ends = ends_up_to r.members s (lists_of r.given) (most_client s.clients) in
@@ -32,7 +32,7 @@ returns-clause-played c =
     (begins_over r.members s (lists_of r.given) c.requires.keeps.keeps.merged r.passed r.last c.requires.keeps.follows c.requires.keeps.begins ends eds are))
 
 pub returns-clause-worlds : goal.returns-clause-worlds
-returns-clause-worlds c =
+returns-clause-worlds g c =
     let r = c.args.running.now in
     subst (λ (x : MultiCame). AreOfMembers r.members x.members) (sym c.new.ensures)
     (of_members r.members c.as_slice-2.result.now c.in_ok-members.members (subst (λ (ms : List Membered). AreEndedMembers ms c.as_slice-2.result.now c.in_ok-members.members) c.as_slice.ensures c.in_ok-members.ensures))

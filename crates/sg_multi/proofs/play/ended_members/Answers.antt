@@ -8,14 +8,14 @@ use Rattle.sg_multi.proofs.Turning.{read_there}
 use Rattle.sg_multi.proofs.play.ended_members.Goals as goal
 
 pub members-init : goal.members-init
-members-init c =
+members-init g c =
     (refl, ap (λ (l : List Ended). length l) c.new-ended.ensures, λ k m e there at. let none : Some e ≡ slice_get [] k = sym at ∙ ap (λ l. slice_get l k) c.new-ended.ensures in absurd (cc none))
 
 pub overflow_add-number : goal.overflow_add-number
-overflow_add-number c = omega (arith, c.members.invariant.0, c.members-test.true, c.requires)
+overflow_add-number g c = omega (arith, c.members.invariant.0, c.members-test.true, c.requires)
 
 pub members-preserved : goal.members-preserved
-members-preserved c =
+members-preserved g c =
     let ms = c.args.members.now in
     let ends = c.args.ends.now in
     let before = c.members.invariant in
@@ -30,4 +30,4 @@ members-preserved c =
     )
 
 pub returns : goal.returns
-returns c = record { count = omega (arith, c.members.invariant.1, c.members-test.false, c.members.auto.member-index-end); each = c.members.invariant.2 }
+returns g c = record { count = omega (arith, c.members.invariant.1, c.members-test.false, c.members.auto.member-index-end); each = c.members.invariant.2 }

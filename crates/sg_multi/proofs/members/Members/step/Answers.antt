@@ -7,12 +7,12 @@ use Rattle.sg_sim.specs.sg_world.Steps.{AnswersLast, HasStepped, LackedMemory}
 use Rattle.sg_multi.proofs.members.Members.step.Goals as goal
 
 pub step-requires : goal.step-requires
-step-requires c = record {
+step-requires g c = record {
   client = c.requires.client c.index_mut.result.now (now_there c.self.inside.list.items c.args.self.now c.args.place c.index_mut.result.now c.self.view_is c.requires.there c.index_mut.ensures.value);
 }
 
 pub returns-clause-did : goal.returns-clause-did
-returns-clause-did c = λ m there.
+returns-clause-did g c = λ m there.
     let old = c.index_mut.result.now in
     let new = c.step.new.self in
     let now = view_in new in
@@ -30,7 +30,7 @@ returns-clause-did c = λ m there.
     ))
 
 pub returns-clause-err : goal.returns-clause-err
-returns-clause-err c = λ m there.
+returns-clause-err g c = λ m there.
     let old = c.index_mut.result.now in
     let new = c.step.new.self in
     let now = view_in new in
