@@ -8,15 +8,15 @@ use sg_described::Description;
 use std::alloc::AllocError;
 use std::marker::PhantomData;
 
-/// The description of a service, which is safe.
+/// The description of the service at a place, which is safe.
 #[derive_where(Debug)]
-pub struct DescribedImage<N: Describes> {
+pub struct DescribedImage<N: Describes, const PLACE: usize> {
     description: Description,
     of: PhantomData<N>,
-    ghost is: { described_of description ≡ made_safe N.description },
+    ghost is: { described_of description ≡ made_safe (N.descriptions PLACE) },
 }
 
-impl<N: Describes> Clone for DescribedImage<N> {
+impl<N: Describes, const PLACE: usize> Clone for DescribedImage<N, PLACE> {
     ghost use Rattle.std.specs.Prelude.{⊤};
 
     ghost is_clone = { λ x y. y ≡ x };
@@ -28,12 +28,12 @@ impl<N: Describes> Clone for DescribedImage<N> {
     }
 }
 
-impl<N: Describes> Copy for DescribedImage<N> {}
+impl<N: Describes, const PLACE: usize> Copy for DescribedImage<N, PLACE> {}
 
-impl<N: Describes> DescribedImage<N> {
+impl<N: Describes, const PLACE: usize> DescribedImage<N, PLACE> {
     /// The image of a description, which is safe and the service's. It takes no memory.
     pub fn new(description: Description) -> Self
-        requires { described_of description ≡ made_safe N.description }
+        requires { described_of description ≡ made_safe (N.descriptions PLACE) }
     {
         DescribedImage {
             description,
@@ -43,7 +43,7 @@ impl<N: Describes> DescribedImage<N> {
 
     /// The description, lent. It is safe, and the service's.
     pub fn description(&self) -> &Description
-        ensures { described_of result.now ≡ made_safe N.description }
+        ensures { described_of result.now ≡ made_safe (N.descriptions PLACE) }
     {
         &self.description
     }

@@ -1,6 +1,6 @@
 //! Services that are described, at work: each does with a call what its description says.
 //!
-//! - `describes`: which description a service has (`Describes`)
+//! - `describes`: which descriptions services have (`Describes`)
 //! - `image`: a description that is safe, from which each boot begins (`DescribedImage`)
 //! - `entry`: what is kept of a descriptor (`DescribedEntry`)
 //! - `view`: what rules see of a call; `rules`: which rule applies, and what it says

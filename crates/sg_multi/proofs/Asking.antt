@@ -20,8 +20,7 @@ use Rattle.sg_multi.proofs.sg_sim.sg_play.Waking.Shapes.{call_is_next}
 use Rattle.sg_multi.proofs.sg_sim.sg_play.sg_plain.sg_hist.Growing.{places-more, stands_before-more}
 use Rattle.sg_multi.proofs.sg_sim.sg_play.sg_world.sg_world_laws.Ending.Calls.{test_same}
 use Rattle.sg_multi.proofs.sg_sim.sg_play.sg_world.sg_world_laws.sg_recovery_laws.Lists.{each_append, each_map}
-use Rattle.sg_multi.specs.Members.{ChangesAt, setting_in, view_in}
-use Rattle.sg_multi.specs.declared.member.Member.{Member}
+use Rattle.sg_multi.specs.Members.{ChangesAt, Membered, setting_in, view_in}
 use Rattle.sg_multi.specs.sg_sim.sg_plain.Calls.{most_client, script_calls}
 use Rattle.sg_multi.specs.sg_sim.sg_plain.Playing.Callers.{IsCaller}
 use Rattle.sg_multi.specs.sg_sim.sg_plain.Playing.Given.{given_in}
@@ -207,7 +206,7 @@ module _ (facts : Facts) (script : MultiScript) (member : ℕ) where
 
 -- ---- an item that is noted
 
-module _ (members : List Member) (script : MultiScript) (given : List (List ℕ)) (order : List ℕ) (is : KeepsMulti members script given order) (place : ℕ) (m : Member) (there : slice_get members place ≡ Some m)
+module _ (members : List Membered) (script : MultiScript) (given : List (List ℕ)) (order : List ℕ) (is : KeepsMulti members script given order) (place : ℕ) (m : Membered) (there : slice_get members place ≡ Some m)
     (c : ℕ) (first : 1 ≤ c) (last : c ≤ most_client script.clients) (told : RecoversSoFar (setting_in m) (view_in m)) where
   abbrev w : WorldView
   w = view_in m
@@ -216,7 +215,7 @@ module _ (members : List Member) (script : MultiScript) (given : List (List ℕ)
   facts = (setting_in m).iface.facts
 
   history_is : entries_at (place + 1) is.merged ≡ w.history
-  history_is = is.merges.each place w.history (mapped_at (λ (x : Member). (view_in x).history) members place m there)
+  history_is = is.merges.each place w.history (mapped_at (λ (x : Membered). (view_in x).history) members place m there)
 
   keeps : KeepsMember (setting_in m) w
   keeps = is.each place m there
@@ -300,12 +299,12 @@ module _ (members : List Member) (script : MultiScript) (given : List (List ℕ)
 -- ---- all members
 
 -- the merged list has one entry more
-asked_more : (members : List Member) (script : MultiScript) (merged : List MultiEntry) (x : MultiEntry) → AreAskedSoFar members script merged → AreAskedSoFar members script (merged ++ x ∷ [])
+asked_more : (members : List Membered) (script : MultiScript) (merged : List MultiEntry) (x : MultiEntry) → AreAskedSoFar members script merged → AreAskedSoFar members script (merged ++ x ∷ [])
 asked_more members script merged x all q y there =
     each_map (AtPlace (setting_in y).iface.facts script (q + 1) merged) (AtPlace (setting_in y).iface.facts script (q + 1) (merged ++ x ∷ [])) (places_of (view_in y).run)
     (λ p. asked_longer (setting_in y).iface.facts script (q + 1) merged x p p.item.tag) (all q y there)
 
-module _ (members later : List Member) (script : MultiScript) (given : List (List ℕ)) (order : List ℕ) (place : ℕ) (m : Member) (now : WorldView) (changes : ChangesAt members place m now later)
+module _ (members later : List Membered) (script : MultiScript) (given : List (List ℕ)) (order : List ℕ) (place : ℕ) (m : Membered) (now : WorldView) (changes : ChangesAt members place m now later)
     (is : KeepsMulti members script given order) where
   -- one of them changes
   asked_at : (merged : List MultiEntry) → Each (AtPlace (setting_in m).iface.facts script (place + 1) merged) (places_from [] now.run.boots) → AreAskedSoFar members script merged → AreAskedSoFar later script merged
@@ -314,8 +313,8 @@ module _ (members later : List Member) (script : MultiScript) (given : List (Lis
       by : ((q ≡ place) × (x ≡ changes.new)) ⊎ ((q ≢ place) × (slice_get members q ≡ Some x)) → Each (AtPlace (setting_in x).iface.facts script (q + 1) merged) (places_of (view_in x).run)
       by (inl its) =
           subst (λ n. Each (AtPlace (setting_in x).iface.facts script (n + 1) merged) (places_of (view_in x).run)) (sym its.0)
-          (subst (λ (y : Member). Each (AtPlace (setting_in y).iface.facts script (place + 1) merged) (places_of (view_in y).run)) (sym its.1)
-          (moved (λ z v. Each (AtPlace z.iface.facts script (place + 1) merged) (places_of v.run)) m changes.new now changes.kind changes.tables changes.view_is own))
+          (subst (λ (y : Membered). Each (AtPlace (setting_in y).iface.facts script (place + 1) merged) (places_of (view_in y).run)) (sym its.1)
+          (moved (λ z v. Each (AtPlace z.iface.facts script (place + 1) merged) (places_of v.run)) m changes.new now changes.service changes.tables changes.view_is own))
       by (inr other) = all q x other.1
 
   -- a client takes its turn at one of them
@@ -337,12 +336,12 @@ module _ (members later : List Member) (script : MultiScript) (given : List (Lis
       (asked_at is.merged (subst (λ l. Each (AtPlace (setting_in m).iface.facts script (place + 1) is.merged) (places_from [] l)) (sym boots) (all place m changes.there)) all)
 
 -- nothing was done yet
-pub asked_new : (members : List Member) (script : MultiScript) (merged : List MultiEntry) (n : ℕ) → ((q : ℕ) (x : Member) → slice_get members q ≡ Some x → view_in x ≡ new_world (replicate n no_seat)) → AreAskedSoFar members script merged
+pub asked_new : (members : List Membered) (script : MultiScript) (merged : List MultiEntry) (n : ℕ) → ((q : ℕ) (x : Membered) → slice_get members q ≡ Some x → view_in x ≡ new_world (replicate n no_seat)) → AreAskedSoFar members script merged
 asked_new members script merged n new q x there = subst (λ (v : WorldView). Each (AtPlace (setting_in x).iface.facts script (q + 1) merged) (places_of v.run)) (sym (new q x there)) tt
 
 -- ---- the end
 
-module _ (members : List Member) (script : MultiScript) (given : List (List ℕ)) (order : List ℕ) (is : KeepsMulti members script given order) (place : ℕ) (m : Member) (there : slice_get members place ≡ Some m) where
+module _ (members : List Membered) (script : MultiScript) (given : List (List ℕ)) (order : List ℕ) (is : KeepsMulti members script given order) (place : ℕ) (m : Membered) (there : slice_get members place ≡ Some m) where
   -- the entries before that of a call, and the others
   abbrev before_it : ℕ → ℕ → List MultiEntry
   before_it client seq = take_while (λ e. not (is_of_call (place + 1) client seq e)) is.merged
@@ -365,7 +364,7 @@ module _ (members : List Member) (script : MultiScript) (given : List (List ℕ)
           let at : e.member ≡ place + 1
           = at_its_member (interfaces_of members) is.merged client (own_in client b) e (own_in client (r ++ after_it client seq)) (multi_calls script client) call.written made (ap (slice_get (multi_calls script client)) count ∙ call.next) ∙ call.its_member in
           let history : (view_in m).history ≡ entries_at (place + 1) b ++ e.entry ∷ entries_at (place + 1) (r ++ after_it client seq)
-          = sym (is.merges.each place (view_in m).history (mapped_at (λ (x : Member). (view_in x).history) members place m there)) ∙ ap (entries_at (place + 1)) whole ∙ entries_split (place + 1) b e (r ++ after_it client seq) at in
+          = sym (is.merges.each place (view_in m).history (mapped_at (λ (x : Membered). (view_in x).history) members place m there)) ∙ ap (entries_at (place + 1)) whole ∙ entries_split (place + 1) b e (r ++ after_it client seq) at in
           let number : e.entry.call.seq ≡ seq
           = number_in [] (entries_at (place + 1) b) e.entry (entries_at (place + 1) (r ++ after_it client seq)) (subst (AreNumbered []) history (is.each place m there).numbered)
           ∙ ap (λ n. length (calls_of (entries_at (place + 1) b) n) + 1) its ∙ ap (λ (l : List Entry). length l + 1) (calls_at b (place + 1) client)

@@ -7,10 +7,8 @@ use Rattle.sg_facts.specs.Interface.{Declared}
 use Rattle.sg_facts.specs.Limits.{last_client}
 use Rattle.sg_facts.specs.Tables.{Compiled}
 use Rattle.sg_multi.proofs.sg_sim.Beginning.{new_seat}
-use Rattle.sg_multi.specs.Members.{kind_in, setting_in, view_in, world_in}
-use Rattle.sg_multi.specs.declared.member.Member.{Member}
-use Rattle.sg_load.proofs.Services.{none_waits}
-use Rattle.sg_multi.specs.sg_load.Services.{facts_by}
+use Rattle.sg_multi.specs.Members.{Membered, setting_in, view_in}
+use Rattle.sg_multi.specs.Serving.{IsOfServed, serving}
 use Rattle.sg_multi.specs.sg_sim.sg_plain.Calls.{most_client}
 use Rattle.sg_multi.specs.sg_sim.sg_plain.Playing.Callers.{is_receipted}
 use Rattle.sg_multi.specs.sg_sim.sg_plain.Playing.Playable.{AreClients}
@@ -28,6 +26,7 @@ use Rattle.sg_multi.proofs.Ending.{each_at}
 use Rattle.sg_multi.proofs.Keeping.{stubs_alike}
 use Rattle.sg_multi.proofs.MemberLaws.{member_new}
 use Rattle.sg_multi.proofs.Merging.{at_mapped, shown_alike, there_is, there_within}
+use Rattle.sg_multi.proofs.Queries.{no_query_at}
 use Rattle.sg_multi.proofs.Stages.{its_interface}
 
 -- there is a first client, and no more than there may be
@@ -55,7 +54,7 @@ no_front : (n : ℕ) → all_of_first (take n []) ≡ true
 no_front zero = refl
 no_front (suc n) = refl
 
-module _ (tables : List MemberTables) (script : MultiScript) (members : List Member) (services : Each (λ (t : MemberTables). t.tables.iface.facts ≡ facts_by t.service) tables)
+module _ (tables : List MemberTables) (script : MultiScript) (members : List Membered) (services : Each (λ (t : MemberTables). IsOfServed t.tables.iface t.service) tables)
     (playable : IsMultiPlayable (map (λ t. t.tables.iface) tables) script) (new : AreNewMembers tables script.stops (most_client script.clients) members) where
   abbrev n : ℕ
   n = most_client script.clients
@@ -68,37 +67,38 @@ module _ (tables : List MemberTables) (script : MultiScript) (members : List Mem
       mapped_count (t ∷ ts) = ap suc (mapped_count ts)
 
   interfaces_are : interfaces_of members ≡ map (λ t. t.tables.iface) tables
-  interfaces_are = shown_alike (λ (x : Member). (world_in x).tables.iface) (λ (t : MemberTables). t.tables.iface) members tables new.count
+  interfaces_are = shown_alike (λ (x : Membered). x.world.tables.iface) (λ (t : MemberTables). t.tables.iface) members tables new.count
       (λ k x t there its. let plan = there_is script.stops k (omega (arith, stops_count, there_within tables k t its)) in ap (λ (c : Compiled). c.iface) (new.each k t plan.0 x its plan.1 there).tables_are)
 
   map_same : (xs : List (List ℕ)) → map (λ l. l) xs ≡ xs
   map_same [] = refl
   map_same (x ∷ xs) = ap (λ l. x ∷ l) (map_same xs)
 
-  plans_are : map (λ x. (world_in x).plan) members ≡ script.stops
-  plans_are = shown_alike (λ (x : Member). (world_in x).plan) (λ (l : List ℕ). l) members script.stops (new.count ∙ sym stops_count)
+  plans_are : map (λ x. x.world.plan) members ≡ script.stops
+  plans_are = shown_alike (λ (x : Membered). x.world.plan) (λ (l : List ℕ). l) members script.stops (new.count ∙ sym stops_count)
       (λ k x plan there its. let t = there_is tables k (omega (arith, stops_count, there_within script.stops k plan its)) in (new.each k t.0 plan x t.1 its there).plan_is)
       ∙ map_same script.stops
 
   pub stubs_are : map stubs_in members ≡ map stubs_by tables
   stubs_are = shown_alike stubs_in stubs_by members tables new.count
       (λ k x t there its. let plan = there_is script.stops k (omega (arith, stops_count, there_within tables k t its)) in let m = new.each k t plan.0 x its plan.1 there in
-      stubs_alike (kind_in x) t.service m.kind_is (world_in x).tables t.tables m.tables_are)
+      stubs_alike x.service (serving t.service) m.service_is x.world.tables t.tables m.tables_are)
 
   -- what is known of each
-  pub view_new : (q : ℕ) (x : Member) → slice_get members q ≡ Some x → view_in x ≡ new_world (replicate n no_seat)
+  pub view_new : (q : ℕ) (x : Membered) → slice_get members q ≡ Some x → view_in x ≡ new_world (replicate n no_seat)
   view_new q x there =
       let t = there_is tables q (omega (arith, new.count, there_within members q x there)) in
       let plan = there_is script.stops q (omega (arith, new.count, stops_count, there_within members q x there)) in
       (new.each q t.0 plan.0 x t.1 plan.1 there).nothing_done
 
-  waits_none : (q : ℕ) (x : Member) → slice_get members q ≡ Some x → no_query_waits (setting_in x).iface.facts ≡ true
+  waits_none : (q : ℕ) (x : Membered) → slice_get members q ≡ Some x → no_query_waits (setting_in x).iface.facts ≡ true
   waits_none q x there =
       let t = there_is tables q (omega (arith, new.count, there_within members q x there)) in
       let plan = there_is script.stops q (omega (arith, new.count, stops_count, there_within members q x there)) in
       let m = new.each q t.0 plan.0 x t.1 plan.1 there in
-      subst (λ f. no_query_waits f ≡ true) (sym (ap (λ (i : Declared). i.facts) (its_interface (kind_in x) (world_in x).tables ∙ ap (λ (c : Compiled). c.iface) m.tables_are)
-      ∙ each_at (λ (t : MemberTables). t.tables.iface.facts ≡ facts_by t.service) tables q t.0 services t.1)) (none_waits t.0.service)
+      let of : IsOfServed t.0.tables.iface t.0.service = each_at (λ (t : MemberTables). IsOfServed t.tables.iface t.service) tables q t.0 services t.1 in
+      subst (λ f. no_query_waits f ≡ true) (sym (ap (λ (i : Declared). i.facts) (its_interface x.service x.world.tables ∙ ap (λ (c : Compiled). c.iface) m.tables_are)
+      ∙ of.its)) (no_query_at t.0.service of.fit)
 
   pub kept_new : KeepsMulti members script (replicate n []) []
   kept_new = record {
@@ -111,7 +111,7 @@ module _ (tables : List MemberTables) (script : MultiScript) (members : List Mem
     merges = record {
       members = refl;
       within = tt;
-      each = λ q history at. let found = at_mapped (λ (x : Member). (view_in x).history) members q history at in sym (ap (λ (v : WorldView). v.history) (view_new q found.0 found.1)) ∙ found.2;
+      each = λ q history at. let found = at_mapped (λ (x : Membered). (view_in x).history) members q history at in sym (ap (λ (v : WorldView). v.history) (view_new q found.0 found.1)) ∙ found.2;
     };
     callers = λ c first last. subst (IsMultiCaller members script [] c) (sym (given_at n (c - 1))) (record {
       made = tt;

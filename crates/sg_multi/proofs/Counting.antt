@@ -3,8 +3,7 @@ use Rattle.std.proofs.Common.{◌≡◌, ℕ, zero, suc, ◌+◌, ◌≤◌, Som
 use Rattle.std.specs.Prelude.{◌==◌, slice_get}
 use Rattle.sg_facts.specs.Interface.{Declared}
 use Rattle.sg_facts.specs.declared.entry.Entry.{Entry}
-use Rattle.sg_multi.specs.Members.{view_in}
-use Rattle.sg_multi.specs.declared.member.Member.{Member}
+use Rattle.sg_multi.specs.Members.{Membered, view_in}
 use Rattle.sg_multi.specs.sg_sim.sg_play.sg_hist.Clients.{calls_of}
 use Rattle.sg_multi.specs.sg_sim.sg_script.declared.multi.MultiCall.{MultiCall}
 use Rattle.sg_multi.specs.sg_sim.sg_script.declared.multi.MultiScript.{MultiScript}
@@ -45,8 +44,8 @@ pub setup_there : (member : ℕ) (script : MultiScript) → length (setup_at mem
 setup_there member script = length_mapped (λ (c : MultiCall). c.call) (calls_there member script.setup)
 
 -- a client's entries in the world of a member are its entries at that member
-pub own_there : (members : List Member) (script : MultiScript) (given : List (List ℕ)) (order : List ℕ) (is : KeepsMulti members script given order) (place client : ℕ) (m : Member) → slice_get members place ≡ Some m
+pub own_there : (members : List Membered) (script : MultiScript) (given : List (List ℕ)) (order : List ℕ) (is : KeepsMulti members script given order) (place client : ℕ) (m : Membered) → slice_get members place ≡ Some m
     → length (calls_of (view_in m).history client) ≡ length (entries_at (place + 1) (own_in client is.merged))
 own_there members script given order is place client m there =
-    ap (λ h. length (calls_of h client)) (sym (is.merges.each place (view_in m).history (mapped_at (λ (x : Member). (view_in x).history) members place m there)))
+    ap (λ h. length (calls_of h client)) (sym (is.merges.each place (view_in m).history (mapped_at (λ (x : Membered). (view_in x).history) members place m there)))
     ∙ ap (λ (l : List Entry). length l) (calls_at is.merged (place + 1) client)

@@ -6,7 +6,7 @@ use Rattle.std.proofs.lemmas.Bool.{cases_lt}
 use Rattle.std.proofs.lemmas.Bool.Decides.{nat_tests}
 use Rattle.std.proofs.lemmas.List.{map-append}
 use Rattle.std.proofs.lemmas.List.Elements.{filter-append}
-use Rattle.sg_multi.specs.declared.member.Member.{Member}
+use Rattle.sg_multi.specs.Members.{Membered}
 use Rattle.sg_multi.specs.sg_sim.sg_plain.Calls.{ascending_from, most_client}
 use Rattle.sg_multi.specs.sg_sim.sg_script.declared.multi.MultiScript.{MultiScript}
 use Rattle.sg_multi.specs.Calls.{has_multi_calls}
@@ -29,7 +29,7 @@ callers_more test n =
     ap (filter test) (ascending_more 1 n) ∙ filter-append test (ascending_from 1 n) ((1 + n) ∷ [])
     ∙ ap (λ m. filter test (ascending_from 1 n) ++ cond (test m) (m ∷ []) []) next
 
-module _ (members : List Member) (script : MultiScript) (given : List (List ℕ)) (n : ℕ) where
+module _ (members : List Membered) (script : MultiScript) (given : List (List ℕ)) (n : ℕ) where
   abbrev ended : ℕ → ℕ × MultiEnd
   ended c = (c, end_of_client members script given c)
 
@@ -57,7 +57,7 @@ some_first (y ∷ xs) (Some x) is = some (length xs)
 -- ---- turns
 
 -- one client more can't take a turn
-pub none_more : (script : MultiScript) (r : Running) (behind client : ℕ) → NoneAfter script r behind client → may_go_now script r (client + 1) ≡ false → NoneAfter script r behind (client + 1)
+pub none_more : {N : Type 0} (script : MultiScript) (r : Running N) (behind client : ℕ) → NoneAfter script r behind client → may_go_now script r (client + 1) ≡ false → NoneAfter script r behind (client + 1)
 none_more script r behind client before not other above within = by (cases_lt client other)
   where
     by : (client < other) ⊎ (other ≤ client) → may_go_now script r other ≡ false
@@ -65,7 +65,7 @@ none_more script r behind client before not other above within = by (cases_lt cl
     by (inr less) = before other above less
 
 -- nobody can, behind a client and up to it
-pub nobody : (script : MultiScript) (r : Running) (last : ℕ) → NoneAfter script r last (most_client script.clients) → NoneAfter script r 0 last → NobodyGoesNow script r
+pub nobody : {N : Type 0} (script : MultiScript) (r : Running N) (last : ℕ) → NoneAfter script r last (most_client script.clients) → NoneAfter script r 0 last → NobodyGoesNow script r
 nobody script r last behind around client first within = by (cases_lt last client)
   where
     by : (last < client) ⊎ (client ≤ last) → may_go_now script r client ≡ false

@@ -18,8 +18,7 @@ use Rattle.sg_multi.proofs.sg_sim.sg_play.Ends.{IsOver, over_by}
 use Rattle.sg_multi.proofs.sg_sim.sg_play.Striking.Striking.{striking_over}
 use Rattle.sg_multi.proofs.sg_sim.sg_play.Waking.Waking.{waking_woken}
 use Rattle.sg_multi.proofs.sg_sim.sg_play.sg_world.sg_world_laws.sg_recovery_laws.Lists.{each_append}
-use Rattle.sg_multi.specs.Members.{setting_in, view_in, world_in}
-use Rattle.sg_multi.specs.declared.member.Member.{Member}
+use Rattle.sg_multi.specs.Members.{Membered, setting_in, view_in}
 use Rattle.sg_multi.specs.sg_sim.Played.{IsOfWorld}
 use Rattle.sg_multi.specs.sg_sim.sg_plain.Calls.{ascending_from, most_client}
 use Rattle.sg_multi.specs.sg_sim.sg_plain.Plain.{IsPlay, first_stage, stage_from}
@@ -186,9 +185,9 @@ each_offered P (s ∷ seats) all = each_append P (offered_by s) (flat_map offere
 
 -- ---- where nobody can go on
 
-module _ (members : List Member) (script : MultiScript) (given : List (List ℕ)) (order : List ℕ) (is : KeepsMulti members script given order) (nobody : NobodyGoesOn members script given) where
+module _ (members : List Membered) (script : MultiScript) (given : List (List ℕ)) (order : List ℕ) (is : KeepsMulti members script given order) (nobody : NobodyGoesOn members script given) where
   -- the member at a place has this seat of a client
-  seat_there_is : (q : ℕ) (x : Member) (c : ℕ) → slice_get members q ≡ Some x → seat_at members q c ≡ seat_of (view_in x) c
+  seat_there_is : (q : ℕ) (x : Membered) (c : ℕ) → slice_get members q ≡ Some x → seat_at members q c ≡ seat_of (view_in x) c
   seat_there_is q x c there = ap (λ o. option_map_or (λ m. seat_of (view_in m) c) o no_seat) there
 
   -- a client that has a call more waits in it
@@ -197,7 +196,7 @@ module _ (members : List Member) (script : MultiScript) (given : List (List ℕ)
       blocked_waits (seat_at members (written.member - 1) c).phase
       (sym (ap (λ o. option_map_or (λ (x : MultiCall). not (is_blocked_phase (seat_at members (x.member - 1) c).phase)) o false) next) ∙ nobody c first last)
 
-  module _ (c : ℕ) (first : 1 ≤ c) (last : c ≤ most_client script.clients) (q : ℕ) (x : Member) (there : slice_get members q ≡ Some x) where
+  module _ (c : ℕ) (first : 1 ≤ c) (last : c ≤ most_client script.clients) (q : ℕ) (x : Membered) (there : slice_get members q ≡ Some x) where
     abbrev s : Seat
     s = seat_of (view_in x) c
 
@@ -251,7 +250,7 @@ module _ (members : List Member) (script : MultiScript) (given : List (List ℕ)
   -- ---- the run of a member
 
   -- what the world of a member tells of itself, where the play is over
-  module _ (q : ℕ) (x : Member) (there : slice_get members q ≡ Some x) (told : RecoversSoFar (setting_in x) (view_in x))
+  module _ (q : ℕ) (x : Membered) (there : slice_get members q ≡ Some x) (told : RecoversSoFar (setting_in x) (view_in x))
       (recovered : IsRecovered (stubs_in x) (view_in x).history (view_in x).run (unanswered (view_in x))) where
     abbrev w : WorldView
     w = view_in x
@@ -314,7 +313,7 @@ module _ (members : List Member) (script : MultiScript) (given : List (List ℕ)
                 rests_so : (p : Phase) → (seat_of w c).phase ≡ p → is_offered (seat_of w c).phase ≡ true → (seat_of w c).phase ≡ Waits
                 rests_so p phase offers = rests_or_waits (seat_of w c).phase (seat_rests c first (omega (arith, last, as_many)) q x there) offers
 
-    pub member_played : (stops : List ℕ) → (world_in x).plan ≡ stops → AscendsAbove 0 stops → struck_in w.run ≡ up_to w.run.points (world_in x).plan
+    pub member_played : (stops : List ℕ) → x.world.plan ≡ stops → AscendsAbove 0 stops → struck_in w.run ≡ up_to w.run.points x.world.plan
         → IsSetupFirst (setup_at (q + 1) script) w.history w.run → (ended : Ended) → IsOfWorld w ended → ended.ends ≡ ends_at (q + 1) ends → IsMemberPlayed (stubs_in x) (setup_at (q + 1) script) stops ended
     member_played stops plan ascend struck sets_up ended its ends_are = record {
       legal = subst (IsLegal z.iface z.ask) (sym its.0) (IsLegal-from z.iface z.ask w.history told.legal);
@@ -348,9 +347,9 @@ module _ (members : List Member) (script : MultiScript) (given : List (List ℕ)
       (is_caller e.entry.call.client (λ none. has_entry before e es (ap (own_in e.entry.call.client) same ∙ none)))
       ∙ all_callers (before ++ e ∷ []) es (append_assoc before (e ∷ []) es ∙ same)
 
-  stubs_interfaces : (xs : List Member) → map (λ s. s.interface) (map stubs_in xs) ≡ interfaces_of xs
+  stubs_interfaces : (xs : List Membered) → map (λ s. s.interface) (map stubs_in xs) ≡ interfaces_of xs
   stubs_interfaces [] = refl
-  stubs_interfaces (y ∷ xs) = ap (λ l. (world_in y).tables.iface ∷ l) (stubs_interfaces xs)
+  stubs_interfaces (y ∷ xs) = ap (λ l. y.world.tables.iface ∷ l) (stubs_interfaces xs)
 
   pub multi_calls_are : AreMultiCalls (map (λ s. s.interface) (map stubs_in members)) script is.merged
   multi_calls_are = subst (λ i. AreMultiCalls i script is.merged) (sym (stubs_interfaces members)) (record {
@@ -365,7 +364,7 @@ module _ (members : List Member) (script : MultiScript) (given : List (List ℕ)
   abbrev called : ℕ → Call → MemberCall
   called member call = record { member = member; call = call }
 
-  pub multi_end : ((q : ℕ) (x : Member) → slice_get members q ≡ Some x → RecoversSoFar (setting_in x) (view_in x)) → (c : ℕ) → 1 ≤ c → c ≤ most_client script.clients
+  pub multi_end : ((q : ℕ) (x : Membered) → slice_get members q ≡ Some x → RecoversSoFar (setting_in x) (view_in x)) → (c : ℕ) → 1 ≤ c → c ≤ most_client script.clients
       → IsMultiEnd (map stubs_in members) is.merged script c (end_of_client members script given c)
   multi_end told c first last = by (next_of script given c) refl
     where
@@ -377,7 +376,7 @@ module _ (members : List Member) (script : MultiScript) (given : List (List ℕ)
           let all : length (own_in c is.merged) ≡ length (given_in given c) = caller.settled (λ q x there. no_receipt q x there) in
           omega (arith, all, at_least (multi_calls script c) (length (given_in given c)) next, no_more (interfaces_of members) is.merged c (own_in c is.merged) (multi_calls script c) caller.made)
         where
-          no_receipt : (q : ℕ) (x : Member) → slice_get members q ≡ Some x → is_receipted (seat_of (view_in x) c).phase ≡ false
+          no_receipt : (q : ℕ) (x : Membered) → slice_get members q ≡ Some x → is_receipted (seat_of (view_in x) c).phase ≡ false
           no_receipt q x there = at (is_receipted (seat_of (view_in x) c).phase) refl
             where
               at : (b : Bool) → is_receipted (seat_of (view_in x) c).phase ≡ b → is_receipted (seat_of (view_in x) c).phase ≡ false
@@ -385,10 +384,10 @@ module _ (members : List Member) (script : MultiScript) (given : List (List ℕ)
               at true has = let r = (caller.seats q x there).receipt has in absurd (let both : Some r.written ≡ None = sym r.next ∙ next in cc both)
       by (Some written) next =
           let fits = fits_at (interfaces_of members) 1 (multi_calls script c) (length (given_in given c)) written (is.playable.fit c) next in
-          let found = at_mapped (λ (y : Member). (world_in y).tables.iface) members (written.member - 1) fits.iface fits.there in
+          let found = at_mapped (λ (y : Membered). y.world.tables.iface) members (written.member - 1) fits.iface fits.there in
           waits written next fits.first found.0 found.1
         where
-          waits : (written : MultiCall) → next_of script given c ≡ Some written → 1 ≤ written.member → (x : Member) → slice_get members (written.member - 1) ≡ Some x
+          waits : (written : MultiCall) → next_of script given c ≡ Some written → 1 ≤ written.member → (x : Membered) → slice_get members (written.member - 1) ≡ Some x
               → IsWaiting (map stubs_in members) is.merged script c written.member (seat_at members (written.member - 1) c).call
           waits written next some x there =
               let q = written.member - 1 in
@@ -404,7 +403,7 @@ module _ (members : List Member) (script : MultiScript) (given : List (List ℕ)
                 stubs = stubs_in x;
                 there = mapped_at stubs_in members q x there;
                 none =
-                    let history : (view_in x).history ≡ entries_at written.member is.merged = sym (is.merges.each q (view_in x).history (mapped_at (λ (y : Member). (view_in y).history) members q x there)) ∙ ap (λ n. entries_at n is.merged) number in
+                    let history : (view_in x).history ≡ entries_at written.member is.merged = sym (is.merges.each q (view_in x).history (mapped_at (λ (y : Membered). (view_in y).history) members q x there)) ∙ ap (λ n. entries_at n is.merged) number in
                     subst (λ h. answer (stubs_in x).interface (stubs_in x).ask (object_of (stubs_in x).interface.facts h) (seat_at members q c).call ≡ None) history
                     (subst (λ (t : Seat). answer (stubs_in x).interface (stubs_in x).ask (object_of (stubs_in x).interface.facts (view_in x).history) t.call ≡ None) (sym same)
                     ((told q x there).waits c first (omega (arith, last, is.clients q x there)) phase));
@@ -418,7 +417,7 @@ module _ (members : List Member) (script : MultiScript) (given : List (List ℕ)
   each_paired P f [] all = tt
   each_paired P f (c ∷ cs) all = (all.0, each_paired P f cs all.1)
 
-  pub multi_ends_are : ((q : ℕ) (x : Member) → slice_get members q ≡ Some x → RecoversSoFar (setting_in x) (view_in x))
+  pub multi_ends_are : ((q : ℕ) (x : Membered) → slice_get members q ≡ Some x → RecoversSoFar (setting_in x) (view_in x))
       → AreMultiEnds (map stubs_in members) is.merged script (ends_up_to members script given (most_client script.clients))
   multi_ends_are told = record {
     clients = numbers_of_ends (end_of_client members script given) (multi_callers script);
@@ -440,14 +439,14 @@ module _ (members : List Member) (script : MultiScript) (given : List (List ℕ)
     each = λ q s stops e member stop there.
         let found = at_mapped stubs_in members q s member in
         let k = each q found.0 e found.1 there in
-        let plan : (world_in found.0).plan ≡ stops = (let both : Some (world_in found.0).plan ≡ Some stops = sym (mapped_at (λ (y : Member). (world_in y).plan) members q found.0 found.1) ∙ ap (λ l. slice_get l q) is.plans ∙ stop in cc both) in (
+        let plan : found.0.world.plan ≡ stops = (let both : Some found.0.world.plan ≡ Some stops = sym (mapped_at (λ (y : Membered). y.world.plan) members q found.0 found.1) ∙ ap (λ l. slice_get l q) is.plans ∙ stop in cc both) in (
           subst (λ y. IsMemberPlayed y (setup_at (q + 1) script) stops e) found.2
               (member_played q found.0 found.1 k.told k.recovered stops plan (each_at (AscendsAbove 0) script.stops q stops is.playable.stops stop) k.struck
               (sets_up_first members script given order is some q found.0 found.1 settled (sets_up q found.0 found.1)) e k.its k.ends_are),
           k.ends_are,
         );
     merged = is.merged;
-    merges = subst (λ h. Merges order h is.merged) (sym (shown_alike (λ (e : Ended). e.history.items) (λ (x : Member). (view_in x).history) eds members are.count (λ q e x there here. (each q x e here there).its.0))) is.merges;
+    merges = subst (λ h. Merges order h is.merged) (sym (shown_alike (λ (e : Ended). e.history.items) (λ (x : Membered). (view_in x).history) eds members are.count (λ q e x there here. (each q x e here there).its.0))) is.merges;
     calls = multi_calls_are;
     asked = λ q s e member there.
         let found = at_mapped stubs_in members q s member in

@@ -9,8 +9,7 @@ use Rattle.sg_facts.specs.sg_base.Lists.{Each}
 use Rattle.sg_facts.specs.sg_base.declared.call.Call.{Call}
 use Rattle.sg_multi.proofs.sg_sim.Beginning.{new_seat}
 use Rattle.sg_multi.proofs.sg_sim.sg_play.sg_plain.sg_clients.Lines.{same_or_other, seat_here, seat_there}
-use Rattle.sg_multi.specs.Members.{ChangesAt, setting_in, view_in}
-use Rattle.sg_multi.specs.declared.member.Member.{Member}
+use Rattle.sg_multi.specs.Members.{ChangesAt, Membered, setting_in, view_in}
 use Rattle.sg_multi.specs.sg_sim.sg_plain.Calls.{most_client}
 use Rattle.sg_multi.specs.sg_sim.sg_plain.Plain.{IsPlay, Player, Stage, first_stage, next_turn, player_at, player_of, ready, stage_from, through, turned}
 use Rattle.sg_multi.specs.sg_sim.sg_plain.Playing.Given.{given_in, with_handed}
@@ -64,7 +63,7 @@ free_phase Blocked s at free = absurd (cc free)
 -- ---- a member changes
 
 -- a play keeps what it keeps, and is at the stage at which it was
-pub record StillKeeps (members later : List Member) (script : MultiScript) (given : List (List ℕ)) (order : List ℕ) (is : KeepsMulti members script given order) : Type 0 where
+pub record StillKeeps (members later : List Membered) (script : MultiScript) (given : List (List ℕ)) (order : List ℕ) (is : KeepsMulti members script given order) : Type 0 where
   pub kept : KeepsMulti later script given order
   pub same : SameMembers members later
   pub players : players_now later script given ≡ players_now members script given
@@ -73,7 +72,7 @@ pub record StillKeeps (members later : List Member) (script : MultiScript) (give
   pub begins : Begins members script is.merged → Begins later script kept.merged
   pub follows : (passed last : ℕ) → (NoneStruck members → FollowsMulti members script given is.merged passed last) → NoneStruck later → FollowsMulti later script given kept.merged passed last
 
-module _ (members later : List Member) (script : MultiScript) (given : List (List ℕ)) (order : List ℕ) (place : ℕ) (m : Member) (now : WorldView) (changes : ChangesAt members place m now later)
+module _ (members later : List Membered) (script : MultiScript) (given : List (List ℕ)) (order : List ℕ) (place : ℕ) (m : Membered) (now : WorldView) (changes : ChangesAt members place m now later)
     (is : KeepsMulti members script given order) where
   abbrev w : WorldView
   w = view_in m
@@ -92,11 +91,11 @@ module _ (members later : List Member) (script : MultiScript) (given : List (Lis
           ap (λ y. struck_in (view_in y).run) same ∙ back (none_now none)
       by (inr other) = none q x (still_there members later script given order place m now changes is q x other there)
 
-  up_later : ((q : ℕ) (x : Member) → slice_get members q ≡ Some x → NeverStruck (setting_in x) (view_in x)) → NeverStruck (setting_in m) now → (q : ℕ) (x : Member) → slice_get later q ≡ Some x → NeverStruck (setting_in x) (view_in x)
+  up_later : ((q : ℕ) (x : Membered) → slice_get members q ≡ Some x → NeverStruck (setting_in x) (view_in x)) → NeverStruck (setting_in m) now → (q : ℕ) (x : Membered) → slice_get later q ≡ Some x → NeverStruck (setting_in x) (view_in x)
   up_later up own q x there = by (later_cases members later script given order place m now changes is q x there)
     where
       by : ((q ≡ place) × (x ≡ changes.new)) ⊎ ((q ≢ place) × (slice_get members q ≡ Some x)) → NeverStruck (setting_in x) (view_in x)
-      by (inl its) = subst (λ (y : Member). NeverStruck (setting_in y) (view_in y)) (sym its.1) (moved NeverStruck m changes.new now changes.kind changes.tables changes.view_is own)
+      by (inl its) = subst (λ (y : Membered). NeverStruck (setting_in y) (view_in y)) (sym its.1) (moved NeverStruck m changes.new now changes.service changes.tables changes.view_is own)
       by (inr other) = up q x other.1
 
   -- ---- nothing of it is a turn
@@ -124,7 +123,7 @@ module _ (members later : List Member) (script : MultiScript) (given : List (Lis
       (merges_same order (histories members) (histories later) is.merged
       (ap histories changes.are ∙ map_kept (λ x. (view_in x).history) members place m changes.new changes.there (ap (λ v. v.history) changes.view_is ∙ history)) is.merges) kept.merges
     where
-      histories : List Member → List (List Entry)
+      histories : List Membered → List (List Entry)
       histories list = map (λ x. (view_in x).history) list
 
   pub still : now.history ≡ w.history → now.run.boots ≡ w.run.boots → now.running ≡ w.running → (HoldAll (setting_in m).iface.facts w.seats → HoldAll (setting_in m).iface.facts now.seats) → (struck_in now.run ≡ [] → struck_in w.run ≡ []) → (NeverStruck (setting_in m) w → NeverStruck (setting_in m) now)
@@ -206,7 +205,7 @@ module _ (members later : List Member) (script : MultiScript) (given : List (Lis
         }
 
 -- a client that has no call more takes its turn: nothing is done
-pub follows_idle : (members : List Member) (script : MultiScript) (given : List (List ℕ)) (merged : List MultiEntry) (passed last c taken : ℕ) → 1 ≤ c → c ≤ most_client script.clients → next_of script given c ≡ None
+pub follows_idle : (members : List Membered) (script : MultiScript) (given : List (List ℕ)) (merged : List MultiEntry) (passed last c taken : ℕ) → 1 ≤ c → c ≤ most_client script.clients → next_of script given c ≡ None
     → IsNextMultiTurn script (stage_now members script given merged passed last) c taken → FollowsMulti members script given merged passed last → FollowsMulti members script given merged taken c
 follows_idle members script given merged passed last c taken first within none turn f =
     let sys = several_services (map stubs_in members) script in
@@ -226,14 +225,14 @@ follows_idle members script given merged passed last c taken first within none t
 abbrev none_given : List ℕ
 none_given = []
 
-module _ (members : List Member) (script : MultiScript) (new : (q : ℕ) (x : Member) → slice_get members q ≡ Some x → view_in x ≡ new_world (replicate (most_client script.clients) no_seat)) where
+module _ (members : List Membered) (script : MultiScript) (new : (q : ℕ) (x : Membered) → slice_get members q ≡ Some x → view_in x ≡ new_world (replicate (most_client script.clients) no_seat)) where
   abbrev n : ℕ
   n = most_client script.clients
 
   seat_new : (q d : ℕ) → phase_at (seat_at members q d) ≡ ready
   seat_new q d = by (slice_get members q) refl
     where
-      by : (o : Option Member) → slice_get members q ≡ o → phase_at (option_map_or (λ x. seat_of (view_in x) d) o no_seat) ≡ ready
+      by : (o : Option Membered) → slice_get members q ≡ o → phase_at (option_map_or (λ x. seat_of (view_in x) d) o no_seat) ≡ ready
       by None there = refl
       by (Some x) there = ap (λ (v : WorldView). phase_at (seat_of v d)) (new q x there) ∙ ap phase_at (new_seat n d)
 
@@ -260,7 +259,7 @@ no_entries [] none = refl
 no_entries (e ∷ merged) none = absurd (cc none)
 
 -- a play in which nothing was done follows it
-pub new_follows : (members : List Member) (script : MultiScript) → ((q : ℕ) (x : Member) → slice_get members q ≡ Some x → view_in x ≡ new_world (replicate (most_client script.clients) no_seat))
+pub new_follows : (members : List Membered) (script : MultiScript) → ((q : ℕ) (x : Membered) → slice_get members q ≡ Some x → view_in x ≡ new_world (replicate (most_client script.clients) no_seat))
     → (kept : KeepsMulti members script (replicate (most_client script.clients) []) []) → NoneStruck members → FollowsMulti members script (replicate (most_client script.clients) []) kept.merged 0 0
 new_follows members script new kept unstruck =
     subst (λ g. FollowsMulti members script (replicate (most_client script.clients) []) g 0 0) (sym (no_entries kept.merged kept.merges.members)) (follows_new members script new)
@@ -268,7 +267,7 @@ new_follows members script new kept unstruck =
 -- ---- the end
 
 -- where nobody can take a turn it is a play without stops, if no member was stopped
-pub follows_over : (members : List Member) (script : MultiScript) (given : List (List ℕ)) (order : List ℕ) (is : KeepsMulti members script given order) (passed last : ℕ) → NobodyGoesOn members script given
+pub follows_over : (members : List Membered) (script : MultiScript) (given : List (List ℕ)) (order : List ℕ) (is : KeepsMulti members script given order) (passed last : ℕ) → NobodyGoesOn members script given
     → is_multi_setting_up script given ≡ false → (NoneStruck members → FollowsMulti members script given is.merged passed last)
     → (ends : List (ℕ × MultiEnd)) (ended : List Ended) → AreEndedMembers members ends ended
     → Each (λ e. struck_in (run_of e.trace) ≡ []) ended → IsPlay (several_services (map stubs_in members) script) (multi_workload script) is.merged

@@ -4,8 +4,7 @@ use Rattle.std.specs.Prelude.{nat_lt}
 use Rattle.sg_facts.specs.sg_base.declared.reply.Reply.{Reply}
 use Rattle.sg_facts.specs.declared.entry.Entry.{Entry}
 use Rattle.sg_multi.proofs.sg_sim.sg_play.Waking.Shapes.{call_is_next, call_is_own}
-use Rattle.sg_multi.specs.Members.{ChangesAt, setting_in, view_in}
-use Rattle.sg_multi.specs.declared.member.Member.{Member}
+use Rattle.sg_multi.specs.Members.{ChangesAt, Membered, setting_in, view_in}
 use Rattle.sg_multi.specs.sg_sim.sg_plain.Calls.{most_client}
 use Rattle.sg_multi.specs.sg_sim.sg_plain.Playing.Callers.{IsCaller}
 use Rattle.sg_multi.specs.sg_sim.sg_script.declared.multi.MultiScript.{MultiScript}
@@ -28,12 +27,12 @@ abbrev pub GrowsTo : ℕ → List Entry → List MultiEntry → List Entry → L
 GrowsTo number history merged later then =
     ((later ≡ history) × (then ≡ merged)) ⊎ ((e : Entry) × (later ≡ history ++ e ∷ []) × (then ≡ merged ++ record { member = number; entry = e } ∷ []))
 
-module _ (members later : List Member) (script : MultiScript) (given : List (List ℕ)) (order : List ℕ) (place : ℕ) (m : Member) (now : WorldView) (changes : ChangesAt members place m now later)
+module _ (members later : List Membered) (script : MultiScript) (given : List (List ℕ)) (order : List ℕ) (place : ℕ) (m : Membered) (now : WorldView) (changes : ChangesAt members place m now later)
     (is : KeepsMulti members script given order) (gave : List (List ℕ)) (order_then : List ℕ) (kept : KeepsMulti later script gave order_then) where
   abbrev w : WorldView
   w = view_in m
 
-  abbrev histories : List Member → List (List Entry)
+  abbrev histories : List Membered → List (List Entry)
   histories list = map (λ x. (view_in x).history) list
 
   -- the order is that of the entries before

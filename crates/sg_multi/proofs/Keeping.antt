@@ -9,9 +9,8 @@ use Rattle.sg_facts.specs.Tables.{Compiled}
 use Rattle.sg_facts.proofs.Replaying.Found.{same_test}
 use Rattle.sg_multi.proofs.sg_sim.sg_play.Waking.Shapes.{call_is_next, call_is_own}
 use Rattle.sg_multi.proofs.sg_sim.sg_play.sg_plain.sg_clients.Lines.{length_set, same_or_other, seat_here, seat_there}
-use Rattle.sg_multi.specs.Members.{ChangesAt, kind_in, setting_by, setting_in, view_in, world_in}
-use Rattle.sg_multi.specs.declared.member.Member.{Member}
-use Rattle.sg_multi.specs.sg_load.declared.kind.ServiceKind.{ServiceKind}
+use Rattle.sg_multi.specs.Members.{ChangesAt, Membered, setting_by, setting_in, view_in}
+use Rattle.sg_multi.specs.Serving.{Serving}
 use Rattle.sg_multi.specs.sg_sim.sg_plain.Calls.{most_client}
 use Rattle.sg_multi.specs.sg_sim.sg_plain.Playing.Callers.{is_receipted}
 use Rattle.sg_multi.specs.sg_sim.sg_plain.Playing.Given.{GaveIds, given_in, with_handed}
@@ -144,50 +143,50 @@ split_last (x ∷ y ∷ es) (suc n) count = let rest = split_last (y ∷ es) n (
 -- ---- a member changes
 
 -- what holds of a member's world at another view holds of the member that has it
-pub moved : (P : Setting → WorldView → Type 0) (old new : Member) (now : WorldView) → kind_in new ≡ kind_in old → (world_in new).tables ≡ (world_in old).tables → view_in new ≡ now → P (setting_in old) now → P (setting_in new) (view_in new)
-moved P old new now kind tables view is =
+pub moved : (P : Setting → WorldView → Type 0) (old new : Membered) (now : WorldView) → new.service ≡ old.service → new.world.tables ≡ old.world.tables → view_in new ≡ now → P (setting_in old) now → P (setting_in new) (view_in new)
+moved P old new now service tables view is =
     subst (P (setting_in new)) (sym view)
-    (subst (λ (t : Compiled). P (setting_by (kind_in new) t) now) (sym tables) (subst (λ (k : ServiceKind). P (setting_by k (world_in old).tables) now) (sym kind) is))
+    (subst (λ (t : Compiled). P (setting_by new.service t) now) (sym tables) (subst (λ (k : Serving). P (setting_by k old.world.tables) now) (sym service) is))
 
 -- the world of a member is that of a play of its own, at another view
-member_moved : (old new : Member) (now : WorldView) → kind_in new ≡ kind_in old → (world_in new).tables ≡ (world_in old).tables → view_in new ≡ now → KeepsMember (setting_in old) now → KeepsMember (setting_in new) (view_in new)
-member_moved old new now kind tables view is = moved KeepsMember old new now kind tables view is
+member_moved : (old new : Membered) (now : WorldView) → new.service ≡ old.service → new.world.tables ≡ old.world.tables → view_in new ≡ now → KeepsMember (setting_in old) now → KeepsMember (setting_in new) (view_in new)
+member_moved old new now service tables view is = moved KeepsMember old new now service tables view is
 
 -- by what a run is judged that is of a service with some tables
-pub stubs_alike : (k l : ServiceKind) → k ≡ l → (s t : Compiled) → s ≡ t → stubs_of (setting_by k s) ≡ stubs_of (setting_by l t)
+pub stubs_alike : (k l : Serving) → k ≡ l → (s t : Compiled) → s ≡ t → stubs_of (setting_by k s) ≡ stubs_of (setting_by l t)
 stubs_alike k l same s t alike = ap (λ x. stubs_of (setting_by x s)) same ∙ ap (λ x. stubs_of (setting_by l x)) alike
 
-stubs_moved : (old new : Member) → kind_in new ≡ kind_in old → (world_in new).tables ≡ (world_in old).tables → stubs_in new ≡ stubs_in old
-stubs_moved old new kind tables = stubs_alike (kind_in new) (kind_in old) kind (world_in new).tables (world_in old).tables tables
+stubs_moved : (old new : Membered) → new.service ≡ old.service → new.world.tables ≡ old.world.tables → stubs_in new ≡ stubs_in old
+stubs_moved old new service tables = stubs_alike new.service old.service service new.world.tables old.world.tables tables
 
-module _ (members later : List Member) (script : MultiScript) (given : List (List ℕ)) (order : List ℕ) (place : ℕ) (m : Member) (now : WorldView) (changes : ChangesAt members place m now later)
+module _ (members later : List Membered) (script : MultiScript) (given : List (List ℕ)) (order : List ℕ) (place : ℕ) (m : Membered) (now : WorldView) (changes : ChangesAt members place m now later)
     (is : KeepsMulti members script given order) where
   abbrev w : WorldView
   w = view_in m
 
   pub same_interfaces : interfaces_of later ≡ interfaces_of members
-  same_interfaces = ap interfaces_of changes.are ∙ map_kept (λ x. (world_in x).tables.iface) members place m changes.new changes.there (ap (λ t. t.iface) changes.tables)
+  same_interfaces = ap interfaces_of changes.are ∙ map_kept (λ x. x.world.tables.iface) members place m changes.new changes.there (ap (λ t. t.iface) changes.tables)
 
-  same_plans : map (λ x. (world_in x).plan) later ≡ map (λ x. (world_in x).plan) members
-  same_plans = ap (map (λ x. (world_in x).plan)) changes.are ∙ map_kept (λ x. (world_in x).plan) members place m changes.new changes.there changes.plan
+  same_plans : map (λ x. x.world.plan) later ≡ map (λ x. x.world.plan) members
+  same_plans = ap (map (λ x. x.world.plan)) changes.are ∙ map_kept (λ x. x.world.plan) members place m changes.new changes.there changes.plan
 
   pub same_members : SameMembers members later
-  same_members = ap (map stubs_in) changes.are ∙ map_kept stubs_in members place m changes.new changes.there (stubs_moved m changes.new changes.kind changes.tables)
+  same_members = ap (map stubs_in) changes.are ∙ map_kept stubs_in members place m changes.new changes.there (stubs_moved m changes.new changes.service changes.tables)
 
   -- the members after the change
-  pub later_cases : (q : ℕ) (x : Member) → slice_get later q ≡ Some x → ((q ≡ place) × (x ≡ changes.new)) ⊎ ((q ≢ place) × (slice_get members q ≡ Some x))
+  pub later_cases : (q : ℕ) (x : Membered) → slice_get later q ≡ Some x → ((q ≡ place) × (x ≡ changes.new)) ⊎ ((q ≢ place) × (slice_get members q ≡ Some x))
   later_cases q x there = set_cases members place changes.new q x (ap (λ l. slice_get l q) (sym changes.are) ∙ there)
 
   pub new_there : slice_get later place ≡ Some changes.new
   new_there = ap (λ l. slice_get l place) changes.are ∙ set_there members place m changes.new changes.there
 
-  pub still_there : (q : ℕ) (x : Member) → q ≢ place → slice_get members q ≡ Some x → slice_get later q ≡ Some x
+  pub still_there : (q : ℕ) (x : Membered) → q ≢ place → slice_get members q ≡ Some x → slice_get later q ≡ Some x
   still_there q x other there = ap (λ l. slice_get l q) changes.are ∙ set_elsewhere members place q changes.new other ∙ there
 
   seat_new : (d : ℕ) → seat_of (view_in changes.new) d ≡ seat_of now d
   seat_new d = ap (λ v. seat_of v d) changes.view_is
 
-  same_member : (x : Member) → slice_get members place ≡ Some x → x ≡ m
+  same_member : (x : Membered) → slice_get members place ≡ Some x → x ≡ m
   same_member x there = let both : Some x ≡ Some m = sym there ∙ changes.there in cc both
 
   -- ---- what is kept however the callers go on
@@ -211,12 +210,12 @@ module _ (members later : List Member) (script : MultiScript) (given : List (Lis
     setting_up = setting_up;
   }
     where
-      count : (q : ℕ) (x : Member) → ((q ≡ place) × (x ≡ changes.new)) ⊎ ((q ≢ place) × (slice_get members q ≡ Some x)) → length (view_in x).seats ≡ most_client script.clients
+      count : (q : ℕ) (x : Membered) → ((q ≡ place) × (x ≡ changes.new)) ⊎ ((q ≢ place) × (slice_get members q ≡ Some x)) → length (view_in x).seats ≡ most_client script.clients
       count q x (inl its) = ap (λ y. length (view_in y).seats) its.1 ∙ ap (λ v. length v.seats) changes.view_is ∙ seats ∙ is.clients place m changes.there
       count q x (inr other) = is.clients q x other.1
 
-      each : (q : ℕ) (x : Member) → ((q ≡ place) × (x ≡ changes.new)) ⊎ ((q ≢ place) × (slice_get members q ≡ Some x)) → KeepsMember (setting_in x) (view_in x)
-      each q x (inl its) = subst (λ (y : Member). KeepsMember (setting_in y) (view_in y)) (sym its.1) (member_moved m changes.new now changes.kind changes.tables changes.view_is member)
+      each : (q : ℕ) (x : Membered) → ((q ≡ place) × (x ≡ changes.new)) ⊎ ((q ≢ place) × (slice_get members q ≡ Some x)) → KeepsMember (setting_in x) (view_in x)
+      each q x (inl its) = subst (λ (y : Membered). KeepsMember (setting_in y) (view_in y)) (sym its.1) (member_moved m changes.new now changes.service changes.tables changes.view_is member)
       each q x (inr other) = is.each q x other.1
 
   -- ---- a client whose call is under way as before
@@ -234,17 +233,17 @@ module _ (members later : List Member) (script : MultiScript) (given : List (Lis
       was : IsMultiCaller members script is.merged d (given_in given d)
       was = is.callers d from to
 
-      seat : (q : ℕ) (x : Member) → ((q ≡ place) × (x ≡ changes.new)) ⊎ ((q ≢ place) × (slice_get members q ≡ Some x))
+      seat : (q : ℕ) (x : Membered) → ((q ≡ place) × (x ≡ changes.new)) ⊎ ((q ≢ place) × (slice_get members q ≡ Some x))
           → IsSeatOf (interfaces_of members) script merged d (given_in given d) q (seat_of (view_in x) d)
       seat q x (inl its) =
           subst (λ n. IsSeatOf (interfaces_of members) script merged d (given_in given d) n (seat_of (view_in x) d)) (sym its.0)
-          (subst (λ (y : Member). IsSeatOf (interfaces_of members) script merged d (given_in given d) place (seat_of (view_in y) d)) (sym its.1)
+          (subst (λ (y : Membered). IsSeatOf (interfaces_of members) script merged d (given_in given d) place (seat_of (view_in y) d)) (sym its.1)
           (subst (IsSeatOf (interfaces_of members) script merged d (given_in given d) place) (sym (seat_new d))
           (seat_goes_on (interfaces_of members) script is.merged d (given_in given d) merged place (seat_of w d) (seat_of now d) own goes.offered goes.receipted goes.call (was.seats place m changes.there))))
       seat q x (inr other) =
           seat_goes_on (interfaces_of members) script is.merged d (given_in given d) merged q (seat_of (view_in x) d) (seat_of (view_in x) d) own refl refl refl (was.seats q x other.1)
 
-      before : IsAllHanded later d → (q : ℕ) (x : Member) → slice_get members q ≡ Some x → (q ≡ place) ⊎ (q ≢ place) → is_receipted (seat_of (view_in x) d).phase ≡ false
+      before : IsAllHanded later d → (q : ℕ) (x : Membered) → slice_get members q ≡ Some x → (q ≡ place) ⊎ (q ≢ place) → is_receipted (seat_of (view_in x) d).phase ≡ false
       before handed q x there (inl same) =
           let its = same_member x (ap (slice_get members) (sym same) ∙ there) in
           ap (λ y. is_receipted (seat_of (view_in y) d).phase) its ∙ sym goes.receipted ∙ ap (λ (s : Seat). is_receipted s.phase) (sym (seat_new d)) ∙ handed place changes.new new_there
@@ -296,7 +295,7 @@ module _ (members later : List Member) (script : MultiScript) (given : List (Lis
     one_more = ap (λ (l : List MultiEntry). length l) own_grown ∙ length-append (own_in c is.merged) (entry ∷ []) ∙ ap (λ n. n + 1) offer.all_given
 
     -- elsewhere the client has no call under way
-    free_elsewhere : (now_given : List ℕ) (q : ℕ) (x : Member) → q ≢ place → slice_get members q ≡ Some x → IsSeatOf (interfaces_of members) script merged_more c now_given q (seat_of (view_in x) c)
+    free_elsewhere : (now_given : List ℕ) (q : ℕ) (x : Membered) → q ≢ place → slice_get members q ≡ Some x → IsSeatOf (interfaces_of members) script merged_more c now_given q (seat_of (view_in x) c)
     free_elsewhere now_given q x other there =
         let alone = offers_alone (interfaces_of members) script is.merged c gave place q (seat_of w c) (seat_of (view_in x) c) (λ same. other (sym same)) e.offered seat_then (was_caller.seats q x there) in
         seat_free (interfaces_of members) script merged_more c now_given q (seat_of (view_in x) c) (not_true (is_offered (seat_of (view_in x) c).phase) alone.0) (not_true (is_receipted (seat_of (view_in x) c).phase) alone.1)
@@ -315,9 +314,9 @@ module _ (members later : List Member) (script : MultiScript) (given : List (Lis
       settled = settled;
     }
       where
-        seat : (q : ℕ) (x : Member) → ((q ≡ place) × (x ≡ changes.new)) ⊎ ((q ≢ place) × (slice_get members q ≡ Some x)) → IsSeatOf (interfaces_of members) script merged_more c now_given q (seat_of (view_in x) c)
+        seat : (q : ℕ) (x : Membered) → ((q ≡ place) × (x ≡ changes.new)) ⊎ ((q ≢ place) × (slice_get members q ≡ Some x)) → IsSeatOf (interfaces_of members) script merged_more c now_given q (seat_of (view_in x) c)
         seat q x (inl its) = subst (λ n. IsSeatOf (interfaces_of members) script merged_more c now_given n (seat_of (view_in x) c)) (sym its.0)
-            (subst (λ (y : Member). IsSeatOf (interfaces_of members) script merged_more c now_given place (seat_of (view_in y) c)) (sym its.1) here)
+            (subst (λ (y : Membered). IsSeatOf (interfaces_of members) script merged_more c now_given place (seat_of (view_in y) c)) (sym its.1) here)
         seat q x (inr other) = free_elsewhere now_given q x other.0 other.1
 
     -- the reply is still to be handed over
@@ -393,7 +392,7 @@ module _ (members later : List Member) (script : MultiScript) (given : List (Lis
         new : List ℕ
         new = gave_then ++ desc_of reply ∷ []
 
-        seat : (q : ℕ) (x : Member) → ((q ≡ place) × (x ≡ changes.new)) ⊎ ((q ≢ place) × (slice_get members q ≡ Some x)) → IsSeatOf (interfaces_of members) script is.merged c new q (seat_of (view_in x) c)
+        seat : (q : ℕ) (x : Membered) → ((q ≡ place) × (x ≡ changes.new)) ⊎ ((q ≢ place) × (slice_get members q ≡ Some x)) → IsSeatOf (interfaces_of members) script is.merged c new q (seat_of (view_in x) c)
         seat q x (inl its) =
             let idle = ap (λ y. (seat_of (view_in y) c).phase) its.1 ∙ ap (λ (s : Seat). s.phase) (seat_new c) ∙ h.phase in
             seat_free (interfaces_of members) script is.merged c new q (seat_of (view_in x) c) (ap is_offered idle) (ap is_receipted idle)
@@ -571,7 +570,7 @@ module _ (members later : List Member) (script : MultiScript) (given : List (Lis
     pub all_handed : length (own_in c is.merged) ≡ length (given_in given c)
     all_handed = offering.settled (λ q x there. not_true (is_receipted (seat_of (view_in x) c).phase) (λ has. by q x there has (same_or_other q place)))
       where
-        by : (q : ℕ) (x : Member) → slice_get members q ≡ Some x → is_receipted (seat_of (view_in x) c).phase ≡ true → (q ≡ place) ⊎ (q ≢ place) → ⊥
+        by : (q : ℕ) (x : Membered) → slice_get members q ≡ Some x → is_receipted (seat_of (view_in x) c).phase ≡ true → (q ≡ place) ⊎ (q ≢ place) → ⊥
         by q x there has (inl same) =
             let its = same_member x (ap (slice_get members) (sym same) ∙ there) in
             let none : is_receipted (seat_of w c).phase ≡ false = free_receipts (seat_of w c).phase free in
@@ -607,7 +606,7 @@ module _ (members later : List Member) (script : MultiScript) (given : List (Lis
             receipt = λ has. absurd (cc has);
           }
 
-          seat : (q : ℕ) (x : Member) → ((q ≡ place) × (x ≡ changes.new)) ⊎ ((q ≢ place) × (slice_get members q ≡ Some x)) → IsSeatOf (interfaces_of members) script is.merged c (given_in given c) q (seat_of (view_in x) c)
+          seat : (q : ℕ) (x : Membered) → ((q ≡ place) × (x ≡ changes.new)) ⊎ ((q ≢ place) × (slice_get members q ≡ Some x)) → IsSeatOf (interfaces_of members) script is.merged c (given_in given c) q (seat_of (view_in x) c)
           seat q x (inl here) = subst (λ n. IsSeatOf (interfaces_of members) script is.merged c (given_in given c) n (seat_of (view_in x) c)) (sym here.0)
               (subst (IsSeatOf (interfaces_of members) script is.merged c (given_in given c) place) (sym (ap (λ y. seat_of (view_in y) c) here.1 ∙ seat_new c ∙ seat_asked)) new_seat)
           seat q x (inr other) = offering.seats q x other.1

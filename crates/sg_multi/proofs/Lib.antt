@@ -21,6 +21,7 @@ pub mod PastStop
 pub mod Places
 pub mod Players
 pub mod PrintedMembers
+pub mod Queries
 pub mod ReadingMerged
 pub mod SettingUp
 pub mod Stages

@@ -6,8 +6,8 @@ use Rattle.std.specs.Option.{option_map_or}
 use Rattle.std.specs.declared.option.Option.{Option}
 use Rattle.std.proofs.lemmas.Bool.{cases_lt}
 use Rattle.sg_facts.specs.sg_base.declared.reply.Reply.{Reply}
+use Rattle.sg_multi.specs.Members.{Membered}
 use Rattle.sg_multi.proofs.sg_sim.sg_play.Following.Whose.{from_one}
-use Rattle.sg_multi.specs.declared.member.Member.{Member}
 use Rattle.sg_multi.specs.sg_sim.Inside.Givens.{lists_of}
 use Rattle.sg_multi.specs.sg_sim.sg_plain.Calls.{ascending_from, most_client}
 use Rattle.sg_multi.specs.sg_sim.sg_plain.Inside.Turns.{first_of, in_a_circle, is_under_way, some_or}
@@ -102,7 +102,7 @@ drop_whole (x ∷ l) = drop_whole l
 
 -- ---- the turn
 
-module _ (members : List Member) (script : MultiScript) (given : List (List ℕ)) (merged : List MultiEntry) (passed last : ℕ) (some : 1 ≤ most_client script.clients)
+module _ (members : List Membered) (script : MultiScript) (given : List (List ℕ)) (merged : List MultiEntry) (passed last : ℕ) (some : 1 ≤ most_client script.clients)
     (turns : list_all (λ client. nat_le 1 client) script.schedule ≡ true) where
   abbrev s : Stage MultiEntry
   s = stage_now members script given merged passed last
@@ -226,7 +226,7 @@ module _ (members : List Member) (script : MultiScript) (given : List (List ℕ)
 
 -- ---- of a play as it stands
 
-module _ (script : MultiScript) (r : Running) (is : KeepsRunning script r) where
+module _ {N : Type 0} (script : MultiScript) (r : Running N) (is : KeepsRunning script r) where
   there_is_one : 1 ≤ most_client script.clients
   there_is_one = first_client 0 script.clients is.keeps.playable.clients
 
@@ -253,7 +253,7 @@ module _ (script : MultiScript) (r : Running) (is : KeepsRunning script r) where
           (omega (arith, found.within, is.last_there)) found.may (λ other from. found.before other (omega (arith, from)))
 
 -- one turn more of the schedule that its client can't take
-pub more_scheduled : (script : MultiScript) (r : Running) (at client : ℕ) → NoneScheduled script r at → slice_get script.schedule at ≡ Some client
+pub more_scheduled : {N : Type 0} (script : MultiScript) (r : Running N) (at client : ℕ) → NoneScheduled script r at → slice_get script.schedule at ≡ Some client
     → (1 ≤ client → client ≤ most_client script.clients → may_go_now script r client ≡ false) → NoneScheduled script r (at + 1)
 more_scheduled script r at client before there none k other from below is first within = by (cases_lt k at)
   where

@@ -5,8 +5,7 @@ use Rattle.std.proofs.lemmas.Bool.{cases_lt}
 use Rattle.sg_facts.specs.sg_base.Lists.{Each}
 use Rattle.sg_facts.specs.declared.entry.Entry.{Entry}
 use Rattle.sg_facts.proofs.Replaying.Found.{other_test, same_test}
-use Rattle.sg_multi.specs.Members.{ChangesAt, setting_in, view_in}
-use Rattle.sg_multi.specs.declared.member.Member.{Member}
+use Rattle.sg_multi.specs.Members.{ChangesAt, Membered, setting_in, view_in}
 use Rattle.sg_multi.specs.sg_sim.sg_plain.Calls.{most_client}
 use Rattle.sg_multi.specs.sg_sim.sg_plain.Inside.Turns.{after_turn}
 use Rattle.sg_multi.specs.sg_sim.sg_plain.Plain.{Stage, System, Workload, first_stage, next_stage, player_of, stage_from, turned}
@@ -36,7 +35,7 @@ module _ (sys : System MultiEntry MemberCall) (work : Workload) where
   from_more s (suc n) = from_more (next_stage sys work s) n
 
 -- the turn of who takes the next leads to the stage after it
-pub turned_on : (sys : System MultiEntry MemberCall) (members : List Member) (script : MultiScript) (given : List (List ℕ)) (merged : List MultiEntry) (passed last c later turns : ℕ)
+pub turned_on : (sys : System MultiEntry MemberCall) (members : List Membered) (script : MultiScript) (given : List (List ℕ)) (merged : List MultiEntry) (passed last c later turns : ℕ)
     → IsNextMultiTurn script (stage_now members script given merged passed last) c later
     → stage_now members script given merged passed last ≡ stage_from sys (multi_workload script) (first_stage (multi_workload script)) turns
     → turned sys (multi_workload script) c (stage_with members script given merged (drop later script.schedule) c) (player_of (stage_with members script given merged (drop later script.schedule) c) c).phase
@@ -114,7 +113,7 @@ merged_one order histories a b x y = same_merged a b (x.members ∙ sym y.member
 -- ---- a step as a turn
 
 -- a step that is a turn of the play without stops leads to the stage after it
-module _ (members later : List Member) (script : MultiScript) (given : List (List ℕ)) (order : List ℕ) (place : ℕ) (m : Member) (now : WorldView) (changes : ChangesAt members place m now later)
+module _ (members later : List Membered) (script : MultiScript) (given : List (List ℕ)) (order : List ℕ) (place : ℕ) (m : Membered) (now : WorldView) (changes : ChangesAt members place m now later)
     (is : KeepsMulti members script given order) (c : ℕ) (first : 1 ≤ c) (last : c ≤ most_client script.clients) (written : MultiCall) (next : next_of script given c ≡ Some written) (number : place + 1 ≡ written.member)
     (did : Did) (turns_as : TurnsAs (setting_in m) (view_in m) c did now) (order_then : List ℕ)
     (order_is : cond (nat_lt (seat_of (view_in m) c).seq (seat_of now c).seq) (order ++ (place + 1) ∷ []) order ≡ order_then) (kept : KeepsMulti later script (with_handed given c (handed_by did)) order_then) where

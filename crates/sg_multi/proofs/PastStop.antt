@@ -21,8 +21,7 @@ use Rattle.sg_multi.proofs.sg_sim.sg_play.sg_plain.sg_clients.Lines.{same_or_oth
 use Rattle.sg_multi.proofs.sg_sim.sg_play.sg_plain.sg_hist.Growing.{items_booted, items_more, items_struck}
 use Rattle.sg_multi.proofs.sg_sim.sg_play.sg_world.sg_world_laws.Refusing.{by_the_guard}
 use Rattle.sg_multi.proofs.sg_sim.sg_play.sg_world.sg_world_laws.sg_recovery_laws.Lists.{each_map, each_push}
-use Rattle.sg_multi.specs.Members.{ChangesAt, setting_in, view_in}
-use Rattle.sg_multi.specs.declared.member.Member.{Member}
+use Rattle.sg_multi.specs.Members.{ChangesAt, Membered, setting_in, view_in}
 use Rattle.sg_multi.specs.sg_sim.sg_plain.Calls.{most_client}
 use Rattle.sg_multi.specs.sg_sim.sg_plain.Plain.{Stage, first_stage, stage_from}
 use Rattle.sg_multi.specs.sg_sim.sg_plain.Playing.Given.{with_handed}
@@ -273,7 +272,7 @@ module _ (z : Setting) (w : WorldView) (c : ℕ) (first : 1 ≤ c) (last : c ≤
 
 -- ---- a member changes
 
-module _ (members later : List Member) (script : MultiScript) (given : List (List ℕ)) (order : List ℕ) (place : ℕ) (m : Member) (now : WorldView) (changes : ChangesAt members place m now later)
+module _ (members later : List Membered) (script : MultiScript) (given : List (List ℕ)) (order : List ℕ) (place : ℕ) (m : Membered) (now : WorldView) (changes : ChangesAt members place m now later)
     (is : KeepsMulti members script given order) (gave : List (List ℕ)) (order_then : List ℕ) (kept : KeepsMulti later script gave order_then) where
   abbrev w : WorldView
   w = view_in m
@@ -298,8 +297,8 @@ module _ (members later : List Member) (script : MultiScript) (given : List (Lis
     turns = turns;
     more = more;
     entries = begun turns more are;
-    past = moved (λ y v. HasStopped y.iface.facts (entries_at (place + 1) more) v.run.boots v.running) m changes.new now changes.kind changes.tables changes.view_is past;
-    hold = moved (λ y v. HoldAll y.iface.facts v.seats) m changes.new now changes.kind changes.tables changes.view_is hold;
+    past = moved (λ y v. HasStopped y.iface.facts (entries_at (place + 1) more) v.run.boots v.running) m changes.new now changes.service changes.tables changes.view_is past;
+    hold = moved (λ y v. HoldAll y.iface.facts v.seats) m changes.new now changes.service changes.tables changes.view_is hold;
   }
 
   -- it is another
@@ -324,10 +323,10 @@ module _ (members later : List Member) (script : MultiScript) (given : List (Lis
     pub its_past : HasStopped z.iface.facts (entries_at (place + 1) p.more) w.run.boots w.running
     its_past =
         subst (λ n. HasStopped z.iface.facts (entries_at (n + 1) p.more) w.run.boots w.running) same
-        (subst (λ (x : Member). HasStopped (setting_in x).iface.facts (entries_at (p.place + 1) p.more) (view_in x).run.boots (view_in x).running) its p.past)
+        (subst (λ (x : Membered). HasStopped (setting_in x).iface.facts (entries_at (p.place + 1) p.more) (view_in x).run.boots (view_in x).running) its p.past)
 
     pub its_hold : HoldAll z.iface.facts w.seats
-    its_hold = subst (λ (x : Member). HoldAll (setting_in x).iface.facts (view_in x).seats) its p.hold
+    its_hold = subst (λ (x : Membered). HoldAll (setting_in x).iface.facts (view_in x).seats) its p.hold
 
   -- no call is done in it
   still_past : order ≡ order_then → now.history ≡ w.history → now.run.boots ≡ w.run.boots → now.running ≡ w.running → (HoldAll z.iface.facts w.seats → HoldAll z.iface.facts now.seats)
@@ -351,9 +350,9 @@ module _ (members later : List Member) (script : MultiScript) (given : List (Lis
   begins_still order_same history boots running hold (inr p) = inr (still_past order_same history boots running hold p)
   begins_still order_same history boots running hold (inl none) = inl (λ q x there. by q x (later_cases members later script given order place m now changes is q x there))
     where
-      by : (q : ℕ) (x : Member) → ((q ≡ place) × (x ≡ changes.new)) ⊎ ((q ≢ place) × (slice_get members q ≡ Some x)) → struck_in (view_in x).run ≡ []
+      by : (q : ℕ) (x : Membered) → ((q ≡ place) × (x ≡ changes.new)) ⊎ ((q ≢ place) × (slice_get members q ≡ Some x)) → struck_in (view_in x).run ≡ []
       by q x (inl its) =
-          ap (λ (y : Member). struck_in (view_in y).run) its.1 ∙ ap (λ (v : WorldView). struck_in v.run) changes.view_is ∙ ap (flat_map (λ b. stop_in b.stop)) boots ∙ none place m changes.there
+          ap (λ (y : Membered). struck_in (view_in y).run) its.1 ∙ ap (λ (v : WorldView). struck_in v.run) changes.view_is ∙ ap (flat_map (λ b. stop_in b.stop)) boots ∙ none place m changes.there
       by q x (inr other) = none q x other.1
 
   -- ---- a step
@@ -402,7 +401,7 @@ module _ (members later : List Member) (script : MultiScript) (given : List (Lis
 
 -- ---- a turn
 
-module _ (members later : List Member) (script : MultiScript) (given : List (List ℕ)) (order : List ℕ) (place : ℕ) (m : Member) (now : WorldView) (changes : ChangesAt members place m now later)
+module _ (members later : List Membered) (script : MultiScript) (given : List (List ℕ)) (order : List ℕ) (place : ℕ) (m : Membered) (now : WorldView) (changes : ChangesAt members place m now later)
     (is : KeepsMulti members script given order) (c : ℕ) (first : 1 ≤ c) (last : c ≤ most_client script.clients) (written : MultiCall) (next : next_of script given c ≡ Some written) (number : place + 1 ≡ written.member)
     (busy : is_free_phase (seat_of (view_in m) c).phase ≡ false) (before : RecoversSoFar (setting_in m) (view_in m)) (did : Did) (steps : HasStepped (setting_in m) (view_in m) c did now) (order_then : List ℕ)
     (order_is : cond (nat_lt (seat_of (view_in m) c).seq (seat_of now c).seq) (order ++ (place + 1) ∷ []) order ≡ order_then) (kept : KeepsMulti later script (with_handed given c (handed_by did)) order_then)
@@ -446,8 +445,8 @@ module _ (members later : List Member) (script : MultiScript) (given : List (Lis
       by (inr s) = inr (first_stop (follows none) s)
       by (inl not) = inl (λ q x there. at q x (later_cases members later script given order place m now changes is q x there))
         where
-          at : (q : ℕ) (x : Member) → ((q ≡ place) × (x ≡ changes.new)) ⊎ ((q ≢ place) × (slice_get members q ≡ Some x)) → struck_in (view_in x).run ≡ []
-          at q x (inl its) = ap (λ (y : Member). struck_in (view_in y).run) its.1 ∙ ap (λ (v : WorldView). struck_in v.run) changes.view_is ∙ not
+          at : (q : ℕ) (x : Membered) → ((q ≡ place) × (x ≡ changes.new)) ⊎ ((q ≢ place) × (slice_get members q ≡ Some x)) → struck_in (view_in x).run ≡ []
+          at q x (inl its) = ap (λ (y : Membered). struck_in (view_in y).run) its.1 ∙ ap (λ (v : WorldView). struck_in v.run) changes.view_is ∙ not
           at q x (inr other) = none q x other.1
 
 -- ---- the end
@@ -461,7 +460,7 @@ was_struck run first newer are stopped none = by first.stop stopped (sym (ap (fl
     by (Some n) some nothing = cc nothing
 
 -- up to the last visible entry of the first boot of each member that was stopped, the entries are those of the play without stops
-pub begins_over : (members : List Member) (script : MultiScript) (given : List (List ℕ)) (merged : List MultiEntry) (passed last : ℕ) → (NoneStruck members → FollowsMulti members script given merged passed last) → Begins members script merged
+pub begins_over : (members : List Membered) (script : MultiScript) (given : List (List ℕ)) (merged : List MultiEntry) (passed last : ℕ) → (NoneStruck members → FollowsMulti members script given merged passed last) → Begins members script merged
     → (ends : List (ℕ × MultiEnd)) (eds : List Ended) → AreEndedMembers members ends eds → (n : ℕ) → AreBeforeStops (map stubs_in members) eds merged n
     → (turns : ℕ) × (take n merged ≡ take n (stage_from (several_services (map stubs_in members) script) (multi_workload script) (first_stage (multi_workload script)) turns).history)
 begins_over members script given merged passed last follows (inl none) ends eds are n all = let f = follows none in (f.turns, ap (λ (s : Stage MultiEntry). take n s.history) f.at)

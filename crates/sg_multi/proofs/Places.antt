@@ -3,8 +3,7 @@ use Rattle.std.proofs.Common.{◌≡◌, ℕ, zero, suc, ◌<◌, List, [], ◌�
 use Rattle.std.specs.Prelude.{IfOk, OnErr, OnOk, slice_get, slice_index_or}
 use Rattle.std.specs.declared.result.Result.{Result}
 use Rattle.std.specs.declared.result.Result.TheVariants.{Ok, Err}
-use Rattle.sg_multi.specs.Members.{ChangesAt, kind_in, view_in, world_in}
-use Rattle.sg_multi.specs.declared.member.Member.{Member}
+use Rattle.sg_multi.specs.Members.{ChangesAt, Membered, view_in}
 use Rattle.sg_sim.specs.sg_clients.WorldView.{WorldView}
 
 -- what is read at a place stands there
@@ -13,24 +12,24 @@ read_there [] k d below = absurd (omega (arith, below))
 read_there (x ∷ xs) zero d below = refl
 read_there (x ∷ xs) (suc k) d below = read_there xs k d (omega (arith, below))
 
-pub now_there : (inside members : List Member) (place : ℕ) (old : Member) → inside ≡ members → place < length members → old ≡ slice_index_or inside place old → slice_get members place ≡ Some old
+pub now_there : (inside members : List Membered) (place : ℕ) (old : Membered) → inside ≡ members → place < length members → old ≡ slice_index_or inside place old → slice_get members place ≡ Some old
 now_there inside members place old same below value =
     read_there members place old below ∙ ap (λ x. Some x) (ap (λ l. slice_index_or l place old) (sym same) ∙ sym value)
 
-pub same_there : (members : List Member) (place : ℕ) (old m : Member) → slice_get members place ≡ Some old → slice_get members place ≡ Some m → old ≡ m
+pub same_there : (members : List Membered) (place : ℕ) (old m : Membered) → slice_get members place ≡ Some old → slice_get members place ≡ Some m → old ≡ m
 same_there members place old m a b = let both : Some old ≡ Some m = sym a ∙ b in cc both
 
 -- the member at a place is another one, whose service, tables and plan are the same
-pub changed : (members inside : List Member) (place : ℕ) (old new m : Member) (now : WorldView) → inside ≡ members → slice_get members place ≡ Some m → old ≡ m → view_in new ≡ now → kind_in new ≡ kind_in old
-    → (world_in new).tables ≡ (world_in old).tables → (world_in new).plan ≡ (world_in old).plan → ChangesAt members place m now (slice_set inside place new)
-changed members inside place old new m now same there is view kind tables plan = record {
+pub changed : (members inside : List Membered) (place : ℕ) (old new m : Membered) (now : WorldView) → inside ≡ members → slice_get members place ≡ Some m → old ≡ m → view_in new ≡ now → new.service ≡ old.service
+    → new.world.tables ≡ old.world.tables → new.world.plan ≡ old.world.plan → ChangesAt members place m now (slice_set inside place new)
+changed members inside place old new m now same there is view service tables plan = record {
   new = new;
   are = ap (λ l. slice_set l place new) same;
   there = there;
   view_is = view;
-  kind = kind ∙ ap kind_in is;
-  tables = tables ∙ ap (λ x. (world_in x).tables) is;
-  plan = plan ∙ ap (λ x. (world_in x).plan) is;
+  service = service ∙ ap (λ x. x.service) is;
+  tables = tables ∙ ap (λ x. x.world.tables) is;
+  plan = plan ∙ ap (λ x. x.world.plan) is;
 }
 
 -- ---- results

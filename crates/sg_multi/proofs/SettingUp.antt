@@ -12,8 +12,7 @@ use Rattle.sg_multi.proofs.sg_sim.sg_play.Fronts.{up_to_end, up_to_front}
 use Rattle.sg_multi.proofs.sg_sim.sg_play.Waking.Shapes.{call_is_next}
 use Rattle.sg_multi.proofs.sg_sim.sg_play.sg_plain.sg_hist.Growing.{items_more}
 use Rattle.sg_multi.proofs.sg_sim.sg_play.sg_world.sg_world_laws.Ending.Calls.{test_same}
-use Rattle.sg_multi.specs.Members.{ChangesAt, setting_in, view_in}
-use Rattle.sg_multi.specs.declared.member.Member.{Member}
+use Rattle.sg_multi.specs.Members.{ChangesAt, Membered, setting_in, view_in}
 use Rattle.sg_multi.specs.sg_sim.sg_plain.Calls.{most_client, part_of}
 use Rattle.sg_multi.specs.sg_sim.sg_plain.Inside.Kept.{is_of_setup, is_setup_first}
 use Rattle.sg_multi.specs.sg_sim.sg_plain.Playing.Callers.{IsCaller}
@@ -69,8 +68,8 @@ at_most n m is = grind (arith, nat_tests)
 
 -- ---- a member
 
-module _ (members : List Member) (script : MultiScript) (given : List (List ℕ)) (order : List ℕ) (is : KeepsMulti members script given order) (some : 1 ≤ most_client script.clients)
-    (place : ℕ) (m : Member) (there : slice_get members place ≡ Some m) where
+module _ (members : List Membered) (script : MultiScript) (given : List (List ℕ)) (order : List ℕ) (is : KeepsMulti members script given order) (some : 1 ≤ most_client script.clients)
+    (place : ℕ) (m : Membered) (there : slice_get members place ≡ Some m) where
   abbrev w : WorldView
   w = view_in m
 
@@ -150,7 +149,7 @@ module _ (members : List Member) (script : MultiScript) (given : List (List ℕ)
 
 -- ---- all members
 
-module _ (members later : List Member) (script : MultiScript) (given : List (List ℕ)) (order : List ℕ) (place : ℕ) (m : Member) (now : WorldView) (changes : ChangesAt members place m now later)
+module _ (members later : List Membered) (script : MultiScript) (given : List (List ℕ)) (order : List ℕ) (place : ℕ) (m : Membered) (now : WorldView) (changes : ChangesAt members place m now later)
     (is : KeepsMulti members script given order) (some : 1 ≤ most_client script.clients) where
   -- a client takes its turn at one of them
   pub sets_up_turn : (gave : List (List ℕ)) → (is_multi_setting_up script gave ≡ true → is_multi_setting_up script given ≡ true) → (c : ℕ) → (is_multi_setting_up script given ≡ true → c ≡ 1)
@@ -160,7 +159,7 @@ module _ (members later : List Member) (script : MultiScript) (given : List (Lis
       by : ((q ≡ place) × (x ≡ changes.new)) ⊎ ((q ≢ place) × (slice_get members q ≡ Some x)) → IsSettingUpAt script gave (q + 1) (view_in x).run.boots
       by (inl its) =
           subst (λ n. IsSettingUpAt script gave (n + 1) (view_in x).run.boots) (sym its.0)
-          (subst (λ (y : Member). IsSettingUpAt script gave (place + 1) (view_in y).run.boots) (sym its.1)
+          (subst (λ (y : Membered). IsSettingUpAt script gave (place + 1) (view_in y).run.boots) (sym its.1)
           (subst (λ (v : WorldView). IsSettingUpAt script gave (place + 1) v.run.boots) (sym changes.view_is)
           (sets_up_noted members script given order is some place m changes.there gave was c turn now.run.boots notes (at place m changes.there))))
       by (inr other) = let a = at q x other.1 in record { front = a.front; all = λ on. a.all (was on) }
@@ -170,5 +169,5 @@ module _ (members later : List Member) (script : MultiScript) (given : List (Lis
   sets_up_still same = sets_up_turn given (λ on. on) 1 (λ on. refl) (inl (record { items = ap items_of same; places = ap (places_from []) same }))
 
 -- nothing was done yet
-pub sets_up_new : (members : List Member) (script : MultiScript) (given : List (List ℕ)) (n : ℕ) → ((q : ℕ) (x : Member) → slice_get members q ≡ Some x → view_in x ≡ new_world (replicate n no_seat)) → AreSettingUp members script given
+pub sets_up_new : (members : List Membered) (script : MultiScript) (given : List (List ℕ)) (n : ℕ) → ((q : ℕ) (x : Membered) → slice_get members q ≡ Some x → view_in x ≡ new_world (replicate n no_seat)) → AreSettingUp members script given
 sets_up_new members script given n new q x there = subst (λ (v : WorldView). IsSettingUpAt script given (q + 1) v.run.boots) (sym (new q x there)) (record { front = refl; all = λ on. refl })

@@ -18,9 +18,8 @@ use Rattle.sg_facts.proofs.Replaying.Found.{other_test, same_test}
 use Rattle.sg_multi.proofs.sg_sim.sg_play.Waking.Shapes.{call_is_next}
 use Rattle.sg_multi.proofs.sg_sim.sg_play.sg_plain.sg_clients.Lines.{length_map, same_or_other, seat_here, seat_there, seat_woken}
 use Rattle.sg_multi.proofs.sg_sim.sg_play.sg_world.sg_world_laws.Ending.Shapes.{seat_after, woken}
-use Rattle.sg_multi.specs.Members.{ChangesAt, kind_in, setting_by, setting_in, view_in, world_in}
-use Rattle.sg_multi.specs.sg_load.declared.kind.ServiceKind.{ServiceKind}
-use Rattle.sg_multi.specs.declared.member.Member.{Member}
+use Rattle.sg_multi.specs.Members.{ChangesAt, Membered, setting_by, setting_in, view_in}
+use Rattle.sg_multi.specs.Serving.{Serving}
 use Rattle.sg_multi.specs.sg_sim.sg_plain.Calls.{ascending_from, most_client, resolved_by}
 use Rattle.sg_multi.specs.sg_sim.sg_plain.Inside.Turns.{after_call, after_guard, handed_over, served}
 use Rattle.sg_multi.specs.sg_sim.sg_plain.Plain.{PlainPhase, Player, Stage, System, Workload, appended, at_phase, blocked, gone_on, holding, player_at, player_of, ready, replied, through, turned, woken_phase}
@@ -114,12 +113,12 @@ is_blocked Receipted is = absurd (cc is)
 
 -- ---- the interface of a member
 
-pub its_interface : (k : ServiceKind) (t : Compiled) → (setting_by k t).iface ≡ t.iface
+pub its_interface : (k : Serving) (t : Compiled) → (setting_by k t).iface ≡ t.iface
 its_interface k t = refl
 
 -- ---- what is played
 
-module _ (members : List Member) (script : MultiScript) (given : List (List ℕ)) (order : List ℕ) (is : KeepsMulti members script given order) where
+module _ (members : List Membered) (script : MultiScript) (given : List (List ℕ)) (order : List ℕ) (is : KeepsMulti members script given order) where
   abbrev sys : System MultiEntry MemberCall
   sys = several_services (map stubs_in members) script
 
@@ -129,17 +128,17 @@ module _ (members : List Member) (script : MultiScript) (given : List (List ℕ)
   abbrev n : ℕ
   n = most_client script.clients
 
-  stubs_there : (q : ℕ) (x : Member) → slice_get members q ≡ Some x → member_at (map stubs_in members) (q + 1) ≡ Some (stubs_in x)
+  stubs_there : (q : ℕ) (x : Membered) → slice_get members q ≡ Some x → member_at (map stubs_in members) (q + 1) ≡ Some (stubs_in x)
   stubs_there q x there = ap (slice_get (map stubs_in members)) (let same : q + 1 - 1 ≡ q = omega arith in same) ∙ mapped_at stubs_in members q x there
 
-  entries_there : (q : ℕ) (x : Member) → slice_get members q ≡ Some x → entries_at (q + 1) is.merged ≡ (view_in x).history
-  entries_there q x there = is.merges.each q (view_in x).history (mapped_at (λ (y : Member). (view_in y).history) members q x there)
+  entries_there : (q : ℕ) (x : Membered) → slice_get members q ≡ Some x → entries_at (q + 1) is.merged ≡ (view_in x).history
+  entries_there q x there = is.merges.each q (view_in x).history (mapped_at (λ (y : Membered). (view_in y).history) members q x there)
 
-  seat_there_is : (q : ℕ) (x : Member) (d : ℕ) → slice_get members q ≡ Some x → seat_at members q d ≡ seat_of (view_in x) d
+  seat_there_is : (q : ℕ) (x : Membered) (d : ℕ) → slice_get members q ≡ Some x → seat_at members q d ≡ seat_of (view_in x) d
   seat_there_is q x d there = ap (λ o. option_map_or (λ m. seat_of (view_in m) d) o no_seat) there
 
   -- the call that a client has under way is its next there
-  pub next_call_is : (d : ℕ) → 1 ≤ d → d ≤ n → (written : MultiCall) → next_of script given d ≡ Some written → (q : ℕ) → q + 1 ≡ written.member → (x : Member) → slice_get members q ≡ Some x
+  pub next_call_is : (d : ℕ) → 1 ≤ d → d ≤ n → (written : MultiCall) → next_of script given d ≡ Some written → (q : ℕ) → q + 1 ≡ written.member → (x : Membered) → slice_get members q ≡ Some x
       → is_offered (seat_of (view_in x) d).phase ≡ true → sys.next is.merged d (length (given_in given d)) ≡ Some (record { member = q + 1; call = (seat_of (view_in x) d).call })
   next_call_is d first last written next q number x there offers =
       ap (λ o. option_map_or (λ (c : MultiCall). option_map (made_of is.merged d c) (member_at (map stubs_in members) c.member)) o None) next
@@ -169,24 +168,24 @@ module _ (members : List Member) (script : MultiScript) (given : List (List ℕ)
           let seq : (seat_of (view_in x) d).call.seq ≡ length (calls_of (entries_at (q + 1) is.merged) d) + 1
           = call_is_next (setting_in x).iface.facts keeps.script (view_in x).history d (seat_of (view_in x) d) own offers ∙ ap (λ k. k + 1) own.count
           ∙ ap (λ h. length (calls_of h d) + 1) (sym (entries_there q x there)) in
-          let iface_both : Some (world_in x).tables.iface ≡ Some o.its.iface
-          = sym (mapped_at (λ (y : Member). (world_in y).tables.iface) members q x there) ∙ ap (slice_get (interfaces_of members)) (let same : q ≡ q + 1 - 1 = omega arith in same) ∙ o.its.there in
-          let iface : (setting_in x).iface ≡ o.its.iface = its_interface (kind_in x) (world_in x).tables ∙ cc iface_both in
+          let iface_both : Some x.world.tables.iface ≡ Some o.its.iface
+          = sym (mapped_at (λ (y : Membered). y.world.tables.iface) members q x there) ∙ ap (slice_get (interfaces_of members)) (let same : q ≡ q + 1 - 1 = omega arith in same) ∙ o.its.there in
+          let iface : (setting_in x).iface ≡ o.its.iface = its_interface x.service x.world.tables ∙ cc iface_both in
           ap (λ (i : Declared). resolved_by i.facts (entries_in is.merged) d (length (calls_of (entries_at (q + 1) is.merged) d) + 1) written.call) iface
           ∙ ap (λ k. resolved_by o.its.iface.facts (entries_in is.merged) d k written.call) (sym seq)
           ∙ ap (λ (c : MultiCall). resolved_by o.its.iface.facts (entries_in is.merged) d (seat_of (view_in x) d).call.seq c.call) its
           ∙ sym o.its.is
 
   -- a client's next call is of one of the members
-  next_there : (d : ℕ) (written : MultiCall) → next_of script given d ≡ Some written → (x : Member) × (slice_get members (written.member - 1) ≡ Some x) × (written.member - 1 + 1 ≡ written.member)
+  next_there : (d : ℕ) (written : MultiCall) → next_of script given d ≡ Some written → (x : Membered) × (slice_get members (written.member - 1) ≡ Some x) × (written.member - 1 + 1 ≡ written.member)
   next_there d written next =
       let fits = fits_at (interfaces_of members) 1 (multi_calls script d) (length (given_in given d)) written (is.playable.fit d) next in
-      let found = at_mapped (λ (y : Member). (world_in y).tables.iface) members (written.member - 1) fits.iface fits.there in
+      let found = at_mapped (λ (y : Membered). y.world.tables.iface) members (written.member - 1) fits.iface fits.there in
       (found.0, found.1, omega (arith, fits.first))
 
   -- ---- a member changes
 
-  module _ (later : List Member) (place : ℕ) (m : Member) (now : WorldView) (changes : ChangesAt members place m now later) where
+  module _ (later : List Membered) (place : ℕ) (m : Membered) (now : WorldView) (changes : ChangesAt members place m now later) where
     abbrev w : WorldView
     w = view_in m
 
@@ -232,7 +231,7 @@ module _ (members : List Member) (script : MultiScript) (given : List (List ℕ)
       woken_player d = record (player_now members script given d) { phase = woken_phase (wakes_then d (length (given_in given d))) (player_now members script given d).phase }
 
       -- who waits in a call of a member is woken where its seat is
-      wakes_is : (d : ℕ) → 1 ≤ d → d ≤ n → (written : MultiCall) → next_of script given d ≡ Some written → (q : ℕ) → q + 1 ≡ written.member → (x : Member) → slice_get members q ≡ Some x
+      wakes_is : (d : ℕ) → 1 ≤ d → d ≤ n → (written : MultiCall) → next_of script given d ≡ Some written → (q : ℕ) → q + 1 ≡ written.member → (x : Membered) → slice_get members q ≡ Some x
           → (seat_of (view_in x) d).phase ≡ Blocked
           → wakes_then d (length (given_in given d)) ≡ ((q + 1 == place + 1) && wake (seat_of (view_in x) d).call)
       wakes_is d first last written next q number x there waits =
@@ -266,7 +265,7 @@ module _ (members : List Member) (script : MultiScript) (given : List (List ℕ)
           b : Bool
           b = wakes_then d (length (given_in given d))
 
-          at : (q : ℕ) (x : Member) → slice_get members q ≡ Some x → (written : MultiCall) → next_of script given d ≡ Some written → q + 1 ≡ written.member → (q ≡ place) ⊎ (q ≢ place)
+          at : (q : ℕ) (x : Membered) → slice_get members q ≡ Some x → (written : MultiCall) → next_of script given d ≡ Some written → q + 1 ≡ written.member → (q ≡ place) ⊎ (q ≢ place)
               → phase_at (seat_at later q d) ≡ woken_phase b (phase_at (seat_at members q d))
           at q x there written next number (inl its) =
               let both : Some x ≡ Some m = sym there ∙ ap (slice_get members) its ∙ changes.there in
@@ -360,7 +359,7 @@ module _ (members : List Member) (script : MultiScript) (given : List (List ℕ)
         seat_then : IsSeatOf (interfaces_of members) script is.merged c (given_in given c) place s
         seat_then = caller.seats place m changes.there
 
-        rests : (q : ℕ) (x : Member) → q ≢ place → slice_get members q ≡ Some x → (is_offered (seat_of (view_in x) c).phase ≡ true → ⊥) × (is_receipted (seat_of (view_in x) c).phase ≡ true → ⊥)
+        rests : (q : ℕ) (x : Membered) → q ≢ place → slice_get members q ≡ Some x → (is_offered (seat_of (view_in x) c).phase ≡ true → ⊥) × (is_receipted (seat_of (view_in x) c).phase ≡ true → ⊥)
         rests q x other there = by under_way
           where
             by : (is_offered s.phase ≡ true) ⊎ (is_receipted s.phase ≡ true) → (is_offered (seat_of (view_in x) c).phase ≡ true → ⊥) × (is_receipted (seat_of (view_in x) c).phase ≡ true → ⊥)
@@ -370,7 +369,7 @@ module _ (members : List Member) (script : MultiScript) (given : List (List ℕ)
         free_now : (q : ℕ) → phase_at (seat_at later q c) ≡ ready
         free_now q = by (same_or_other q place)
           where
-            elsewhere : q ≢ place → (o : Option Member) → slice_get members q ≡ o → phase_at (seat_at members q c) ≡ ready
+            elsewhere : q ≢ place → (o : Option Membered) → slice_get members q ≡ o → phase_at (seat_at members q c) ≡ ready
             elsewhere other None there = ap (λ o. phase_at (option_map_or (λ x. seat_of (view_in x) c) o no_seat)) there
             elsewhere other (Some x) there =
                 let alone = rests q x other there in
@@ -496,7 +495,7 @@ module _ (members : List Member) (script : MultiScript) (given : List (List ℕ)
         pub merges : Merges (cond (nat_lt s.seq (seat_of now c).seq) (order ++ (place + 1) ∷ []) order) (map (λ x. (view_in x).history) later) merged
         pub leads : turn ≡ stage_then (with_handed given c (handed_by did)) merged
 
-      abbrev histories : List Member → List (List Entry)
+      abbrev histories : List Membered → List (List Entry)
       histories list = map (λ x. (view_in x).history) list
 
       merges_quiet : now.history ≡ w.history → (seat_of now c).seq ≡ s.seq → Merges (cond (nat_lt s.seq (seat_of now c).seq) (order ++ (place + 1) ∷ []) order) (histories later) is.merged
@@ -523,7 +522,7 @@ module _ (members : List Member) (script : MultiScript) (given : List (List ℕ)
           ∙ ap (slice_set (histories members) place) (ap (λ (v : WorldView). v.history) changes.view_is ∙ e.history) in
           subst (λ b. Merges (cond b (order ++ (place + 1) ∷ []) order) (histories later) (is.merged ++ entry_with reply ∷ [])) (sym (one_less s.seq (seat_of now c).seq seq))
           (subst (λ h. Merges (order ++ (place + 1) ∷ []) h (is.merged ++ entry_with reply ∷ [])) (sym grown)
-          (merges_push order (histories members) is.merged place w.history (record { call = s.call; reply = reply }) (mapped_at (λ (x : Member). (view_in x).history) members place m changes.there) is.merges))
+          (merges_push order (histories members) is.merged place w.history (record { call = s.call; reply = reply }) (mapped_at (λ (x : Membered). (view_in x).history) members place m changes.there) is.merges))
 
       entry_into : (did : Did) (p : Phase) (reply kept : Reply) → is_offered s.phase ≡ true → EntersAs z w c p reply kept now
           → turn ≡ stage_then (with_handed given c (handed_by did)) (is.merged ++ entry_with reply ∷ []) → TurnedInto did

@@ -6,6 +6,8 @@ pub mod Following
 pub mod Keeps
 pub mod Member
 pub mod Numbers
+pub mod Placed
 pub mod SettingUp
 pub mod Turns
 pub mod Whose
+pub mod Worlds

@@ -8,7 +8,9 @@ pub mod Playable
 pub mod Played
 pub mod Playing
 pub mod Report
+pub mod Serving
 pub mod SeveralServices
 pub use Rattle.sg_edge.specs as sg_edge
+pub use Rattle.sg_interpret.specs as sg_interpret
 pub use Rattle.sg_load.specs as sg_load
 pub use Rattle.sg_sim.specs as sg_sim

@@ -6,8 +6,7 @@ use Rattle.sg_facts.specs.Trace.{Run, run_of}
 use Rattle.sg_facts.specs.declared.trace.Tag.{Tag}
 use Rattle.sg_facts.specs.declared.trace.Tag.TheVariants.{Walk, Load, Client}
 use Rattle.sg_facts.specs.sg_base.Lists.{Each}
-use Rattle.sg_multi.specs.Members.{setting_by, setting_in, view_in}
-use Rattle.sg_multi.specs.declared.member.Member.{Member}
+use Rattle.sg_multi.specs.Members.{Membered, setting_by, setting_in, view_in}
 use Rattle.sg_multi.specs.sg_sim.Played.{IsOfWorld}
 use Rattle.sg_multi.specs.sg_sim.sg_plain.Plain.{IsPlay, first_stage, stage_from}
 use Rattle.sg_multi.specs.sg_sim.sg_plain.Promises.{AreWoken, IsSetupFirst, is_in_first_boot, up_to_last}
@@ -22,6 +21,7 @@ use Rattle.sg_multi.specs.sg_sim.sg_world_laws.Setting.{stubs_of}
 use Rattle.sg_multi.specs.Calls.{AreMultiCalls, setup_at}
 use Rattle.sg_multi.specs.Ends.{AreMultiEnds, ends_at}
 use Rattle.sg_multi.specs.Merged.{Merges, MultiEntry, number_over_all, own_in}
+use Rattle.sg_multi.specs.Serving.{serving}
 use Rattle.sg_multi.specs.SeveralServices.{multi_workload, several_services}
 use Rattle.sg_multi.specs.declared.ended.MultiEnd.{MultiEnd}
 use Rattle.sg_multi.specs.declared.play.MemberTables.{MemberTables}
@@ -34,11 +34,11 @@ pub record MultiCame : Type 0 where
   pub ends : List (ℕ × MultiEnd)
 
 -- by which the runs of members are judged
-abbrev pub stubs_in : Member → Stubs
+abbrev pub stubs_in : Membered → Stubs
 stubs_in m = stubs_of (setting_in m)
 
 abbrev pub stubs_by : MemberTables → Stubs
-stubs_by t = stubs_of (setting_by t.service t.tables)
+stubs_by t = stubs_of (setting_by (serving t.service) t.tables)
 
 -- the run of one member, with the setup's calls of it, as those of a script, and with its stops
 pub record IsMemberPlayed (s : Stubs) (own : Script) (stops : List ℕ) (ended : Ended) : Type 0 where
@@ -95,5 +95,5 @@ pub record IsMultiPlayed (members : List Stubs) (script : MultiScript) (came : M
       → (turns : ℕ) × (take n merged ≡ take n (stage_from (several_services members script) (multi_workload script) (first_stage (multi_workload script)) turns).history)
 
 -- these runs are what the worlds of the members have done, place by place
-abbrev pub AreOfMembers : List Member → List Ended → Type 0
-AreOfMembers members ended = (place : ℕ) (m : Member) (e : Ended) → slice_get members place ≡ Some m → slice_get ended place ≡ Some e → IsOfWorld (view_in m) e
+abbrev pub AreOfMembers : List Membered → List Ended → Type 0
+AreOfMembers members ended = (place : ℕ) (m : Membered) (e : Ended) → slice_get members place ≡ Some m → slice_get ended place ≡ Some e → IsOfWorld (view_in m) e

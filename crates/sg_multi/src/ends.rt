@@ -9,15 +9,15 @@ ghost use Rattle.sg_multi.specs.Inside.Turns.{KeepsRunning, end_by, end_of_clien
 
 use crate::ended::{MultiEnd, MultiEndList};
 use crate::running::Running;
-use crate::{End, EndList, call_with_setup, most_client};
+use crate::{Describes, End, EndList, call_with_setup, most_client};
 use sg_facts::{NoMemory, TryCopy};
 use sg_script::MultiScript;
 use std::alloc::Global;
 
 /// How the clients with a call end, where nobody can take a turn.
-pub(crate) fn ends_of(
+pub(crate) fn ends_of<N: Describes>(
     alloc: Global,
-    running: &Running,
+    running: &Running<N>,
     script: &MultiScript,
 ) -> Result<MultiEndList, NoMemory>
     requires keeps { KeepsRunning script.now running.now }
@@ -31,9 +31,9 @@ pub(crate) fn ends_of(
 }
 
 // Adds how a client ends, where it has a call.
-fn add_end(
+fn add_end<N: Describes>(
     alloc: Global,
-    running: &Running,
+    running: &Running<N>,
     script: &MultiScript,
     client: u8,
     ends: &mut MultiEndList,
@@ -66,9 +66,9 @@ fn has_calls(script: &MultiScript, client: u8) -> bool
 }
 
 // How a client ends.
-fn end_of(
+fn end_of<N: Describes>(
     alloc: Global,
-    running: &Running,
+    running: &Running<N>,
     script: &MultiScript,
     client: u8,
 ) -> Result<MultiEnd, NoMemory>

@@ -1,6 +1,8 @@
 //! A play of one script over several services, each with a world and stops of its own: a client has one call at a time over all of them.
 //!
-//! - `member`: the world of one service (`Member`), and its end (`discard_member`)
+//! - `served`: the service that a member is of (`Served`)
+//! - `world`: the world of one service, whichever it is (`ServiceWorld`)
+//! - `member`: the world of one of several services (`Member`)
 //! - `members`: all of them, in the order of their interfaces (`Members`)
 //! - `ended`: what a play came to (`MultiEnded`, `MultiEnd`)
 //! - `running`: the worlds of the members, and how far the clients have come (`Running`)
@@ -23,17 +25,22 @@ mod numbers;
 mod play;
 mod report;
 mod running;
+mod served;
 mod traced;
 mod whose;
+mod world;
 
 pub use ended::{EndedList, MemberList, MultiEnd, MultiEndList, MultiEnded};
-pub use member::{Member, discard_member};
+pub use member::Member;
 pub use members::Members;
 pub use play::{MemberTables, MultiPlay};
 pub use report::multi_text;
+pub use served::Served;
 pub use sg_edge::AtPoints;
+pub use sg_interpret::{DescribedImage, DescribedService, Describes, Description};
 pub use sg_load::ServiceKind;
 pub use sg_sim::{
     Did, End, EndList, Ended, Given, NextCall, Phase, ScriptCall, call_with_setup, desc_of,
-    most_client, resolve,
+    most_client,
 };
+pub use world::ServiceWorld;

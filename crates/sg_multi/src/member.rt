@@ -1,214 +1,257 @@
 // The world of one of several services.
-ghost use Rattle.std.specs.Prelude.{◌≡◌, ◌+◌, ◌≤◌, ◌<◌, ◌^◌, [], IfOk, OnErr, OnOk, length, true};
-ghost use Rattle.sg_edge.specs.Stops.{struck_of, up_to};
-ghost use Rattle.sg_facts.specs.Interface.{declares};
-ghost use Rattle.sg_facts.specs.Kinds.{AreWords, FitsKinds};
+ghost use Rattle.std.specs.Prelude.{◌≡◌, ◌≤◌, ◌<◌, [], IfOk};
+ghost use Rattle.sg_edge.specs.Stops.{struck_of};
 ghost use Rattle.sg_facts.specs.Limits.{last_client};
+ghost use Rattle.sg_interpret.specs.sg_described.Described.{described_of};
+ghost use Rattle.sg_interpret.specs.sg_described.Safe.{made_safe};
 ghost use Rattle.sg_load.specs.Services.{facts_by};
-ghost use Rattle.sg_multi.specs.Members.{IsNewMember, kind_in, setting_in, view_in, world_in};
-ghost use Rattle.sg_sim.specs.Played.{IsOfWorld};
-ghost use Rattle.sg_sim.specs.sg_play.Recovering.{RecoversSoFar};
-ghost use Rattle.sg_sim.specs.sg_play.sg_clients.Clients.{IsClient};
-ghost use Rattle.sg_sim.specs.sg_play.sg_hist.Recovered.{IsRecovered, struck_in};
-ghost use Rattle.sg_sim.specs.sg_clients.WorldView.{IsFree, happened, offered, seat_of, unanswered, with_leave};
-ghost use Rattle.sg_sim.specs.sg_world.Steps.{AnswersLast, HasStepped, LackedMemory};
-ghost use Rattle.sg_sim.specs.sg_world.Worlded.{setting_of};
-ghost use Rattle.sg_sim.specs.sg_world_laws.Setting.{stubs_of};
+ghost use Rattle.sg_multi.specs.Inside.Placed.{placed};
+ghost use Rattle.sg_multi.specs.Members.{IsNewMember};
+ghost use Rattle.sg_multi.specs.Serving.{IsPicked, answering_at, built_in, described, serving};
+ghost use Rattle.sg_multi.specs.sg_sim.sg_script.Scripts.{most_members};
 
+use crate::served::Served;
+use crate::world::{BeginsWorld, ServiceWorld, Through};
 use sg_edge::AtPoints;
-use sg_facts::{Args, Call, Interface, NoMemory, Service, Stops, Tables};
+use sg_facts::{Args, Call, NoMemory, Tables};
+use sg_interpret::{DescribedImage, DescribedService, Describes, Description};
 use sg_load::ServiceKind;
 use sg_load::kind::{
     EventService, LockService, MmService, RamfsService, SchedService, TimerService,
 };
-use sg_sim::{Did, EndList, Ended, Phase, World, discard, tell_world};
+use sg_sim::{Did, EndList, Ended, NextCall, Phase, ScriptCall, World};
 use std::alloc::Global;
+use std::marker::Model;
 
-/// The world of one of several services, which stops at points that are listed.
-#[derive(Debug, Drop)]
-pub enum Member {
+// The world of a service that is built in, or of the one of a description, at the place at which it was picked.
+#[derive(Drop)]
+#[derive_where(Debug)]
+pub(crate) enum AnyWorld<N: Describes> {
     Locks(World<LockService, AtPoints>),
     Events(World<EventService, AtPoints>),
     Pages(World<MmService, AtPoints>),
     Files(World<RamfsService, AtPoints>),
     Threads(World<SchedService, AtPoints>),
     Timers(World<TimerService, AtPoints>),
+    First(Through<World<DescribedService<N, 0>, AtPoints>>),
+    Second(Through<World<DescribedService<N, 1>, AtPoints>>),
+    Third(Through<World<DescribedService<N, 2>, AtPoints>>),
+    Fourth(Through<World<DescribedService<N, 3>, AtPoints>>),
+    Fifth(Through<World<DescribedService<N, 4>, AtPoints>>),
+    Sixth(Through<World<DescribedService<N, 5>, AtPoints>>),
+}
+
+/// The world of one of several services. Contracts see its service, and it as plain data.
+#[derive(Drop)]
+#[derive_where(Debug)]
+pub struct Member<N: Describes> {
+    world: AnyWorld<N>,
+}
+
+impl<N: Describes> Model for Member<N> {
+    ghost use Rattle.sg_multi.specs.Members.{Membered};
+    ghost use Rattle.sg_multi.specs.Inside.Worlds.{membered};
+
+    ghost Value = { Membered };
+
+    ghost view = { λ m. membered m.world };
 }
 
 // What is made of the world of a member, whichever its service is.
 macro_rules! at_world {
-    ($member:expr, $world:ident => $made:expr) => {
-        match $member {
-            Member::Locks($world) => $made,
-            Member::Events($world) => $made,
-            Member::Pages($world) => $made,
-            Member::Files($world) => $made,
-            Member::Threads($world) => $made,
-            Member::Timers($world) => $made,
+    ($any:expr, $world:ident => $made:expr) => {
+        match $any {
+            AnyWorld::Locks($world) => $made,
+            AnyWorld::Events($world) => $made,
+            AnyWorld::Pages($world) => $made,
+            AnyWorld::Files($world) => $made,
+            AnyWorld::Threads($world) => $made,
+            AnyWorld::Timers($world) => $made,
+            AnyWorld::First($world) => $made,
+            AnyWorld::Second($world) => $made,
+            AnyWorld::Third($world) => $made,
+            AnyWorld::Fourth($world) => $made,
+            AnyWorld::Fifth($world) => $made,
+            AnyWorld::Sixth($world) => $made,
         }
     };
 }
 
-impl Member {
-    /// A world of a service in which nothing was done, with clients from 1 to so many.
+impl<N: Describes> Member<N> {
+    /// A world of a service in which nothing was done, with clients from 1 to so many. A service of one's own stands at a place, from 0.
     pub fn new(
         alloc: Global,
-        service: ServiceKind,
+        place: usize,
+        service: Served,
         tables: Tables,
         clients: u8,
         stops: AtPoints,
-    ) -> Result<Member, NoMemory>
-        requires service { tables.iface.facts ≡ facts_by service }
+    ) -> Result<Member<N>, NoMemory>
+        requires there { place < most_members }
+        requires picked { IsPicked (N.descriptions place) service }
+        requires its { tables.iface.facts ≡ (answering_at service).facts }
         requires few { clients ≤ last_client }
         requires unasked { stops.asked ≡ 0 }
         requires unstruck { struck_of stops ≡ [] }
-        ensures { IfOk result (IsNewMember service tables stops.plan clients) }
+        ensures { IfOk result (IsNewMember (serving service) tables stops.plan clients) }
     {
-        Ok(match service {
-            ServiceKind::Locks => Member::Locks(World::new(alloc, (), tables, clients, stops)?),
-            ServiceKind::Events => Member::Events(World::new(alloc, (), tables, clients, stops)?),
-            ServiceKind::Pages => Member::Pages(World::new(alloc, (), tables, clients, stops)?),
-            ServiceKind::Files => Member::Files(World::new(alloc, (), tables, clients, stops)?),
-            ServiceKind::Threads => Member::Threads(World::new(alloc, (), tables, clients, stops)?),
-            ServiceKind::Timers => Member::Timers(World::new(alloc, (), tables, clients, stops)?),
-        })
+        match service {
+            Served::BuiltIn(kind) => Member::built_in(alloc, kind, tables, clients, stops),
+            Served::Own(description) => {
+                Member::own(alloc, place, description, tables, clients, stops)
+            }
+        }
     }
 
-    /// How far a client has come with its call of this service.
-    pub fn phase(&self, client: u8) -> Phase
-        requires client { IsClient (length (view_in self.now).seats) client }
-        ensures { result ≡ (seat_of (view_in self.now) client).phase }
+    // A world of a service that is built in.
+    fn built_in(
+        alloc: Global,
+        kind: ServiceKind,
+        tables: Tables,
+        clients: u8,
+        stops: AtPoints,
+    ) -> Result<Member<N>, NoMemory>
+        requires its { tables.iface.facts ≡ facts_by kind }
+        requires few { clients ≤ last_client }
+        requires unasked { stops.asked ≡ 0 }
+        requires unstruck { struck_of stops ≡ [] }
+        ensures { IfOk result (IsNewMember (built_in kind) tables stops.plan clients) }
     {
-        at_world!(self, world => world.phase(client))
+        let world = match kind {
+            ServiceKind::Locks => {
+                AnyWorld::Locks(World::new(alloc, (), tables, clients, stops)?)
+            }
+            ServiceKind::Events => {
+                AnyWorld::Events(World::new(alloc, (), tables, clients, stops)?)
+            }
+            ServiceKind::Pages => {
+                AnyWorld::Pages(World::new(alloc, (), tables, clients, stops)?)
+            }
+            ServiceKind::Files => {
+                AnyWorld::Files(World::new(alloc, (), tables, clients, stops)?)
+            }
+            ServiceKind::Threads => {
+                AnyWorld::Threads(World::new(alloc, (), tables, clients, stops)?)
+            }
+            ServiceKind::Timers => {
+                AnyWorld::Timers(World::new(alloc, (), tables, clients, stops)?)
+            }
+        };
+        Ok(Member { world })
     }
 
-    /// The call that a client offered last, lent.
-    pub fn call(&self, client: u8) -> &Call
-        requires client { IsClient (length (view_in self.now).seats) client }
-        ensures { result.now ≡ (seat_of (view_in self.now) client).call }
+    // A world of the service of a description, which was picked for a place.
+    fn own(
+        alloc: Global,
+        place: usize,
+        description: Description,
+        tables: Tables,
+        clients: u8,
+        stops: AtPoints,
+    ) -> Result<Member<N>, NoMemory>
+        requires there { place < most_members }
+        requires picked { described_of description ≡ made_safe (N.descriptions place) }
+        requires its { tables.iface.facts ≡ (described_of description).facts }
+        requires few { clients ≤ last_client }
+        requires unasked { stops.asked ≡ 0 }
+        requires unstruck { struck_of stops ≡ [] }
+        ensures { IfOk result (IsNewMember (described (described_of description)) tables stops.plan clients) }
     {
-        at_world!(self, world => world.call(client))
+        let world = match place {
+            0 => AnyWorld::First(begun(alloc, description, tables, clients, stops)?),
+            1 => AnyWorld::Second(begun(alloc, description, tables, clients, stops)?),
+            2 => AnyWorld::Third(begun(alloc, description, tables, clients, stops)?),
+            3 => AnyWorld::Fourth(begun(alloc, description, tables, clients, stops)?),
+            4 => AnyWorld::Fifth(begun(alloc, description, tables, clients, stops)?),
+            5 => AnyWorld::Sixth(begun(alloc, description, tables, clients, stops)?),
+            _ => unreachable!(),
+        };
+        Ok(Member { world })
+    }
+}
+
+// A world of the service of a description, which was picked for its place.
+fn begun<N: Describes, const PLACE: usize>(
+    alloc: Global,
+    description: Description,
+    tables: Tables,
+    clients: u8,
+    stops: AtPoints,
+) -> Result<Through<World<DescribedService<N, PLACE>, AtPoints>>, NoMemory>
+    requires picked { described_of description ≡ made_safe (N.descriptions PLACE) }
+    requires its { tables.iface.facts ≡ (described_of description).facts }
+    requires few { clients ≤ last_client }
+    requires unasked { stops.asked ≡ 0 }
+    requires unstruck { struck_of stops ≡ [] }
+    ensures { IfOk result (λ w. IsNewMember (described (described_of description)) tables stops.plan clients (placed (N.descriptions PLACE) w.world)) }
+{
+    let image = DescribedImage::new(description);
+    Through::begin(alloc, image, tables, clients, stops)
+}
+
+impl<N: Describes> ServiceWorld for Member<N> {
+    ghost use Rattle.std.specs.Prelude.{◌≡◌};
+    ghost use Rattle.sg_multi.specs.Members.{setting_in};
+
+    ghost seen = { λ m. m.world };
+
+    ghost setting = { setting_in };
+
+    ghost of_one = { λ old new. new.service ≡ old.service };
+
+    fn phase(&self, client: u8) -> Phase {
+        at_world!(&self.world, world => ServiceWorld::phase(world, client))
     }
 
-    /// The interface that the service is used by, lent.
-    pub fn interface(&self) -> &Interface
-        ensures { result.now ≡ (world_in self.now).tables.iface }
-    {
-        at_world!(self, world => world.interface())
+    fn call(&self, client: u8) -> &Call {
+        at_world!(&self.world, world => ServiceWorld::call(world, client))
     }
 
-    /// The number of a client's entries, which is that of its last; its next call has the next number.
-    pub fn seq(&self, client: u8) -> u32
-        requires client { IsClient (length (view_in self.now).seats) client }
-        ensures { result ≡ (seat_of (view_in self.now) client).seq }
-    {
-        at_world!(self, world => world.seq(client))
+    fn seq(&self, client: u8) -> u32 {
+        at_world!(&self.world, world => ServiceWorld::seq(world, client))
     }
 
-    /// The calls of this service that were done and what was done to it, copied, with these as its clients' ends.
-    pub fn ended(&self, alloc: Global, ends: EndList) -> Result<Ended, NoMemory>
-        ensures its { IfOk result (IsOfWorld (view_in self.now)) }
-        ensures ends { IfOk result (λ ended. ended.ends ≡ ends) }
-    {
-        at_world!(self, world => ended_of(alloc, world, ends))
+    fn next_call(
+        &self,
+        alloc: Global,
+        given: &[u64],
+        call: &ScriptCall,
+    ) -> Result<NextCall, NoMemory> {
+        at_world!(&self.world, world => world.next_call(alloc, given, call))
     }
 
-    /// The number of its steps that wanted memory, up to the greatest number.
-    pub fn refused(&self) -> u64
-        ensures { result ≡ (view_in self.now).refused }
-    {
-        at_world!(self, world => world.refused())
+    fn ended(&self, alloc: Global, ends: EndList) -> Result<Ended, NoMemory> {
+        at_world!(&self.world, world => world.ended(alloc, ends))
     }
 
-    /// What its world keeps, for the proof: nothing is done. It stopped at the points of its plan that were asked, and at no others; and
-    /// where no step wanted memory the run has recovered.
-    pub fn tell(&self)
-        ensures told { RecoversSoFar (setting_in self.now) (view_in self.now) }
-        ensures recovered { let w = view_in self.now in w.refused ≡ 0 → IsRecovered (stubs_of (setting_in self.now)) w.history w.run (unanswered w) }
-        ensures stopped { let run = (view_in self.now).run in struck_in run ≡ up_to run.points (world_in self.now).plan }
-    {
-        at_world!(self, world => tell(world))
+    fn refused(&self) -> u64 {
+        at_world!(&self.world, world => ServiceWorld::refused(world))
     }
 
-    /// A client offers a call of this service, under its next number there. After `NoMemory` only events are counted.
-    pub fn offer(
+    fn tell(&self) {
+        at_world!(&self.world, world => world.tell())
+    }
+
+    fn offer(
         &mut self,
         alloc: Global,
         client: u8,
         fun: u8,
         desc: u64,
         args: Args,
-    ) -> Result<(), NoMemory>
-        requires client { IsClient (length (view_in self.old).seats) client }
-        requires free { IsFree (seat_of (view_in self.old) client).phase }
-        requires numbered { (seat_of (view_in self.old) client).seq + 1 < 2 ^ 32 }
-        requires declared { declares (world_in self.old).tables.iface fun ≡ true }
-        requires fits { FitsKinds (world_in self.old).tables.iface.facts (record { client = client; seq = (seat_of (view_in self.old) client).seq + 1; fun = fun; desc = desc; args = args }) }
-        requires words { AreWords args }
-        ensures ok { OnOk result (view_in self.new ≡ happened (offered (view_in self.old) client
-            (record { client = client; seq = (seat_of (view_in self.old) client).seq + 1; fun = fun; desc = desc; args = args }))) }
-        ensures err { OnErr result (view_in self.new ≡ happened (view_in self.old)) }
-        ensures tables { (world_in self.new).tables ≡ (world_in self.old).tables }
-        ensures plan { (world_in self.new).plan ≡ (world_in self.old).plan }
-        ensures kind { kind_in self.new ≡ kind_in self.old }
-    {
-        at_world!(self, world => world.offer(alloc, client, fun, desc, args))
+    ) -> Result<(), NoMemory> {
+        at_world!(&mut self.world, world => ServiceWorld::offer(world, alloc, client, fun, desc, args))
     }
 
-    /// One step of a client, in this world alone.
-    pub fn step(&mut self, alloc: Global, client: u8) -> Result<Did, NoMemory>
-        requires client { IsClient (length (view_in self.old).seats) client }
-        ensures did { IfOk result (λ did. HasStepped (setting_in self.old) (view_in self.old) client did (view_in self.new)) }
-        ensures err { OnErr result (LackedMemory (setting_in self.old) (view_in self.old) client (view_in self.new)) }
-        ensures answers { IfOk result (AnswersLast (view_in self.new) client) }
-        ensures clients { length (view_in self.new).seats ≡ length (view_in self.old).seats }
-        ensures tables { (world_in self.new).tables ≡ (world_in self.old).tables }
-        ensures plan { (world_in self.new).plan ≡ (world_in self.old).plan }
-        ensures kind { kind_in self.new ≡ kind_in self.old }
-    {
-        at_world!(self, world => world.step(alloc, client))
+    fn step(&mut self, alloc: Global, client: u8) -> Result<Did, NoMemory> {
+        at_world!(&mut self.world, world => ServiceWorld::step(world, alloc, client))
     }
 
-    /// A client that has no call of this service under way leaves. It takes no memory.
-    pub fn leave(&mut self, client: u8)
-        requires client { IsClient (length (view_in self.old).seats) client }
-        requires free { IsFree (seat_of (view_in self.old) client).phase }
-        ensures view { view_in self.new ≡ happened (with_leave (view_in self.old) client) }
-        ensures tables { (world_in self.new).tables ≡ (world_in self.old).tables }
-        ensures plan { (world_in self.new).plan ≡ (world_in self.old).plan }
-        ensures kind { kind_in self.new ≡ kind_in self.old }
-    {
-        at_world!(self, world => world.leave(client))
+    fn leave(&mut self, client: u8) {
+        at_world!(&mut self.world, world => ServiceWorld::leave(world, client))
     }
-}
 
-// What a world came to, copied, with these as its clients' ends.
-fn ended_of<S: Service, T: Stops>(
-    alloc: Global,
-    world: &World<S, T>,
-    ends: EndList,
-) -> Result<Ended, NoMemory>
-    ensures its { IfOk result (IsOfWorld world.now.view) }
-    ensures ends { IfOk result (λ ended. ended.ends ≡ ends) }
-{
-    Ok(Ended {
-        history: world.history().copied(alloc)?,
-        trace: world.trace().copied(alloc)?,
-        ends,
-    })
-}
-
-// What a world keeps, for the proof: nothing is done, and it takes what these calls promise.
-fn tell<S: Service, T: Stops>(world: &World<S, T>)
-    ensures told { RecoversSoFar (setting_of S.ask S.sound S.parts world.now.tables) world.now.view }
-    ensures recovered { let z = setting_of S.ask S.sound S.parts world.now.tables in let w = world.now.view in w.refused ≡ 0 → IsRecovered (stubs_of z) w.history w.run (unanswered w) }
-    ensures stopped { let run = world.now.view.run in T.test run.points (struck_in run) world.now.plan }
-{
-    tell_world(world);
-    let _ = world.trace();
-}
-
-/// Ends the world of a member where it stands.
-pub fn discard_member(member: Member) {
-    at_world!(member, world => discard(world))
+    fn end(self) {
+        at_world!(self.world, world => world.end())
+    }
 }

@@ -2,13 +2,12 @@
 ghost use Rattle.std.specs.Prelude.{◌≡◌, ◌++◌, ◌∷◌, ◌≤◌, [], IfOk, OnOk, length, map};
 ghost use Rattle.sg_facts.specs.sg_base.Lists.{Each};
 ghost use Rattle.sg_facts.specs.Limits.{last_client};
-ghost use Rattle.sg_multi.specs.Members.{IsNewMember};
-ghost use Rattle.sg_multi.specs.declared.member.Member.{Member as One};
+ghost use Rattle.sg_multi.specs.Members.{IsNewMember, Membered};
+ghost use Rattle.sg_multi.specs.Serving.{IsOfServed, IsPicked, serving};
 ghost use Rattle.sg_multi.specs.sg_edge.Stops.{AscendsAbove};
-ghost use Rattle.sg_multi.specs.sg_load.Services.{facts_by};
 ghost use Rattle.sg_multi.specs.sg_sim.sg_plain.Calls.{most_client};
 ghost use Rattle.sg_multi.specs.sg_sim.sg_script.Scripts.{most_members};
-ghost use Rattle.sg_multi.specs.Beginning.{AreNewMembers};
+ghost use Rattle.sg_multi.specs.Beginning.{AreNewMembers, ArePicked};
 ghost use Rattle.sg_multi.specs.Inside.Ended.{AreEndedMembers, IsEndedMember};
 ghost use Rattle.sg_multi.specs.Inside.Turns.{IsOverNow, KeepsRunning, SameMembers};
 ghost use Rattle.sg_multi.specs.Playable.{IsMultiPlayable};
@@ -18,7 +17,8 @@ use crate::ended::{EndedList, MemberList, MultiEnd, MultiEnded};
 use crate::ends::{ends_at, ends_of};
 use crate::running::Running;
 use crate::whose::next_turn;
-use crate::{AtPoints, Ended, Given, Member, Members, ServiceKind, most_client};
+use crate::world::ServiceWorld;
+use crate::{AtPoints, Describes, Ended, Given, Member, Members, Served, most_client};
 use sg_facts::{NoMemory, PointList, RoomyList, Tables, TryCopy, WalkList};
 use sg_script::MultiScript;
 use std::alloc::Global;
@@ -31,19 +31,20 @@ const MOST_TURNS: u64 = u64::MAX;
 /// The tables of a member, and the service that they are for.
 #[derive(Debug, Drop)]
 pub struct MemberTables {
-    pub service: ServiceKind,
+    pub service: Served,
     pub tables: Tables,
 }
 
 /// A play of a script over several services: its clients make their calls, turn by turn, each call on its member, whose service may stop.
 /// A client has one call at a time over all members. Contracts see it as plain data.
-#[derive(Debug, Drop)]
-pub struct MultiPlay {
-    running: Running,
+#[derive(Drop)]
+#[derive_where(Debug)]
+pub struct MultiPlay<N: Describes> {
+    running: Running<N>,
     script: MultiScript,
 }
 
-impl Model for MultiPlay {
+impl<N: Describes> Model for MultiPlay<N> {
     ghost use Rattle.sg_multi.specs.Inside.Turns.{KeepsRunning};
     ghost use Rattle.sg_multi.specs.Playing.{MultiPlaying};
 
@@ -54,14 +55,15 @@ impl Model for MultiPlay {
     ghost invariant = { λ p. KeepsRunning p.script p.running };
 }
 
-impl MultiPlay {
+impl<N: Describes> MultiPlay<N> {
     /// The play of a script for members with these tables, which are copied. Nothing was done in it.
     pub fn new(
         alloc: Global,
         members: &[MemberTables],
         script: MultiScript,
-    ) -> Result<MultiPlay, NoMemory>
-        requires services { Each (λ t. t.tables.iface.facts ≡ facts_by t.service) members.now }
+    ) -> Result<MultiPlay<N>, NoMemory>
+        requires picked { ArePicked N.descriptions members.now }
+        requires services { Each (λ t. IsOfServed t.tables.iface t.service) members.now }
         requires playable { IsMultiPlayable (map (λ t. t.tables.iface) members.now) script }
         ensures members { IfOk result (λ p. map stubs_in p.members ≡ map stubs_by members.now) }
         ensures new { IfOk result (λ p. AreNewMembers members.now script.stops (most_client script.clients) p.members) }
@@ -105,13 +107,14 @@ impl MultiPlay {
 }
 
 // The worlds of members in which nothing was done, with clients from 1 to so many, which stop where the script says.
-fn members_of(
+fn members_of<N: Describes>(
     alloc: Global,
     tables: &[MemberTables],
     script: &MultiScript,
     clients: u8,
-) -> Result<Members, NoMemory>
-    requires services { Each (λ t. t.tables.iface.facts ≡ facts_by t.service) tables.now }
+) -> Result<Members<N>, NoMemory>
+    requires picked { ArePicked N.descriptions tables.now }
+    requires services { Each (λ t. IsOfServed t.tables.iface t.service) tables.now }
     requires playable { IsMultiPlayable (map (λ t. t.tables.iface) tables.now) script.now }
     requires clients { clients ≡ most_client script.now.clients }
     ensures { IfOk result (AreNewMembers tables.now script.now.stops clients) }
@@ -127,43 +130,54 @@ fn members_of(
 }
 
 // Adds all of them to none.
-fn add_members(
+fn add_members<N: Describes>(
     alloc: Global,
-    members: &mut Members,
+    members: &mut Members<N>,
     tables: &[MemberTables],
     script: &MultiScript,
     clients: u8,
 ) -> Result<(), NoMemory>
     requires none { members.old ≡ [] }
-    requires services { Each (λ t. t.tables.iface.facts ≡ facts_by t.service) tables.now }
+    requires picked { ArePicked N.descriptions tables.now }
+    requires services { Each (λ t. IsOfServed t.tables.iface t.service) tables.now }
     requires playable { IsMultiPlayable (map (λ t. t.tables.iface) tables.now) script.now }
     requires clients { clients ≡ most_client script.now.clients }
     ensures { OnOk result (AreNewMembers tables.now script.now.stops clients members.new) }
 {
     'tables: for place in 0..tables.len() {
         let stops = script.stops.as_slice();
-        add_member(alloc, members, &tables[place], &stops[place], clients)?;
+        add_member(
+            alloc,
+            members,
+            place,
+            &tables[place],
+            &stops[place],
+            clients,
+        )?;
     }
     Ok(())
 }
 
-// Adds the world of one, which stops at these points.
-fn add_member(
+// Adds the world of one, at its place, which stops at these points.
+fn add_member<N: Describes>(
     alloc: Global,
-    members: &mut Members,
+    members: &mut Members<N>,
+    place: usize,
     its: &MemberTables,
     stops: &PointList,
     clients: u8,
 ) -> Result<(), NoMemory>
-    requires service { its.now.tables.iface.facts ≡ facts_by its.now.service }
+    requires there { place < most_members }
+    requires picked { IsPicked (N.descriptions place) its.now.service }
+    requires service { IsOfServed its.now.tables.iface its.now.service }
     requires few { clients ≤ last_client }
     requires ascend { AscendsAbove 0 stops.now }
-    ensures { OnOk result ((m : One) × (members.new ≡ members.old ++ m ∷ []) × IsNewMember its.now.service its.now.tables stops.now clients m) }
+    ensures { OnOk result ((m : Membered) × (members.new ≡ members.old ++ m ∷ []) × IsNewMember (serving its.now.service) its.now.tables stops.now clients m) }
 {
     let tables = copied(alloc, &its.tables)?;
     let points = stops.copy(alloc)?;
     let stops = AtPoints::new(points);
-    members.add(alloc, its.service, tables, clients, stops)
+    members.add(alloc, place, its.service, tables, clients, stops)
 }
 
 // Equal tables.
@@ -176,7 +190,11 @@ fn copied(alloc: Global, tables: &Tables) -> Result<Tables, NoMemory>
 }
 
 // Plays turn by turn until no client can take one.
-fn come_to_end(alloc: Global, running: &mut Running, script: &MultiScript) -> Result<(), NoMemory>
+fn come_to_end<N: Describes>(
+    alloc: Global,
+    running: &mut Running<N>,
+    script: &MultiScript,
+) -> Result<(), NoMemory>
     requires keeps { KeepsRunning script.now running.old }
     ensures keeps { KeepsRunning script.now running.new }
     ensures same { SameMembers running.old.members running.new.members }
@@ -194,7 +212,11 @@ fn come_to_end(alloc: Global, running: &mut Running, script: &MultiScript) -> Re
 }
 
 // What a play came to, where nobody can take a turn.
-fn ended(alloc: Global, running: &Running, script: &MultiScript) -> Result<MultiEnded, NoMemory>
+fn ended<N: Describes>(
+    alloc: Global,
+    running: &Running<N>,
+    script: &MultiScript,
+) -> Result<MultiEnded, NoMemory>
     requires keeps { KeepsRunning script.now running.now }
     requires over { IsOverNow script.now running.now }
     ensures played { IfOk result (IsMultiPlayed (map stubs_in running.now.members) script.now) }
@@ -207,9 +229,9 @@ fn ended(alloc: Global, running: &Running, script: &MultiScript) -> Result<Multi
 }
 
 // What the runs of members came to, whose clients ended so.
-fn ended_members(
+fn ended_members<N: Describes>(
     alloc: Global,
-    members: &[Member],
+    members: &[Member<N>],
     ends: &[(u8, MultiEnd)],
 ) -> Result<EndedList, NoMemory>
     requires { length members.now ≤ most_members }
@@ -226,9 +248,9 @@ fn ended_members(
 
 // What the run of the member of a number came to, from 1, where the clients ended so. `NoMemory` also where a step of its world wanted
 // memory.
-fn ended_member(
+fn ended_member<N: Describes>(
     alloc: Global,
-    member: &Member,
+    member: &Member<N>,
     number: u8,
     ends: &[(u8, MultiEnd)],
 ) -> Result<Ended, NoMemory>

@@ -1,8 +1,7 @@
 // The worlds of the members of a play, and how far its clients have come with their calls.
 ghost use Rattle.std.specs.Prelude.{ℕ, ◌≡◌, ◌++◌, ◌∷◌, ◌≤◌, ◌<◌, ◌-◌, [], if◌then◌else◌, Some, OnErr, OnOk, false, true, length, option_map, slice_get};
 ghost use Rattle.std.specs.Option.{option_copied};
-ghost use Rattle.sg_multi.specs.Members.{setting_in, view_in};
-ghost use Rattle.sg_multi.specs.declared.member.Member.{Member as One};
+ghost use Rattle.sg_multi.specs.Members.{Membered, setting_in, view_in};
 ghost use Rattle.sg_multi.specs.sg_sim.Inside.Givens.{lists_of, room_for};
 ghost use Rattle.sg_multi.specs.sg_sim.sg_plain.Calls.{most_client};
 ghost use Rattle.sg_multi.specs.sg_sim.sg_plain.Playing.Given.{with_handed};
@@ -15,15 +14,17 @@ ghost use Rattle.sg_multi.specs.Inside.Following.{players_now};
 ghost use Rattle.sg_multi.specs.Inside.Turns.{KeepsRunning, SameMembers, TakesNextTurn, is_at_setup, may_go_now};
 ghost use Rattle.sg_multi.specs.Inside.Whose.{next_of, seat_at};
 
-use crate::{Did, Given, Member, Members, NextCall, Phase, call_with_setup, desc_of, resolve};
+use crate::world::ServiceWorld;
+use crate::{Describes, Did, Given, Member, Members, NextCall, Phase, call_with_setup, desc_of};
 use sg_facts::{Call, FIRST_CLIENT, NoMemory, RoomyList};
 use sg_script::{MultiCall, MultiScript};
 use std::alloc::Global;
 
 /// The worlds of the members, what the calls of the clients were given, and the member of each entry, from 1, in the order of the commits.
-#[derive(Debug, Drop)]
-pub(crate) struct Running {
-    pub(crate) members: Members,
+#[derive(Drop)]
+#[derive_where(Debug)]
+pub(crate) struct Running<N: Describes> {
+    pub(crate) members: Members<N>,
     pub(crate) given: Given,
     pub(crate) order: RoomyList<u8>,
     // How many turns of the schedule were taken or passed over.
@@ -32,7 +33,7 @@ pub(crate) struct Running {
     pub(crate) last: u8,
 }
 
-impl Running {
+impl<N: Describes> Running<N> {
     /// The call that a client has under way or makes next, over all members; None where it has no more.
     pub(crate) fn next_call<'a>(&self, script: &'a MultiScript, client: u8) -> Option<&'a MultiCall>
         requires first { 1 ≤ client }
@@ -118,8 +119,11 @@ impl Running {
         if !is_free(self.phase(client, call.member)) {
             return Ok(());
         }
-        let used = member_of(&self.members, call.member).interface();
-        let next = resolve(alloc, used, self.given.of(client), &call.call)?;
+        let next = member_of(&self.members, call.member).next_call(
+            alloc,
+            self.given.of(client),
+            &call.call,
+        )?;
         let NextCall { fun, desc, args } = next;
         let place = usize::from(call.member) - 1;
         self.members.offer(alloc, place, client, fun, desc, args)
@@ -200,7 +204,7 @@ impl Running {
     pub(crate) fn call(&self, client: u8, member: u8) -> &Call
         requires some { 1 ≤ member }
         requires there { member ≤ length self.now.members }
-        requires client { (m : One) → slice_get self.now.members (member - 1) ≡ Some m → IsClient (length (view_in m).seats) client }
+        requires client { (m : Membered) → slice_get self.now.members (member - 1) ≡ Some m → IsClient (length (view_in m).seats) client }
         ensures { result.now ≡ (seat_at self.now.members (member - 1) client).call }
     {
         member_of(&self.members, member).call(client)
@@ -210,7 +214,7 @@ impl Running {
     fn phase(&self, client: u8, member: u8) -> Phase
         requires some { 1 ≤ member }
         requires there { member ≤ length self.now.members }
-        requires client { (m : One) → slice_get self.now.members (member - 1) ≡ Some m → IsClient (length (view_in m).seats) client }
+        requires client { (m : Membered) → slice_get self.now.members (member - 1) ≡ Some m → IsClient (length (view_in m).seats) client }
         ensures { result ≡ (seat_at self.now.members (member - 1) client).phase }
     {
         member_of(&self.members, member).phase(client)
@@ -218,7 +222,7 @@ impl Running {
 }
 
 // The member of a number, from 1, lent.
-fn member_of(members: &Members, number: u8) -> &Member
+fn member_of<N: Describes>(members: &Members<N>, number: u8) -> &Member<N>
     requires some { 1 ≤ number }
     requires there { number ≤ length members.now }
     ensures { slice_get members.now (number - 1) ≡ Some result.now }
@@ -227,7 +231,7 @@ fn member_of(members: &Members, number: u8) -> &Member
 }
 
 // The number of a client's entries in the world of a member, and what that world keeps, for the proof.
-fn entries_of(member: &Member, client: u8) -> u32
+fn entries_of<N: Describes>(member: &Member<N>, client: u8) -> u32
     requires client { IsClient (length (view_in member.now).seats) client }
     ensures seq { result ≡ (seat_of (view_in member.now) client).seq }
     ensures told { RecoversSoFar (setting_in member.now) (view_in member.now) }

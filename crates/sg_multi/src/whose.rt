@@ -3,8 +3,8 @@ ghost use Rattle.std.specs.Prelude.{◌≡◌, ◌≤◌, ◌<◌, IfSome, None,
 ghost use Rattle.sg_multi.specs.sg_sim.sg_plain.Calls.{most_client};
 ghost use Rattle.sg_multi.specs.Inside.Turns.{IsFirstAfter, IsOverNow, KeepsRunning, NobodyGoesNow, NoneAfter, NoneScheduled, TakesNextTurn, is_at_setup};
 
-use crate::most_client;
 use crate::running::Running;
+use crate::{Describes, most_client};
 use sg_facts::FIRST_CLIENT;
 use sg_script::MultiScript;
 
@@ -17,7 +17,10 @@ pub(crate) struct NextTurn {
 
 /// Whose turn it is: client 1's until the setup is done, then who the schedule says and can, then who is next and can; None only where
 /// nobody can.
-pub(crate) fn next_turn(running: &Running, script: &MultiScript) -> Option<NextTurn>
+pub(crate) fn next_turn<N: Describes>(
+    running: &Running<N>,
+    script: &MultiScript,
+) -> Option<NextTurn>
     requires keeps { KeepsRunning script.now running.now }
     ensures first { IfSome result (λ turn. 1 ≤ turn.client) }
     ensures last { IfSome result (λ turn. turn.client ≤ most_client script.now.clients) }
@@ -38,7 +41,7 @@ pub(crate) fn next_turn(running: &Running, script: &MultiScript) -> Option<NextT
 }
 
 // The next turn of the schedule whose client can take it.
-fn next_scheduled(running: &Running, script: &MultiScript) -> Option<NextTurn>
+fn next_scheduled<N: Describes>(running: &Running<N>, script: &MultiScript) -> Option<NextTurn>
     requires settled { is_at_setup script.now running.now ≡ false }
     requires keeps { KeepsRunning script.now running.now }
     ensures first { IfSome result (λ turn. 1 ≤ turn.client) }
@@ -62,7 +65,7 @@ fn next_scheduled(running: &Running, script: &MultiScript) -> Option<NextTurn>
 
 // The turn of the next client that can take one: in ascending numbers after the client of the last turn, and then from 1 on. The schedule
 // is over then.
-fn next_in_circle(running: &Running, script: &MultiScript) -> Option<NextTurn>
+fn next_in_circle<N: Describes>(running: &Running<N>, script: &MultiScript) -> Option<NextTurn>
     requires settled { is_at_setup script.now running.now ≡ false }
     requires none { NoneScheduled script.now running.now (length script.now.schedule) }
     requires keeps { KeepsRunning script.now running.now }
@@ -83,7 +86,12 @@ fn next_in_circle(running: &Running, script: &MultiScript) -> Option<NextTurn>
 }
 
 // The first client after one, and up to another, that can take a turn.
-fn next_after(running: &Running, script: &MultiScript, behind: u8, last: u8) -> Option<u8>
+fn next_after<N: Describes>(
+    running: &Running<N>,
+    script: &MultiScript,
+    behind: u8,
+    last: u8,
+) -> Option<u8>
     requires keeps { KeepsRunning script.now running.now }
     requires last { last ≤ most_client script.now.clients }
     ensures found { IfSome result (IsFirstAfter script.now running.now behind last) }

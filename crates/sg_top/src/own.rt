@@ -36,12 +36,12 @@ pub fn at_own<J: Job>(description: Description, job: J) -> J::Output
 
 // Does a job with the service whose description was picked.
 fn at_picked<J: Job, N: Describes>(description: Description, job: J) -> J::Output
-    requires picked { described_of description ≡ made_safe N.description }
-    requires waits { no_query_waits (made_safe N.description).facts ≡ true }
-    requires asks { J.asks job (described_answering (made_safe N.description)) }
-    ensures { J.gives job (described_answering (made_safe N.description)) result }
+    requires picked { described_of description ≡ made_safe (N.descriptions 0) }
+    requires waits { no_query_waits (made_safe (N.descriptions 0)).facts ≡ true }
+    requires asks { J.asks job (described_answering (made_safe (N.descriptions 0))) }
+    ensures { J.gives job (described_answering (made_safe (N.descriptions 0))) result }
 {
-    job.run::<DescribedService<N>>(DescribedImage::new(description))
+    job.run::<DescribedService<N, 0>>(DescribedImage::new(description))
 }
 
 // ---- with a thread for each client
@@ -74,14 +74,14 @@ fn share_picked<R: Threads + Wait + Sync, G: Gate, N: Describes + Send + Sync>(
     script: Script,
     gate: &G,
 ) -> Result<Played, NoMemory>
-    requires picked { described_of description ≡ made_safe N.description }
-    requires service { accepted.now.facts ≡ (made_safe N.description).facts }
-    requires waits { no_query_waits (made_safe N.description).facts ≡ true }
+    requires picked { described_of description ≡ made_safe (N.descriptions 0) }
+    requires service { accepted.now.facts ≡ (made_safe (N.descriptions 0)).facts }
+    requires waits { no_query_waits (made_safe (N.descriptions 0)).facts ≡ true }
     requires playable { IsPlayable accepted.now script }
     requires stops { AscendsAbove 0 script.stops }
-    ensures { IfOk result (IsRunOf accepted.now (described_answering (made_safe N.description)) script) }
+    ensures { IfOk result (IsRunOf accepted.now (described_answering (made_safe (N.descriptions 0))) script) }
 {
-    share_given::<R, DescribedService<N>, G, Accepted>(
+    share_given::<R, DescribedService<N, 0>, G, Accepted>(
         rt,
         alloc,
         DescribedImage::new(description),
@@ -143,14 +143,14 @@ fn explore_picked<R: Threads + Sync, P: Progress, N: Describes + Send + Sync>(
     most: u64,
     progress: &P,
 ) -> Result<Explored, NoMemory>
-    requires picked { described_of description ≡ made_safe N.description }
-    requires service { accepted.now.facts ≡ (made_safe N.description).facts }
-    requires waits { no_query_waits (made_safe N.description).facts ≡ true }
+    requires picked { described_of description ≡ made_safe (N.descriptions 0) }
+    requires service { accepted.now.facts ≡ (made_safe (N.descriptions 0)).facts }
+    requires waits { no_query_waits (made_safe (N.descriptions 0)).facts ≡ true }
     requires playable { IsPlayable accepted.now script.now }
     requires most { most ≤ most_paired }
-    ensures { IfOk result (IsExplored accepted.now (described_answering (made_safe N.description)) script.now most) }
+    ensures { IfOk result (IsExplored accepted.now (described_answering (made_safe (N.descriptions 0))) script.now most) }
 {
-    explore_given::<R, DescribedService<N>, P, Accepted>(
+    explore_given::<R, DescribedService<N, 0>, P, Accepted>(
         rt,
         alloc,
         DescribedImage::new(description),

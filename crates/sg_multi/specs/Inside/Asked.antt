@@ -4,8 +4,7 @@ use Rattle.sg_facts.specs.Facts.{Facts, is_visible}
 use Rattle.sg_facts.specs.declared.trace.Tag.{Tag}
 use Rattle.sg_facts.specs.declared.trace.Tag.TheVariants.{Walk, Load, Client}
 use Rattle.sg_facts.specs.sg_base.Lists.{Each}
-use Rattle.sg_multi.specs.Members.{setting_in, view_in}
-use Rattle.sg_multi.specs.declared.member.Member.{Member}
+use Rattle.sg_multi.specs.Members.{Membered, setting_in, view_in}
 use Rattle.sg_multi.specs.sg_sim.sg_play.sg_hist.Reading.{Position, places_of, stands_before}
 use Rattle.sg_multi.specs.sg_sim.sg_play.sg_hist.Recovered.{is_answered_later}
 use Rattle.sg_multi.specs.sg_sim.sg_script.declared.multi.MultiCall.{MultiCall}
@@ -40,6 +39,6 @@ WasAsked facts script merged member p (Load key client) = Unit {0}
 WasAsked facts script merged member p (Client client seq) = WasAskedAfter facts script merged member p client seq
 
 -- so it is of all items of all members
-abbrev pub AreAskedSoFar : List Member → MultiScript → List MultiEntry → Type 0
-AreAskedSoFar members script merged = (place : ℕ) (m : Member) → slice_get members place ≡ Some m
+abbrev pub AreAskedSoFar : List Membered → MultiScript → List MultiEntry → Type 0
+AreAskedSoFar members script merged = (place : ℕ) (m : Membered) → slice_get members place ≡ Some m
     → Each (λ p. WasAsked (setting_in m).iface.facts script merged (place + 1) p p.item.tag) (places_of (view_in m).run)

@@ -9,8 +9,7 @@ use Rattle.sg_facts.specs.Trace.{Boot}
 use Rattle.sg_facts.specs.declared.entry.Entry.{Entry}
 use Rattle.sg_facts.specs.declared.trace.Item.{Item}
 use Rattle.sg_facts.specs.sg_base.Lists.{Each}
-use Rattle.sg_multi.specs.Members.{setting_in, view_in}
-use Rattle.sg_multi.specs.declared.member.Member.{Member}
+use Rattle.sg_multi.specs.Members.{Membered, setting_in, view_in}
 use Rattle.sg_multi.specs.sg_sim.sg_plain.Calls.{ascending_from, most_client}
 use Rattle.sg_multi.specs.sg_sim.sg_plain.Plain.{PlainPhase, Player, Stage, first_stage, left_schedule, next_turn, ready, stage_from, through}
 use Rattle.sg_multi.specs.sg_sim.sg_plain.Playing.Given.{given_in}
@@ -34,23 +33,23 @@ abbrev pub phase_at : Seat → PlainPhase
 phase_at s = phase_by s.phase s.reply ready
 
 -- the player of a client
-abbrev pub player_now : List Member → MultiScript → List (List ℕ) → ℕ → Player
+abbrev pub player_now : List Membered → MultiScript → List (List ℕ) → ℕ → Player
 player_now members script given client = record {
   done = length (given_in given client);
   phase = option_map_or (λ c. phase_at (seat_at members (c.member - 1) client)) (next_of script given client) through;
 }
 
 -- the players of all clients
-abbrev pub players_now : List Member → MultiScript → List (List ℕ) → List Player
+abbrev pub players_now : List Membered → MultiScript → List (List ℕ) → List Player
 players_now members script given = map (player_now members script given) (ascending_from 1 (most_client script.clients))
 
 -- the stage with these members, calls that were given and entries, where this is left of the schedule, and this client took the last turn
-abbrev pub stage_with : List Member → MultiScript → List (List ℕ) → List MultiEntry → List ℕ → ℕ → Stage MultiEntry
+abbrev pub stage_with : List Membered → MultiScript → List (List ℕ) → List MultiEntry → List ℕ → ℕ → Stage MultiEntry
 stage_with members script given merged schedule last =
     record { history = merged; players = players_now members script given; schedule = schedule; last = last }
 
 -- the same where so many turns of the schedule were taken or passed over
-abbrev pub stage_now : List Member → MultiScript → List (List ℕ) → List MultiEntry → ℕ → ℕ → Stage MultiEntry
+abbrev pub stage_now : List Membered → MultiScript → List (List ℕ) → List MultiEntry → ℕ → ℕ → Stage MultiEntry
 stage_now members script given merged passed last = stage_with members script given merged (drop passed script.schedule) last
 
 -- a client takes the next turn there, and so many turns of the schedule are taken or passed over then
@@ -72,12 +71,12 @@ pub record NeverStruck (z : Setting) (w : WorldView) : Type 0 where
 -- ---- the play
 
 -- no member was stopped so far
-abbrev pub NoneStruck : List Member → Type 0
-NoneStruck members = (place : ℕ) (m : Member) → slice_get members place ≡ Some m → struck_in (view_in m).run ≡ []
+abbrev pub NoneStruck : List Membered → Type 0
+NoneStruck members = (place : ℕ) (m : Membered) → slice_get members place ≡ Some m → struck_in (view_in m).run ≡ []
 
 -- the play is at a stage of the play without stops
-pub record FollowsMulti (members : List Member) (script : MultiScript) (given : List (List ℕ)) (merged : List MultiEntry) (passed last : ℕ) : Type 0 where
-  pub up : (place : ℕ) (m : Member) → slice_get members place ≡ Some m → NeverStruck (setting_in m) (view_in m)
+pub record FollowsMulti (members : List Membered) (script : MultiScript) (given : List (List ℕ)) (merged : List MultiEntry) (passed last : ℕ) : Type 0 where
+  pub up : (place : ℕ) (m : Membered) → slice_get members place ≡ Some m → NeverStruck (setting_in m) (view_in m)
   pub turns : ℕ
   pub at : stage_now members script given merged passed last ≡ stage_from (several_services (map stubs_in members) script) (multi_workload script) (first_stage (multi_workload script)) turns
 
@@ -98,9 +97,9 @@ pub record HasStopped (facts : Facts) (since : List Entry) (boots : List Boot) (
 
 -- a member was stopped: up to then the entries were those of a stage of the play without stops, and each visible one that it made since has
 -- its item in a later boot than the first; and a reply that a client of it holds is of a call that isn't visible
-pub record IsPastFirstStop (members : List Member) (script : MultiScript) (merged : List MultiEntry) : Type 0 where
+pub record IsPastFirstStop (members : List Membered) (script : MultiScript) (merged : List MultiEntry) : Type 0 where
   pub place : ℕ
-  pub member : Member
+  pub member : Membered
   pub there : slice_get members place ≡ Some member
   pub turns : ℕ
   pub more : List MultiEntry
@@ -109,5 +108,5 @@ pub record IsPastFirstStop (members : List Member) (script : MultiScript) (merge
   pub hold : HoldAll (setting_in member).iface.facts (view_in member).seats
 
 -- no member was stopped so far, or one was
-abbrev pub Begins : List Member → MultiScript → List MultiEntry → Type 0
+abbrev pub Begins : List Membered → MultiScript → List MultiEntry → Type 0
 Begins members script merged = NoneStruck members ⊎ IsPastFirstStop members script merged

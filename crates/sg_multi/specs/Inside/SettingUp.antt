@@ -3,8 +3,7 @@ use Rattle.std.specs.Prelude.{ℕ, ◌≡◌, ◌+◌, ◌==◌, Bool, true, Lis
 use Rattle.std.specs.List.{list_all}
 use Rattle.sg_facts.specs.Trace.{Boot}
 use Rattle.sg_facts.specs.declared.trace.Item.{Item}
-use Rattle.sg_multi.specs.Members.{view_in}
-use Rattle.sg_multi.specs.declared.member.Member.{Member}
+use Rattle.sg_multi.specs.Members.{Membered, view_in}
 use Rattle.sg_multi.specs.sg_sim.sg_plain.Inside.Kept.{is_setup_first}
 use Rattle.sg_multi.specs.sg_sim.sg_play.sg_hist.Ending.{client_of}
 use Rattle.sg_multi.specs.sg_sim.sg_play.sg_hist.Reading.{items_of}
@@ -23,5 +22,5 @@ pub record IsSettingUpAt (script : MultiScript) (given : List (List ℕ)) (numbe
   pub all : is_multi_setting_up script given ≡ true → are_of_first (items_of boots) ≡ true
 
 -- so it is in those of each member
-abbrev pub AreSettingUp : List Member → MultiScript → List (List ℕ) → Type 0
-AreSettingUp members script given = (place : ℕ) (m : Member) → slice_get members place ≡ Some m → IsSettingUpAt script given (place + 1) (view_in m).run.boots
+abbrev pub AreSettingUp : List Membered → MultiScript → List (List ℕ) → Type 0
+AreSettingUp members script given = (place : ℕ) (m : Membered) → slice_get members place ≡ Some m → IsSettingUpAt script given (place + 1) (view_in m).run.boots

@@ -6,7 +6,7 @@ use Rattle.sg_multi.proofs.EndLists.{ends_more}
 use Rattle.sg_multi.proofs.ends.ends_of.Goals as goal
 
 pub clients-preserved : goal.clients-preserved
-clients-preserved c =
+clients-preserved g c =
     let r = c.args.running.now in
     c.in_ok-add_end.ensures ∙ ap (λ l. l ++ end_by r.members c.args.script.now (lists_of r.given) (c.clients.before + 1)) c.clients.invariant
     ∙ sym (ends_more r.members c.args.script.now (lists_of r.given) c.clients.before)

@@ -5,4 +5,4 @@ use Rattle.sg_multi.specs.Inside.Turns.{ends_up_to}
 use Rattle.sg_multi.proofs.ends.ends_of.Given as goal
 
 abbrev pub invariant-clients : goal.invariant-clients
-invariant-clients l = l.ends ≡ ends_up_to l.running.members l.script (lists_of l.running.given) l.before
+invariant-clients g l = l.ends ≡ ends_up_to l.running.members l.script (lists_of l.running.given) l.before

@@ -4,7 +4,7 @@ use Rattle.sg_multi.proofs.Turning.{at_zero}
 use Rattle.sg_multi.proofs.play.ended_member.Goals as goal
 
 pub returns : goal.returns
-returns c = record {
+returns g c = record {
   its = c.in_ok-ended.ensures.its;
   ends_are = c.in_ok-ended.ensures.ends ∙ c.in_ok-known.ensures;
   told = c.tell.ensures.told;

@@ -1,6 +1,6 @@
 -- What one member more came to.
 use Rattle.std.proofs.Common.{◌≡◌, ◌∙◌, ◌+◌, ◌∷◌, [], List, Some, length, ap, arith, refl, slice_get, subst, sym, length-append}
-use Rattle.sg_multi.specs.declared.member.Member.{Member}
+use Rattle.sg_multi.specs.Members.{Membered}
 use Rattle.sg_multi.specs.sg_sim.sg_play.sg_hist.declared.ended.Ended.{Ended}
 use Rattle.sg_multi.specs.Inside.Ended.{AreEnded, IsEndedMember}
 use Rattle.sg_multi.proofs.Growing.{ended_more}
@@ -8,21 +8,21 @@ use Rattle.sg_multi.proofs.Turning.{read_there}
 use Rattle.sg_multi.proofs.play.ended_members.Goals as goal
 
 pub members-init : goal.members-init
-members-init c =
+members-init g c =
     (refl, ap (λ (l : List Ended). length l) c.new-ended.ensures, λ k m e there at. let none : Some e ≡ slice_get [] k = sym at ∙ ap (λ l. slice_get l k) c.new-ended.ensures in absurd (cc none))
 
 pub overflow_add-number : goal.overflow_add-number
-overflow_add-number c = omega (arith, c.members.invariant.0, c.members-test.true, c.requires)
+overflow_add-number g c = omega (arith, c.members.invariant.0, c.members-test.true, c.requires)
 
 pub members-preserved : goal.members-preserved
-members-preserved c =
+members-preserved g c =
     let ms = c.args.members.now in
     let ends = c.args.ends.now in
     let before = c.members.invariant in
     let k = c.members.member-index in
     let m = c.member-item.result in
     let e = c.in_ok-ended_member.field-0 in
-    let there : slice_get ms k ≡ Some m = read_there ms k m c.members-test.true ∙ ap (λ (x : Member). Some x) (sym c.member-item.is) in
+    let there : slice_get ms k ≡ Some m = read_there ms k m c.members-test.true ∙ ap (λ (x : Membered). Some x) (sym c.member-item.is) in
     let pushed = c.in_ok-push.ensures.ok in (
       ap (λ n. n + 1) before.0,
       ap (λ (l : List Ended). length l) pushed ∙ length-append c.members.ended (e ∷ []) ∙ ap (λ n. n + 1) before.1,
@@ -30,4 +30,4 @@ members-preserved c =
     )
 
 pub returns : goal.returns
-returns c = record { count = omega (arith, c.members.invariant.1, c.members-test.false, c.members.auto.member-index-end); each = c.members.invariant.2 }
+returns g c = record { count = omega (arith, c.members.invariant.1, c.members-test.false, c.members.auto.member-index-end); each = c.members.invariant.2 }

@@ -7,7 +7,7 @@ use Rattle.sg_multi.proofs.whose.next_scheduled.Goals as goal
 use Rattle.sg_multi.proofs.whose.next_scheduled.Goals.{else-client-ge-FIRST_CLIENT-via-then-client-ge-FIRST_CLIENT+then-client-clients+else-can_go, else-client-ge-FIRST_CLIENT-via-then-client-ge-FIRST_CLIENT+else-client-clients, else-client-ge-FIRST_CLIENT-via-else-client-ge-FIRST_CLIENT}
 
 pub returns-then-can_go-clause-next : goal.returns-then-can_go-clause-next
-returns-then-can_go-clause-next c =
+returns-then-can_go-clause-next g c =
     let s = c.args.script.now in
     let r = c.args.running.now in
     let client = slice_index_or c.as_slice-schedule.result.now c.turns.at 0 in
@@ -16,7 +16,7 @@ returns-then-can_go-clause-next c =
     (omega (arith, c.if-client-clients.true, c.most_client-clients.ensures ∙ ap most_client c.as_slice.ensures)) (sym c.can_go.ensures ∙ c.if-can_go.true) c.turns.invariant
 
 pub turns-preserved : goal.turns-preserved
-turns-preserved c =
+turns-preserved g c =
     let s = c.args.script.now in
     let r = c.args.running.now in
     let client = slice_index_or c.as_slice-schedule.result.now c.turns.at 0 in

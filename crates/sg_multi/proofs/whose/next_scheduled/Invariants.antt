@@ -3,4 +3,4 @@ use Rattle.sg_multi.specs.Inside.Turns.{NoneScheduled}
 use Rattle.sg_multi.proofs.whose.next_scheduled.Given as goal
 
 abbrev pub invariant-turns : goal.invariant-turns
-invariant-turns l = NoneScheduled l.script l.running l.at
+invariant-turns g l = NoneScheduled l.script l.running l.at

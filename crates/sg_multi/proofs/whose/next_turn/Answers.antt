@@ -5,7 +5,7 @@ use Rattle.sg_multi.proofs.Turning.{first_there}
 use Rattle.sg_multi.proofs.whose.next_turn.Goals as goal
 
 pub returns-then-is_setting_up-clause-last : goal.returns-then-is_setting_up-clause-last
-returns-then-is_setting_up-clause-last c = first_there c.args.script.now c.args.running.now c.requires.keeps
+returns-then-is_setting_up-clause-last g c = first_there c.args.script.now c.args.running.now c.requires.keeps
 
 pub returns-then-is_setting_up-clause-next : goal.returns-then-is_setting_up-clause-next
-returns-then-is_setting_up-clause-next c = from_setup c.args.script.now c.args.running.now c.requires.keeps (sym c.is_setting_up.ensures ∙ c.if-is_setting_up.true)
+returns-then-is_setting_up-clause-next g c = from_setup c.args.script.now c.args.running.now c.requires.keeps (sym c.is_setting_up.ensures ∙ c.if-is_setting_up.true)

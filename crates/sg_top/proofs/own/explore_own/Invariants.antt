@@ -3,4 +3,4 @@ use Rattle.sg_interpret.specs.sg_described.Described.{described_of}
 use Rattle.sg_top.proofs.own.explore_own.Given as goal
 
 abbrev pub ghosts-explore_picked : goal.ghosts-explore_picked
-ghosts-explore_picked g a = record { description = described_of a.description }
+ghosts-explore_picked g a = record { descriptions = λ _. described_of a.description }

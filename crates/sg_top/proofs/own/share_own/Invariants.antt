@@ -3,4 +3,4 @@ use Rattle.sg_interpret.specs.sg_described.Described.{described_of}
 use Rattle.sg_top.proofs.own.share_own.Given as goal
 
 abbrev pub ghosts-share_picked : goal.ghosts-share_picked
-ghosts-share_picked g a = record { description = described_of a.description }
+ghosts-share_picked g a = record { descriptions = λ _. described_of a.description }

@@ -9,6 +9,6 @@ use Rattle.sg_interpret.proofs.service.DescribedServiceService.load.Goals as goa
 
 pub returns-clause-ok : goal.returns-clause-ok
 returns-clause-ok g c =
-    let safe = made_is_safe g.N.Describes.description in
-    let o : Object = object_of (described_body (made_safe g.N.Describes.description)) c.args.self.now.slots in
+    let safe = made_is_safe (g.N.Describes.descriptions g.row.PLACE) in
+    let o : Object = object_of (described_body (made_safe (g.N.Describes.descriptions g.row.PLACE))) c.args.self.now.slots in
     sym (ap (λ b. cond b (record { rows = o.rows; files = set_file o.files c.args.arg3.now c.args.arg4.now; given = o.given }) o) safe.plain.fileless)

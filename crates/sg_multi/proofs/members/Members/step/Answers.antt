@@ -1,19 +1,18 @@
 -- One member changes, and the others stay.
 use Rattle.std.proofs.Common.{refl, subst, slice_set}
 use Rattle.sg_multi.proofs.Places.{changed, err_so, now_there, ok_both, same_there}
-use Rattle.sg_multi.specs.Members.{ChangesAt, setting_in, view_in}
-use Rattle.sg_multi.specs.declared.member.Member.{Member}
+use Rattle.sg_multi.specs.Members.{ChangesAt, Membered, setting_in, view_in}
 use Rattle.sg_sim.specs.sg_clients.WorldView.{WorldView}
 use Rattle.sg_sim.specs.sg_world.Steps.{AnswersLast, HasStepped, LackedMemory}
 use Rattle.sg_multi.proofs.members.Members.step.Goals as goal
 
 pub step-requires : goal.step-requires
-step-requires c = record {
+step-requires g c = record {
   client = c.requires.client c.index_mut.result.now (now_there c.self.inside.list.items c.args.self.now c.args.place c.index_mut.result.now c.self.view_is c.requires.there c.index_mut.ensures.value);
 }
 
 pub returns-clause-did : goal.returns-clause-did
-returns-clause-did c = λ m there.
+returns-clause-did g c = λ m there.
     let old = c.index_mut.result.now in
     let new = c.step.new.self in
     let now = view_in new in
@@ -25,13 +24,13 @@ returns-clause-did c = λ m there.
     c.step.result c.step.ensures.did c.step.ensures.answers
     (λ did steps answers. (
       now,
-      changed c.args.self.now c.self.inside.list.items c.args.place old new m now c.self.view_is there is refl c.step.ensures.kind c.step.ensures.tables c.step.ensures.plan,
-      subst (λ (x : Member). HasStepped (setting_in x) (view_in x) client did now) is steps,
+      changed c.args.self.now c.self.inside.list.items c.args.place old new m now c.self.view_is there is refl c.step.ensures.service c.step.ensures.tables c.step.ensures.plan,
+      subst (λ (x : Membered). HasStepped (setting_in x) (view_in x) client did now) is steps,
       answers,
     ))
 
 pub returns-clause-err : goal.returns-clause-err
-returns-clause-err c = λ m there.
+returns-clause-err g c = λ m there.
     let old = c.index_mut.result.now in
     let new = c.step.new.self in
     let now = view_in new in
@@ -41,6 +40,6 @@ returns-clause-err c = λ m there.
     err_so (LackedMemory (setting_in old) (view_in old) client now) ((now : WorldView) × ChangesAt c.args.self.now c.args.place m now later × LackedMemory (setting_in m) (view_in m) client now) c.step.result
     (λ wants. (
       now,
-      changed c.args.self.now c.self.inside.list.items c.args.place old new m now c.self.view_is there is refl c.step.ensures.kind c.step.ensures.tables c.step.ensures.plan,
-      subst (λ (x : Member). LackedMemory (setting_in x) (view_in x) client now) is wants,
+      changed c.args.self.now c.self.inside.list.items c.args.place old new m now c.self.view_is there is refl c.step.ensures.service c.step.ensures.tables c.step.ensures.plan,
+      subst (λ (x : Membered). LackedMemory (setting_in x) (view_in x) client now) is wants,
     )) c.step.ensures.err

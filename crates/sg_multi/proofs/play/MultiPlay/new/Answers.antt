@@ -13,10 +13,10 @@ use Rattle.sg_multi.proofs.Turning.{parts_same}
 use Rattle.sg_multi.proofs.play.MultiPlay.new.Goals as goal
 
 pub members_of-requires-clause-clients : goal.members_of-requires-clause-clients
-members_of-requires-clause-clients c = c.most_client-clients.ensures ∙ ap most_client c.as_slice.ensures
+members_of-requires-clause-clients g c = c.most_client-clients.ensures ∙ ap most_client c.as_slice.ensures
 
 pub invariant_of-result : goal.invariant_of-result
-invariant_of-result c =
+invariant_of-result g c =
     let count = c.most_client-clients.ensures ∙ ap most_client c.as_slice.ensures in
     let worlds = c.in_ok-worlds.worlds in
     let new = subst (λ n. AreNewMembers c.args.members.now c.args.script.stops n worlds) count c.in_ok-worlds.ensures in
@@ -34,11 +34,11 @@ invariant_of-result c =
     record { keeps = parts.keeps; last_there = omega arith; sets_up = parts.sets_up; asked = parts.asked; begins = parts.begins; follows = parts.follows }
 
 pub returns-clause-members : goal.returns-clause-members
-returns-clause-members c =
+returns-clause-members g c =
     let count = c.most_client-clients.ensures ∙ ap most_client c.as_slice.ensures in
     let worlds = c.in_ok-worlds.worlds in
     stubs_are c.args.members.now c.args.script worlds c.requires.services c.requires.playable (subst (λ n. AreNewMembers c.args.members.now c.args.script.stops n worlds) count c.in_ok-worlds.ensures)
 
 pub returns-clause-new : goal.returns-clause-new
-returns-clause-new c =
+returns-clause-new g c =
     subst (λ n. AreNewMembers c.args.members.now c.args.script.stops n c.in_ok-worlds.worlds) (c.most_client-clients.ensures ∙ ap most_client c.as_slice.ensures) c.in_ok-worlds.ensures

@@ -7,15 +7,15 @@ use Rattle.sg_multi.proofs.Turning.{client_there}
 use Rattle.sg_multi.proofs.running.Running.next_call.Goals as goal
 
 pub of-done-requires : goal.of-done-requires
-of-done-requires c =
+of-done-requires g c =
     let r = c.args.self.now in
     record { client = client_there r.members c.args.script.now r.given r.order.items c.requires.keeps.keeps c.args.client c.requires.first c.requires.last }
 
 pub call_with_setup-requires : goal.call_with_setup-requires
-call_with_setup-requires c = subst (AreClients 0) (sym c.as_slice-2.ensures) c.requires.keeps.keeps.playable.clients
+call_with_setup-requires g c = subst (AreClients 0) (sym c.as_slice-2.ensures) c.requires.keeps.keeps.playable.clients
 
 pub returns : goal.returns
-returns c =
+returns g c =
     let s = c.args.script.now in
     c.call_with_setup.ensures
     ∙ ap (λ l. slice_get (calls_with_setup l c.as_slice-2.result.now c.args.client) (length c.of-done.result.now)) c.as_slice.ensures

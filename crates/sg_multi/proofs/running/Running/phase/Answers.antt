@@ -5,7 +5,7 @@ use Rattle.sg_multi.proofs.Turning.{seat_is}
 use Rattle.sg_multi.proofs.running.Running.phase.Goals as goal
 
 pub phase-requires : goal.phase-requires
-phase-requires c = record { client = c.requires.client c.member_of.result.now c.member_of.ensures }
+phase-requires g c = record { client = c.requires.client c.member_of.result.now c.member_of.ensures }
 
 pub returns : goal.returns
-returns c = c.phase.ensures ∙ ap (λ (s : Seat). s.phase) (sym (seat_is c.args.self.now.members (c.args.member - 1) c.member_of.result.now c.args.client c.member_of.ensures))
+returns g c = c.phase.ensures ∙ ap (λ (s : Seat). s.phase) (sym (seat_is c.args.self.now.members (c.args.member - 1) c.member_of.result.now c.args.client c.member_of.ensures))

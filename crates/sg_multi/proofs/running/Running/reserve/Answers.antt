@@ -2,4 +2,4 @@
 use Rattle.sg_multi.proofs.running.Running.reserve.Goals as goal
 
 pub reserve-requires : goal.reserve-requires
-reserve-requires c = record { client = c.requires }
+reserve-requires g c = record { client = c.requires }

@@ -1,8 +1,7 @@
 -- The member is noted where the client has an entry more.
 use Rattle.std.proofs.Common.{◌≡◌, ◌∙◌, ◌≤◌, ◌<◌, ◌-◌, List, false, true, length, map, ap, arith, nat_lt, sym, subst}
 use Rattle.std.specs.Prelude.{option_map}
-use Rattle.sg_multi.specs.Members.{view_in}
-use Rattle.sg_multi.specs.declared.member.Member.{Member}
+use Rattle.sg_multi.specs.Members.{Membered, view_in}
 use Rattle.sg_multi.specs.sg_sim.Inside.Givens.{lists_of, room_for}
 use Rattle.sg_multi.specs.sg_sim.sg_play.sg_clients.Clients.{IsClient}
 use Rattle.sg_multi.specs.sg_sim.sg_plain.Playing.Turns.{is_free_phase}
@@ -17,12 +16,12 @@ use Rattle.sg_multi.proofs.Turning.{as_many, client_there, its_next, noted_keeps
 use Rattle.sg_multi.proofs.running.Running.step.Goals as goal
 
 pub reserve-requires : goal.reserve-requires
-reserve-requires c =
+reserve-requires g c =
     let r = c.args.self.now in
     client_there r.members c.args.script.now r.given r.order.items c.requires.keeps.keeps c.args.client c.requires.first c.requires.last
 
 pub returns-in_err-reserve-clause-keeps : goal.returns-in_err-reserve-clause-keeps
-returns-in_err-reserve-clause-keeps c =
+returns-in_err-reserve-clause-keeps g c =
     let r = c.args.self.now in
     let q = c.reserve.new.self in
     let s = c.args.script.now in
@@ -30,15 +29,15 @@ returns-in_err-reserve-clause-keeps c =
     on_err (KeepsRunning s q) c.from_residual.result keeps
 
 pub returns-in_err-reserve-clause-same : goal.returns-in_err-reserve-clause-same
-returns-in_err-reserve-clause-same c =
+returns-in_err-reserve-clause-same g c =
     ap (map stubs_in) c.reserve.ensures.members
 
 pub member_of-requires-clause-there : goal.member_of-requires-clause-there
-member_of-requires-clause-there c =
-    subst (λ (l : List Member). c.args.member ≤ length l) (sym c.reserve.ensures.members) c.requires.there
+member_of-requires-clause-there g c =
+    subst (λ (l : List Membered). c.args.member ≤ length l) (sym c.reserve.ensures.members) c.requires.there
 
 pub entries_of-before-requires : goal.entries_of-before-requires
-entries_of-before-requires c =
+entries_of-before-requires g c =
     let r = c.args.self.now in
     let q = c.reserve.new.self in
     let s = c.args.script.now in
@@ -46,15 +45,15 @@ entries_of-before-requires c =
     record { client = seats_there q.members s q.given q.order.items keeps.keeps c.args.client c.requires.first c.requires.last (c.args.member - 1) c.member_of.result.now c.member_of.ensures }
 
 pub overflow_sub-place : goal.overflow_sub-place
-overflow_sub-place c =
+overflow_sub-place g c =
     omega (arith, c.from-place.ensures, c.requires.some)
 
 pub step-requires-clause-there : goal.step-requires-clause-there
-step-requires-clause-there c =
-    omega (arith, c.from-place.ensures, c.requires.some, c.requires.there, ap (λ (l : List Member). length l) c.reserve.ensures.members)
+step-requires-clause-there g c =
+    omega (arith, c.from-place.ensures, c.requires.some, c.requires.there, ap (λ (l : List Membered). length l) c.reserve.ensures.members)
 
 pub step-requires-clause-client : goal.step-requires-clause-client
-step-requires-clause-client c =
+step-requires-clause-client g c =
     let r = c.args.self.now in
     let q = c.reserve.new.self in
     let s = c.args.script.now in
@@ -62,7 +61,7 @@ step-requires-clause-client c =
     λ x at. seats_there q.members s q.given q.order.items keeps.keeps c.args.client c.requires.first c.requires.last (c.from-place.result - 1) x at
 
 pub returns-in_err-did-clause-keeps : goal.returns-in_err-did-clause-keeps
-returns-in_err-did-clause-keeps c =
+returns-in_err-did-clause-keeps g c =
     let r = c.args.self.now in
     let q = c.reserve.new.self in
     let s = c.args.script.now in
@@ -74,7 +73,7 @@ returns-in_err-did-clause-keeps c =
     on_err (KeepsRunning s (record q { members = later })) c.from_residual-in_err-did.result (record { keeps = still.kept; last_there = keeps.last_there; sets_up = still.sets_up keeps.sets_up; asked = still.asked keeps.asked; begins = still.begins keeps.begins; follows = still.follows q.passed q.last keeps.follows })
 
 pub returns-in_err-did-clause-same : goal.returns-in_err-did-clause-same
-returns-in_err-did-clause-same c =
+returns-in_err-did-clause-same g c =
     let r = c.args.self.now in
     let q = c.reserve.new.self in
     let s = c.args.script.now in
@@ -85,7 +84,7 @@ returns-in_err-did-clause-same c =
     (wanted_at q.members s (lists_of q.given) q.order.items keeps.keeps c.args.client c.requires.first c.requires.last c.args.member c.from-place.result c.requires.some c.from-place.ensures m c.member_of.ensures later c.in_err-did.ensures.err).same ∙ ap (map stubs_in) c.reserve.ensures.members
 
 pub member_of-requires-2-clause-there : goal.member_of-requires-2-clause-there
-member_of-requires-2-clause-there c =
+member_of-requires-2-clause-there g c =
     let r = c.args.self.now in
     let q = c.reserve.new.self in
     let s = c.args.script.now in
@@ -93,10 +92,10 @@ member_of-requires-2-clause-there c =
     let m = c.member_of.result.now in
     let lists = lists_of q.given in
     let later = c.step.new.self in
-    omega (arith, c.requires.there, as_many q.members later (stepped_same q.members s (lists_of q.given) q.order.items keeps.keeps c.args.client c.requires.first c.requires.last c.args.member c.from-place.result c.requires.some c.from-place.ensures m c.member_of.ensures later c.in_ok-did.did c.in_ok-did.ensures.did), ap (λ (l : List Member). length l) c.reserve.ensures.members)
+    omega (arith, c.requires.there, as_many q.members later (stepped_same q.members s (lists_of q.given) q.order.items keeps.keeps c.args.client c.requires.first c.requires.last c.args.member c.from-place.result c.requires.some c.from-place.ensures m c.member_of.ensures later c.in_ok-did.did c.in_ok-did.ensures.did), ap (λ (l : List Membered). length l) c.reserve.ensures.members)
 
 pub entries_of-after-requires : goal.entries_of-after-requires
-entries_of-after-requires c =
+entries_of-after-requires g c =
     let r = c.args.self.now in
     let q = c.reserve.new.self in
     let s = c.args.script.now in
@@ -107,23 +106,23 @@ entries_of-after-requires c =
     record { client = stepped_seats q.members s (lists_of q.given) q.order.items keeps.keeps c.args.client c.requires.first c.requires.last c.args.member c.from-place.result c.requires.some c.from-place.ensures m c.member_of.ensures later c.in_ok-did.did c.in_ok-did.ensures.did c.member_of-2.result.now c.member_of-2.ensures }
 
 pub note_entry-requires : goal.note_entry-requires
-note_entry-requires c =
+note_entry-requires g c =
     c.in_ok-reserve.ensures.order
 
 pub note_reply-requires-clause-client : goal.note_reply-requires-clause-client
-note_reply-requires-clause-client c =
+note_reply-requires-clause-client g c =
     let r = c.args.self.now in
     let q = c.reserve.new.self in
     let s = c.args.script.now in
     let keeps : KeepsRunning s q = reserved_keeps s r q c.reserve.ensures.members c.reserve.ensures.lists c.reserve.ensures.items c.reserve.ensures.passed c.reserve.ensures.last c.requires.keeps in
-    subst (λ (x : Running). IsClient (length x.given) c.args.client) (sym c.note_entry.ensures.rest) (client_there q.members s q.given q.order.items keeps.keeps c.args.client c.requires.first c.requires.last)
+    subst (λ (x : Running g.row.N). IsClient (length x.given) c.args.client) (sym c.note_entry.ensures.rest) (client_there q.members s q.given q.order.items keeps.keeps c.args.client c.requires.first c.requires.last)
 
 pub note_reply-requires-clause-room : goal.note_reply-requires-clause-room
-note_reply-requires-clause-room c =
-    subst (λ (x : Running). 0 < room_for x.given c.args.client) (sym c.note_entry.ensures.rest) c.in_ok-reserve.ensures.given
+note_reply-requires-clause-room g c =
+    subst (λ (x : Running g.row.N). 0 < room_for x.given c.args.client) (sym c.note_entry.ensures.rest) c.in_ok-reserve.ensures.given
 
 pub returns-clause-turned : goal.returns-clause-turned
-returns-clause-turned c = λ taken turn.
+returns-clause-turned g c = λ taken turn.
     let r = c.args.self.now in
     let q = c.reserve.new.self in
     let s = c.args.script.now in
@@ -153,7 +152,7 @@ returns-clause-turned c = λ taken turn.
     c.handed.ensures c.note_entry.ensures.items c.note_entry.ensures.rest c.note_reply.ensures.lists c.note_reply.ensures.rest c.requires.last taken (record { keeps = kept; sets_up = sets_up; asked = asked; begins = begins; follows = follows })
 
 pub returns-clause-same : goal.returns-clause-same
-returns-clause-same c =
+returns-clause-same g c =
     let r = c.args.self.now in
     let q = c.reserve.new.self in
     let s = c.args.script.now in
@@ -161,5 +160,5 @@ returns-clause-same c =
     let m = c.member_of.result.now in
     let lists = lists_of q.given in
     let later = c.step.new.self in
-    ap (λ (x : Running). map stubs_in x.members) (c.note_reply.ensures.rest ∙ ap (λ (x : Running). record x { given = c.note_reply.new.self.given }) c.note_entry.ensures.rest)
+    ap (λ (x : Running g.row.N). map stubs_in x.members) (c.note_reply.ensures.rest ∙ ap (λ (x : Running g.row.N). record x { given = c.note_reply.new.self.given }) c.note_entry.ensures.rest)
     ∙ stepped_same q.members s (lists_of q.given) q.order.items keeps.keeps c.args.client c.requires.first c.requires.last c.args.member c.from-place.result c.requires.some c.from-place.ensures m c.member_of.ensures later c.in_ok-did.did c.in_ok-did.ensures.did ∙ ap (map stubs_in) c.reserve.ensures.members

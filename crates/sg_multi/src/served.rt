@@ -1,4 +1,4 @@
-// The service that an interface is of.
+// The service that a member is of.
 use sg_interpret::Description;
 use sg_load::ServiceKind;
 
