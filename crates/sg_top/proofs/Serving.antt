@@ -15,10 +15,10 @@ use Rattle.sg_judge.specs.sg_own.sg_shape.ShapeOfText.{shape_of_text}
 use Rattle.sg_load.specs.Services.{facts_by}
 use Rattle.sg_load.specs.declared.kind.ServiceKind.{ServiceKind}
 use Rattle.sg_top.specs.Answer.{services}
-use Rattle.sg_top.specs.Headline.{described_answering}
-use Rattle.sg_top.specs.Inside.Plays.{IsOfServed, IsServedAs}
-use Rattle.sg_top.specs.declared.served.Served.{Served}
-use Rattle.sg_top.specs.declared.served.Served.TheVariants.{BuiltIn, Own}
+use Rattle.sg_multi.specs.Serving.{IsOfServed, described_answering}
+use Rattle.sg_top.specs.Inside.Plays.{IsServedAs}
+use Rattle.sg_multi.specs.declared.served.Served.{Served}
+use Rattle.sg_multi.specs.declared.served.Served.TheVariants.{BuiltIn, Own}
 use Rattle.sg_top.proofs.EachKind.{allowed_kind, is_served, its_facts}
 
 -- ---- a service of the text's own

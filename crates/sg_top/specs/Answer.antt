@@ -164,7 +164,7 @@ IsPlayOutput bytes in_threads shows (Several came) status output = ⊥
 
 -- the output of a play over several services, and its status: what is printed of it, or the line of an input that is refused
 abbrev pub IsMultiOutput : List ℕ → Bool → Ran → Status → List ℕ → Type 0
-IsMultiOutput bytes with_trace Nothing status output = (status ≡ Refused) × IsMultiInputOf services bytes (refused output)
+IsMultiOutput bytes with_trace Nothing status output = (status ≡ Refused) × IsMultiInputOf judging bytes (refused output)
 IsMultiOutput bytes with_trace (One ended) status output = ⊥
 IsMultiOutput bytes with_trace (Several came) status output = (status ≡ multi_status came.ends) × IsPlayOfMembers played_services bytes with_trace came output
 
@@ -206,7 +206,7 @@ IsRefusal command bytes output =
       | Explain ↦ IsExplainedAny services bytes (refused output)
       | Explore most ↦ IsInputOf judging bytes (refused output)
       | Verify ↦ IsRunInputOf judging bytes (refused output)
-      | Multi trace ↦ IsMultiInputOf services bytes (refused output)
+      | Multi trace ↦ IsMultiInputOf judging bytes (refused output)
       | Load service number ↦ ⊥
       | _ ↦ IsChecked services bytes (refused output)
     ]))

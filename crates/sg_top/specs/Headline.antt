@@ -1,6 +1,6 @@
 -- What is promised of a run of an input, over one service or over several, and of a load.
-use Rattle.std.specs.Prelude.{ℕ, ◌≡◌, ◌⊎◌, Bool, true, false, List, ◌∷◌, ◌++◌, map}
-use Rattle.std.specs.List.{AllZip, Contains}
+use Rattle.std.specs.Prelude.{ℕ, ◌≡◌, ◌⊎◌, Bool, true, false, List, [], ◌∷◌, ◌++◌, map}
+use Rattle.std.specs.List.{Contains}
 use Rattle.sg_cost.specs.Costs.{AreFew, costs_at}
 use Rattle.sg_cost.specs.Lines.{cost_text_of}
 use Rattle.sg_draw.specs.Pictures.{AreColumnsOf, IsPictureOf}
@@ -12,8 +12,6 @@ use Rattle.sg_verify.specs.sg_report.sg_hist.Recovered.{Stubs}
 use Rattle.sg_verify.specs.sg_report.sg_hist.declared.ended.Ended.{Ended}
 use Rattle.sg_judge.specs.sg_input.Inputs.{IsReady}
 use Rattle.sg_judge.specs.sg_input.sg_parse.declared.tree.Tree.{Tree}
-use Rattle.sg_interpret.specs.sg_described.Described.{Described}
-use Rattle.sg_interpret.specs.sg_described.Meaning.{described_parts, described_table}
 use Rattle.sg_judge.specs.AnyInputs.{any_judging}
 use Rattle.sg_judge.specs.Said.{IsOfServices, IsOwnText}
 use Rattle.sg_judge.specs.sg_own.sg_describe.DescribedText.{described_of_text}
@@ -26,6 +24,7 @@ use Rattle.sg_judge.specs.sg_input.sg_script.declared.multi.MultiScript.{MultiSc
 use Rattle.sg_judge.specs.sg_input.sg_script.declared.script.Script.{Script}
 use Rattle.sg_multi.specs.Played.{IsMultiPlayed, MultiCame}
 use Rattle.sg_multi.specs.Report.{multi_text_of}
+use Rattle.sg_multi.specs.Serving.{described_answering}
 use Rattle.sg_explore.specs.sg_shared.Runs.{IsRunOf}
 use Rattle.sg_load.specs.sg_plain.Answering.{Answering}
 use Rattle.sg_explore.specs.sg_shared.sg_sim.Played.{FollowsSchedule}
@@ -50,10 +49,6 @@ IsShown Costs i ended written =
     (walks : List WalkLine) × AreTables i walks × (written ≡ cost_text_of i.facts (costs_at i walks ended.history.items (run_of ended.trace)))
 
 -- ---- services
-
--- a described service, as plays speak of it
-abbrev pub described_answering : Described → Answering
-described_answering d = record { facts = d.facts; ask = described_table d; parts = described_parts d }
 
 -- the text of an interface is of this service: it is one of these, or the one that the text describes
 abbrev pub IsServedBy : List Answering → List ℕ → Answering → Type 0
@@ -92,23 +87,29 @@ pub record IsRunOfLoad (kind : ServiceKind) (number : ℕ) (ended : Ended) (writ
 
 -- ---- several services
 
--- by this a run under an interface is judged: by what its service answers, and by the walks of the interface's tables
-pub record IsMember (services : List Answering) (i : Declared) (stubs : Stubs) : Type 0 where
+-- by this a run under an interface is judged: by what the service of its text answers, and by the walks of the interface's tables
+pub record IsMember (services : List Answering) (text : List ℕ) (i : Declared) (stubs : Stubs) : Type 0 where
   pub service : Answering
-  pub is_served : Contains services service
+  pub is_served : IsServedBy services text service
   pub its : service.facts ≡ i.facts
   pub walks : List WalkLine
   pub tables : AreTables i walks
   pub is : stubs ≡ record { interface = i; ask = service.ask; parts = service.parts; walks = walks }
 
--- an input is interfaces of some of these services, no two of one service, and a script for them, and this is a play of it over them, with
--- its output
+-- so are these, text by text
+abbrev pub AreMembersBy : List Answering → List (List ℕ) → List Declared → List Stubs → Type 0
+AreMembersBy services [] [] [] = Unit {0}
+AreMembersBy services (text ∷ texts) (i ∷ interfaces) (s ∷ members) = IsMember services text i s × AreMembersBy services texts interfaces members
+AreMembersBy services _ _ _ = ⊥
+
+-- an input is interfaces, each of one of these services or of the one that it describes, no two of one service, and a script for them, and this is
+-- a play of it over them, with its output
 pub record IsPlayOfMembers (services : List Answering) (bytes : List ℕ) (with_trace : Bool) (came : MultiCame) (written : List ℕ) : Type 0 where
   pub interfaces : List Declared
   pub script : MultiScript
-  pub ready : IsMultiReady (map (λ s. s.facts) services) bytes interfaces script
+  pub ready : IsMultiReady (any_judging (map (λ s. s.facts) services)) bytes interfaces script
   pub members : List Stubs
-  pub are : AllZip (IsMember services) interfaces members
+  pub are : AreMembersBy services ready.texts interfaces members
   pub play : IsMultiPlayed members script came
   -- the bytes written are what is to be printed of the play
   pub output : written ≡ multi_text_of (map (λ i. i.facts) interfaces) play.merged came with_trace

@@ -1,44 +1,42 @@
 // The members of a play over several services, and the play over them.
-ghost use Rattle.std.specs.Prelude.{◌≡◌, IfOk, map};
-ghost use Rattle.sg_facts.specs.Fits.{Fits};
-ghost use Rattle.sg_facts.specs.Interface.{Declared};
+ghost use Rattle.std.specs.Prelude.{IfOk, map};
 ghost use Rattle.sg_facts.specs.sg_base.Lists.{Each};
-ghost use Rattle.sg_load.specs.Services.{facts_by};
-ghost use Rattle.sg_load.specs.sg_check_statements.Shapes.{IsSmall};
+ghost use Rattle.sg_multi.specs.Beginning.{ArePicked};
 ghost use Rattle.sg_multi.specs.Playable.{IsMultiPlayable};
 ghost use Rattle.sg_multi.specs.Played.{IsMultiPlayed, stubs_by};
-ghost use Rattle.sg_top.specs.Inside.Plays.{IsPlayed};
+ghost use Rattle.sg_multi.specs.Serving.{IsOfServed};
+ghost use Rattle.sg_top.specs.Inside.Ready.{IsAccepted};
 ghost use Rattle.sg_top.specs.Inside.Several.{AreMembersOf, IsMemberOf};
 
-use crate::services::kind_of;
-use sg_facts::{Interface, ListOf, NoMemory, TryCopy};
-use sg_judge::{MultiScript, compile};
-use sg_load::Accepted;
-use sg_multi::{MemberTables, MultiEnded, MultiPlay};
+use crate::ready::served_of;
+use sg_facts::{ListOf, NoMemory};
+use sg_judge::{AnyInterface, MultiScript, compile};
+use sg_multi::{Describes, MemberTables, MultiEnded, MultiPlay};
 use std::alloc::Global;
+use std::marker::Brand;
 
 /// The service and the tables of each of these interfaces, which are accepted.
-pub fn members_of(alloc: Global, interfaces: &[Interface]) -> Result<ListOf<MemberTables>, NoMemory>
-    requires { Each (λ (i : Declared). IsPlayed i.facts × Fits i × IsSmall i) interfaces.now }
+pub fn members_of(
+    alloc: Global,
+    interfaces: &[AnyInterface],
+) -> Result<ListOf<MemberTables>, NoMemory>
+    requires { Each IsAccepted interfaces.now }
     ensures { IfOk result (AreMembersOf interfaces.now) }
 {
     let mut members = ListOf::new(alloc);
-    'interfaces: for iface in interfaces {
-        members.push(member_of(alloc, iface)?)?;
+    'interfaces: for any in interfaces {
+        members.push(member_of(alloc, any)?)?;
     }
     Ok(members)
 }
 
 // The service and the tables of an interface that is accepted.
-fn member_of(alloc: Global, iface: &Interface) -> Result<MemberTables, NoMemory>
-    requires service { IsPlayed iface.now.facts }
-    requires fits { Fits iface.now }
-    requires small { IsSmall iface.now }
-    ensures { IfOk result (IsMemberOf iface.now) }
+fn member_of(alloc: Global, any: &AnyInterface) -> Result<MemberTables, NoMemory>
+    requires { IsAccepted any.now }
+    ensures { IfOk result (IsMemberOf any.now) }
 {
-    let service = kind_of(iface);
-    let accepted = Accepted::new(iface.copy(alloc)?);
-    let tables = compile(alloc, &accepted)?;
+    let service = served_of(any);
+    let tables = compile(alloc, &any.accepted)?;
     Ok(MemberTables { service, tables })
 }
 
@@ -48,11 +46,25 @@ pub fn play_over(
     members: &[MemberTables],
     script: MultiScript,
 ) -> Result<MultiEnded, NoMemory>
-    requires services { Each (λ t. t.tables.iface.facts ≡ facts_by t.service) members.now }
+    requires services { Each (λ t. IsOfServed t.tables.iface t.service) members.now }
     requires playable { IsMultiPlayable (map (λ t. t.tables.iface) members.now) script }
     ensures { IfOk result (IsMultiPlayed (map stubs_by members.now) script) }
 {
-    let mut play = MultiPlay::new(alloc, members, script)?;
+    play_picked::<Brand>(alloc, members, script)
+}
+
+// The play of a script over members whose descriptions were picked.
+fn play_picked<N: Describes>(
+    alloc: Global,
+    members: &[MemberTables],
+    script: MultiScript,
+) -> Result<MultiEnded, NoMemory>
+    requires picked { ArePicked N.descriptions members.now }
+    requires services { Each (λ t. IsOfServed t.tables.iface t.service) members.now }
+    requires playable { IsMultiPlayable (map (λ t. t.tables.iface) members.now) script }
+    ensures { IfOk result (IsMultiPlayed (map stubs_by members.now) script) }
+{
+    let mut play = MultiPlay::<N>::new(alloc, members, script)?;
     let came = play.play(alloc);
     play.abandon();
     came

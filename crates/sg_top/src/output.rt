@@ -25,7 +25,6 @@ use crate::command::{Command, Shows};
 use crate::dispatch::{explore_served, share_served};
 use crate::members::{members_of, play_over};
 use crate::ready::{ReadyInput, ReadyRun, ready_input, ready_run};
-use crate::served::Served;
 use crate::services::{cost_served, shapes, simulate_served, verify_served};
 use crate::status::Status;
 use sg_cost::cost_text;
@@ -33,9 +32,9 @@ use sg_draw::{columns, picture};
 use sg_edge::Gate;
 use sg_explore::{Explored, Played, Progress};
 use sg_facts::{Bytes, Interface, NoMemory};
-use sg_judge::{History, Read, compile, compiled, explain, read_multi_input, upgraded, verdict};
+use sg_judge::{History, Read, compile, compiled, explain, read_any_multi, upgraded, verdict};
 use sg_load::{Accepted, ServiceKind, generate, standard};
-use sg_multi::{MultiEnd, MultiEnded, multi_text};
+use sg_multi::{MultiEnd, MultiEnded, Served, multi_text};
 use sg_verify::{End, Verdict, load_line, text, verdict_line};
 use std::alloc::Global;
 use std::sync::Wait;
@@ -269,7 +268,7 @@ fn output_finding(found: Explored) -> Output
 fn several(alloc: Global, bytes: &[u8], with_trace: bool) -> Result<Output, NoMemory>
     ensures { IfOk result (λ o. IsMultiOutput bytes.now with_trace o.ran o.status o.text) }
 {
-    match read_multi_input(alloc, bytes, &shapes())? {
+    match read_any_multi(alloc, bytes, &shapes())? {
         Read::Ready((interfaces, script)) => {
             let members = members_of(alloc, interfaces.as_slice())?;
             let came = play_over(alloc, members.as_slice(), script)?;

@@ -8,7 +8,7 @@ ghost use Rattle.sg_interpret.specs.sg_described.Described.{described_of};
 ghost use Rattle.sg_interpret.specs.sg_described.Safe.{IsSafe, made_safe};
 ghost use Rattle.sg_load.specs.sg_plain.Answering.{no_query_waits};
 ghost use Rattle.sg_load.specs.sg_plain.Playing.Playable.{IsPlayable};
-ghost use Rattle.sg_top.specs.Headline.{described_answering};
+ghost use Rattle.sg_multi.specs.Serving.{described_answering};
 
 use crate::given::Given;
 use crate::job::Job;

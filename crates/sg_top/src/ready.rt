@@ -5,11 +5,11 @@ ghost use Rattle.sg_top.specs.Answer.{services};
 ghost use Rattle.sg_top.specs.Inside.Plays.{IsServedAs};
 ghost use Rattle.sg_top.specs.Inside.Ready.{IsAccepted, IsServedInput, IsServedRun};
 
-use crate::served::Served;
 use crate::services::{kind_of, shapes};
 use sg_facts::NoMemory;
 use sg_judge::{AnyInterface, History, Read, Script, read_any_input, read_any_run};
 use sg_load::Accepted;
+use sg_multi::Served;
 use std::alloc::Global;
 
 /// An input that is ready to be played: its interface, which is accepted, the service of that, and its script.
@@ -64,8 +64,8 @@ pub fn ready_run(alloc: Global, bytes: &[u8]) -> Result<Read<ReadyRun>, NoMemory
     }
 }
 
-// The service of an interface that is accepted.
-fn served_of(any: &AnyInterface) -> Served
+/// The service of an interface that is accepted.
+pub fn served_of(any: &AnyInterface) -> Served
     requires { IsAccepted any.now }
     ensures { (text : List ℕ) → IsAcceptedAs services text any.now.accepted any.now.own → IsServedAs text any.now.accepted result }
 {

@@ -4,4 +4,4 @@ use Rattle.sg_top.specs.Inside.Several.{AreMembersOf}
 use Rattle.sg_top.proofs.members.members_of.Given as goal
 
 abbrev pub invariant-interfaces : goal.invariant-interfaces
-invariant-interfaces l = AreMembersOf (take l.iface-index l.interfaces) l.members
+invariant-interfaces l = AreMembersOf (take l.any-index l.interfaces) l.members

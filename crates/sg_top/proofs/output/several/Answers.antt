@@ -1,30 +1,26 @@
 -- A script that is ready is played over its members.
 use Rattle.std.proofs.Common.{◌≡◌, ◌∙◌, List, ap, map, sym, subst}
 use Rattle.sg_facts.specs.Facts.{facts_of}
-use Rattle.sg_facts.specs.Fits.{Fits}
-use Rattle.sg_facts.specs.Interface.{Declared}
 use Rattle.sg_facts.specs.sg_base.Lists.{Each}
-use Rattle.sg_judge.specs.sg_input.MultiInputs.{IsMultiReady}
-use Rattle.sg_load.specs.sg_check_statements.Shapes.{IsSmall}
+use Rattle.sg_judge.specs.AnyInputs.{IsMultiReadyAs}
 use Rattle.sg_multi.specs.Report.{multi_text_of}
 use Rattle.sg_multi.specs.declared.play.MemberTables.{MemberTables}
 use Rattle.sg_top.specs.Answer.{IsMultiOutput, services}
-use Rattle.sg_top.specs.Inside.Plays.{IsPlayed}
+use Rattle.sg_top.specs.Inside.Ready.{IsAccepted}
 use Rattle.sg_top.specs.Inside.Several.{AreMembersOf}
-use Rattle.sg_top.proofs.Several.{members_fit, members_playable, members_served, not_several, several_for, several_output, shown_members}
+use Rattle.sg_top.proofs.Several.{members_accepted, members_playable, members_served, not_several, several_for, several_output, shown_members}
 use Rattle.sg_top.proofs.output.several.Goals as goal
 
 pub members_of-requires : goal.members_of-requires
 members_of-requires c =
-    let made = c.in_ok-interfaces.field-0 in
-    let ready : IsMultiReady services c.args.bytes.now c.in-Ready.interfaces c.in-Ready.script =
-    several_for c.args.bytes.now (map facts_of c.shapes.result) made c.in-Ready.interfaces c.in-Ready.script c.shapes.ensures.facts c.in-Ready.is c.in_ok-interfaces.ensures.input in
-    subst (Each (λ (i : Declared). IsPlayed i.facts × Fits i × IsSmall i)) (sym c.as_slice.ensures)
-    (members_fit c.args.bytes.now made c.in-Ready.interfaces c.in-Ready.script c.in-Ready.is c.in_ok-interfaces.ensures.fit ready)
+    let ready : IsMultiReadyAs services c.args.bytes.now c.in-Ready.interfaces c.in-Ready.script =
+    several_for c.args.bytes.now (map facts_of c.shapes.result) c.in_ok-interfaces.field-0 c.in-Ready.interfaces c.in-Ready.script c.shapes.ensures.facts c.in-Ready.is c.in_ok-interfaces.ensures.input in
+    subst (Each IsAccepted) (sym c.as_slice.ensures) (members_accepted c.args.bytes.now c.in-Ready.interfaces c.in-Ready.script ready)
 
 pub play_over-requires-clause-services : goal.play_over-requires-clause-services
 play_over-requires-clause-services c =
-    members_served c.in-Ready.interfaces c.as_slice-in-Ready.result.now
+    members_served c.args.bytes.now c.in-Ready.interfaces c.in-Ready.script c.as_slice-in-Ready.result.now
+    (several_for c.args.bytes.now (map facts_of c.shapes.result) c.in_ok-interfaces.field-0 c.in-Ready.interfaces c.in-Ready.script c.shapes.ensures.facts c.in-Ready.is c.in_ok-interfaces.ensures.input)
     (shown_members c.in-Ready.interfaces _ _ _ c.as_slice.ensures c.as_slice-in-Ready.ensures c.in_ok-members-in-Ready.ensures)
 
 pub play_over-requires-clause-playable : goal.play_over-requires-clause-playable
@@ -35,7 +31,7 @@ play_over-requires-clause-playable c =
 
 pub returns-in_ok-text-in-Ready : goal.returns-in_ok-text-in-Ready
 returns-in_ok-text-in-Ready c =
-    let ready : IsMultiReady services c.args.bytes.now c.in-Ready.interfaces c.in-Ready.script =
+    let ready : IsMultiReadyAs services c.args.bytes.now c.in-Ready.interfaces c.in-Ready.script =
     several_for c.args.bytes.now (map facts_of c.shapes.result) c.in_ok-interfaces.field-0 c.in-Ready.interfaces c.in-Ready.script c.shapes.ensures.facts c.in-Ready.is c.in_ok-interfaces.ensures.input in
     let members = c.as_slice-in-Ready.result.now in
     let are : AreMembersOf c.in-Ready.interfaces members = shown_members c.in-Ready.interfaces _ _ _ c.as_slice.ensures c.as_slice-in-Ready.ensures c.in_ok-members-in-Ready.ensures in
