@@ -41,7 +41,7 @@ pub record AreMultiTexts (input : List ℕ) (texts : List (List ℕ)) (script : 
 
 -- ---- the members
 
--- the texts are accepted with these interfaces, no two of which are of one service
+-- the texts are accepted with these interfaces, no two of which are of one service, and there are no more than there may be
 pub record AreMembers (judging : Judging) (texts : List (List ℕ)) (members : List Declared) : Type 0 where
   pub accepted : AllZip judging.accepts texts members
   pub apart : AllPairs (λ i j. bytes_eq i.facts.name j.facts.name ≡ false) members

@@ -1,6 +1,6 @@
 pub mod Alone
 pub mod AnyInputs
-pub mod Members
+pub mod OneMore
 pub mod OwnTelling
 pub mod OneSaid
 pub mod Parts

@@ -1,6 +1,6 @@
 -- One thing is said of a text.
-use Rattle.std.proofs.Common.{◌≡◌, ◌⊎◌, inl, inr, ℕ, List, refl, sym, ◌∙◌, ap, subst}
-use Rattle.std.specs.Prelude.{Ok, codes}
+use Rattle.std.proofs.Common.{◌≡◌, inl, inr, ℕ, List, sym, ◌∙◌, ap, subst}
+use Rattle.std.specs.Prelude.{codes}
 use Rattle.sg_explain.specs.sg_facts.Facts.{Facts}
 use Rattle.sg_explain.specs.sg_facts.Interface.{Declared}
 use Rattle.sg_explain.specs.sg_facts.Tables.{AreTables}

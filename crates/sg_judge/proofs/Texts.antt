@@ -8,7 +8,7 @@ use Rattle.sg_explain.specs.sg_input.sg_print.sg_parse.declared.tree.Tree.{Tree}
 use Rattle.sg_explain.specs.sg_input.sg_print.sg_parse.sg_rules.declared.error.ParseError.{ParseError}
 use Rattle.sg_explain.specs.sg_input.sg_print.sg_parse.sg_rules.declared.error.ParseError.TheVariants.{Lex, NoMemory, Syntax}
 use Rattle.sg_explain.proofs.sg_input.OneInput.{one_tree}
-use Rattle.sg_judge.specs.Said.{IsOfServices, IsOwnText}
+use Rattle.sg_judge.specs.Said.{IsOfServices}
 
 -- its tree is of another version
 pub not_own : (text : List ℕ) (tree : Tree) → Parses text (Ok tree) → is_own tree ≡ false → IsOfServices text

@@ -1,5 +1,5 @@
 -- What is told besides of a state without a walk.
-use Rattle.std.proofs.Common.{◌≡◌, ◌⊎◌, inl, inr, ℕ, List, [], ◌∷◌, ◌++◌, refl, sym, subst}
+use Rattle.std.proofs.Common.{◌≡◌, inl, inr, ℕ, List, [], ◌∷◌, ◌++◌, refl, sym, subst}
 use Rattle.sg_explain.specs.sg_facts.Facts.{Facts}
 use Rattle.sg_explain.specs.sg_facts.Interface.{Declared}
 use Rattle.sg_explain.specs.Stuck.{IsStuckLine}
@@ -12,7 +12,7 @@ use Rattle.sg_own.specs.sg_check_statements.declared.fault.CheckKind.{CheckKind}
 use Rattle.sg_own.specs.sg_check_statements.declared.fault.CheckKind.TheVariants.{NoWalk}
 use Rattle.sg_own.specs.sg_shape.ShapeOfText.{shape_of_text}
 use Rattle.sg_own.specs.declared.fault.OwnKind.TheVariants.{Walks}
-use Rattle.sg_own.specs.Faults.{IsOwnFault, itself}
+use Rattle.sg_own.specs.Faults.{IsOwnFault}
 use Rattle.sg_explain.specs.sg_input.sg_print.sg_parse.declared.tree.Tree.{Tree}
 use Rattle.sg_judge.specs.Inside.Told.{TellsWalkMore}
 use Rattle.sg_judge.specs.OwnExplained.{external_line}

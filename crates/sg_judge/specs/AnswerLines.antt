@@ -1,5 +1,5 @@
 -- How functions answer, in sentences.
-use Rattle.std.specs.Prelude.{ℕ, List, [], ◌∷◌, ◌++◌, None, Some, codes}
+use Rattle.std.specs.Prelude.{ℕ, List, [], ◌∷◌, ◌++◌, codes}
 use Rattle.std.specs.List.{concat, flat_map}
 use Rattle.sg_explain.specs.sg_facts.Words.{line_end}
 use Rattle.sg_explain.specs.sg_input.sg_print.RulesText.{rule_text, term_text, tests_text}

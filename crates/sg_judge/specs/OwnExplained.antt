@@ -19,7 +19,7 @@ use Rattle.sg_explain.specs.sg_input.declared.read.Read.{Read}
 use Rattle.sg_explain.specs.sg_input.declared.read.Read.TheVariants.{Ready, Refused}
 use Rattle.sg_own.specs.Faults.{IsOwnAccepted, IsOwnFault, itself}
 use Rattle.sg_own.specs.declared.fault.OwnKind.{OwnKind}
-use Rattle.sg_own.specs.declared.fault.OwnKind.TheVariants.{Shape, Answers, Safety, Walks}
+use Rattle.sg_own.specs.declared.fault.OwnKind.TheVariants.{Safety, Walks}
 use Rattle.sg_own.specs.sg_describe.DescribedText.{described_of_text}
 use Rattle.sg_own.specs.sg_shape.ShapeOfText.{shape_of_text}
 use Rattle.sg_own.specs.sg_safe.Reasons.{IsReason, unsafe_in}

@@ -8,7 +8,6 @@ use Rattle.sg_explain.specs.sg_facts.Words.{line_end}
 use Rattle.sg_own.specs.sg_described.declared.bounds.Bounds.{Bounds}
 use Rattle.sg_own.specs.sg_safe.declared.reason.FailingCall.{FailingCall}
 use Rattle.sg_own.specs.sg_safe.declared.reason.KnownField.{KnownField}
-use Rattle.sg_own.specs.sg_safe.declared.reason.KnownSpot.{KnownSpot}
 use Rattle.sg_own.specs.sg_safe.declared.reason.Obstacle.{Obstacle}
 use Rattle.sg_own.specs.sg_safe.declared.reason.Obstacle.TheVariants.{ByRule, NoClient, PastMost}
 use Rattle.sg_own.specs.sg_safe.declared.reason.Unsafe.{Unsafe}

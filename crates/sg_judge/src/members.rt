@@ -178,9 +178,12 @@ fn member_flaw(members: &[AnyInterface], iface: &Interface) -> Option<&'static s
 fn has_service(members: &[AnyInterface], iface: &Interface) -> bool
     ensures { result ≡ has_service (interfaces_of members.now) iface.now }
 {
-    members
-        .iter()
-        .any(|member| is_of_its_service(member, iface))
+    'members: for member in members {
+        if is_of_its_service(member, iface) {
+            return true;
+        }
+    }
+    false
 }
 
 // Whether an interface is of the service of a member.

@@ -5,7 +5,6 @@ use Rattle.std.proofs.lemmas.Result.{IfOk-weaker}
 use Rattle.sg_explain.specs.sg_facts.Facts.{facts_of}
 use Rattle.sg_explain.specs.sg_input.sg_print.sg_parse.Grammar.Parses.{Parses}
 use Rattle.sg_judge.specs.Inside.Examined.{IsExaminedAs}
-use Rattle.sg_judge.specs.declared.examining.Examined.{Examined}
 use Rattle.sg_judge.proofs.Texts.{not_own}
 use Rattle.sg_judge.proofs.examining.examine_tree.Goals as goal
 

@@ -6,7 +6,7 @@ use Rattle.std.proofs.lemmas.List.{get_or-map, length-map}
 use Rattle.sg_explain.specs.sg_facts.Facts.{facts_of}
 use Rattle.sg_explain.specs.sg_input.declared.read.Read.TheVariants.{Refused, Ready}
 use Rattle.sg_judge.specs.Inside.Examined.{IsMemberOf}
-use Rattle.sg_judge.proofs.Members.{members_more}
+use Rattle.sg_judge.proofs.OneMore.{members_more}
 use Rattle.sg_judge.proofs.members.members_of.Goals as goal
 
 pub returns-in-Refused : goal.returns-in-Refused

@@ -1,5 +1,5 @@
 -- Its texts, and what they are.
-use Rattle.std.proofs.Common.{map, subst, inl, inr}
+use Rattle.std.proofs.Common.{map, subst}
 use Rattle.std.proofs.lemmas.Result.{IfOk-weaker}
 use Rattle.sg_explain.specs.sg_facts.Facts.{facts_of}
 use Rattle.sg_explain.specs.sg_input.Inside.Parted.{AreMultiInputTexts}

@@ -1,5 +1,5 @@
 -- There are few members, and the input is what its script is; or a text is refused after those before it.
-use Rattle.std.proofs.Common.{inl, inr, ℕ, List, ◌≡◌, arith, map, ap, sym, ◌∙◌, subst}
+use Rattle.std.proofs.Common.{inl, inr, ℕ, List, arith, map, sym, subst}
 use Rattle.std.proofs.lemmas.List.{length-map}
 use Rattle.std.proofs.lemmas.Result.{IfOk-weaker}
 use Rattle.sg_explain.specs.sg_facts.Facts.{facts_of}

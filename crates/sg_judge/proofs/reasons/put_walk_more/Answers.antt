@@ -1,5 +1,5 @@
 -- The shape is one; what isn't told of a walk is that it begins with what can't be done again.
-use Rattle.std.proofs.Common.{◌≡◌, ℕ, List, sym, subst, ◌∙◌}
+use Rattle.std.proofs.Common.{sym, subst, ◌∙◌}
 use Rattle.std.specs.Prelude.{OnOk}
 use Rattle.sg_explain.specs.sg_facts.Facts.{facts_of}
 use Rattle.sg_own.proofs.Itself.{fits_itself}
