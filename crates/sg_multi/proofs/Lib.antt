@@ -1,3 +1,4 @@
+pub mod Arms
 pub mod Asking
 pub mod Beginning
 pub mod Calling

@@ -1,5 +1,5 @@
 -- The services that members are of: built in, or of one's own, by a description.
-use Rattle.std.specs.Prelude.{◌≡◌}
+use Rattle.std.specs.Prelude.{ℕ, ◌≡◌}
 use Rattle.sg_facts.specs.Interface.{Declared}
 use Rattle.sg_facts.specs.Object.{Object}
 use Rattle.sg_interpret.specs.sg_described.Described.{Described, described_of}
@@ -64,6 +64,12 @@ IsFit (Own d) = IsSafe (described_of d)
 pub record IsOfServed (i : Declared) (served : Served) : Type 0 where
   pub fit : IsFit served
   pub its : i.facts ≡ (answering_at served).facts
+
+-- ---- the places of members
+
+-- the greatest number of members, of which each may be of a service of one's own
+abbrev pub most_places : ℕ
+most_places = 6
 
 -- the description of a service of one's own was picked
 abbrev pub IsPicked : Described → Served → Type 0
