@@ -24,4 +24,7 @@ pub use laws::{flawless_texts_are_plain, one_verdict};
 pub use making::MOST_UNSAID;
 pub use said::{most_said, proto_place, rules_said};
 pub use sg_described::{Bounds, Description};
-pub use sg_shape::{NoMemory, Rule, Shape, ShapeError, ShapeFaultKind, Statement, Tree, shape_of};
+pub use sg_shape::{
+    MOST_PARAMS, MOST_RULES, NoMemory, Rule, Service, Shape, ShapeError, ShapeFaultKind, Statement,
+    Tree, parse, shape_of,
+};

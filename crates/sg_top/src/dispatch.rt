@@ -6,7 +6,7 @@ ghost use Rattle.sg_explore.specs.Tried.{most_paired};
 ghost use Rattle.sg_explore.specs.sg_shared.Runs.{IsRunOf};
 ghost use Rattle.sg_load.specs.Services.{answering, facts_by};
 ghost use Rattle.sg_load.specs.sg_plain.Playing.Playable.{IsPlayable};
-ghost use Rattle.sg_top.specs.Inside.Plays.{IsFit, MayBePlayedOn, answering_at};
+ghost use Rattle.sg_top.specs.Inside.Plays.{IsFit, IsOfServed, MayBePlayedOn, answering_at};
 
 use crate::job::Job;
 use crate::own::{at_own, explore_own, share_own};
@@ -62,7 +62,9 @@ pub fn share_served<R: Threads + Wait + Sync, G: Gate>(
     script: Script,
     gate: &G,
 ) -> Result<Played, NoMemory>
-    requires { MayBePlayedOn accepted.now served script }
+    requires service { IsOfServed accepted.now served }
+    requires playable { IsPlayable accepted.now script }
+    requires stops { AscendsAbove 0 script.stops }
     ensures { IfOk result (IsRunOf accepted.now (answering_at served) script) }
 {
     match served {

@@ -5,6 +5,7 @@ pub mod RamfsRows
 pub mod SchedRows
 pub mod TimerRows
 pub mod Written
+pub use Rattle.sg_facts.specs as sg_facts
 pub use Rattle.sg_load.specs.Services.sg_event
 pub use Rattle.sg_load.specs.Services.sg_lock
 pub use Rattle.sg_load.specs.Services.sg_mm

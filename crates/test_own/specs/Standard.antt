@@ -13,7 +13,7 @@ use Rattle.sg_shape.specs.sg_check_statements.sg_parse.sg_lex.Lexeme.{Spelling}
 -- ---- parts of trees
 
 -- a name at place 0
-abbrev named : List ℕ → Spelling
+abbrev pub named : List ℕ → Spelling
 named bytes = record { bytes = bytes; at = 0 }
 
 -- a type of one name

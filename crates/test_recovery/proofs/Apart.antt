@@ -1,9 +1,9 @@
 -- What can't be.
 use Rattle.std.proofs.Common.{◌≡◌, ◌⊎◌, inl, inr, ℕ, true, false, List, [], ◌∷◌, None, Some, Option, arith}
-use Rattle.sg_facts.specs.sg_base.declared.call.Call.{Call}
-use Rattle.sg_facts.specs.sg_base.declared.reply.Reply.{Reply}
-use Rattle.sg_facts.specs.sg_base.declared.value.Value.{Value}
-use Rattle.sg_facts.specs.sg_base.declared.value.Value.TheVariants.{Word, Text}
+use Rattle.test_histories.specs.sg_facts.sg_base.declared.call.Call.{Call}
+use Rattle.test_histories.specs.sg_facts.sg_base.declared.reply.Reply.{Reply}
+use Rattle.test_histories.specs.sg_facts.sg_base.declared.value.Value.{Value}
+use Rattle.test_histories.specs.sg_facts.sg_base.declared.value.Value.TheVariants.{Word, Text}
 use Rattle.sg_recovery_laws.specs.sg_hist.Inside.Reads.{desc_of}
 
 pub false_true : false ≡ true → ⊥

@@ -1,6 +1,6 @@
 -- The runs under an interface that rebuilds every lock first, computed.
 use Rattle.std.proofs.Common.{◌≡◌, ap, inl, refl, arith, true}
-use Rattle.sg_facts.specs.sg_base.Lists.{Each}
+use Rattle.test_histories.specs.sg_facts.sg_base.Lists.{Each}
 use Rattle.sg_recovery_laws.specs.sg_hist.Reading.{places_of}
 use Rattle.sg_recovery_laws.specs.sg_hist.Recovered.{ArePointsOf, IsRebooted, IsRecovered, IsServed, waiting}
 use Rattle.sg_recovery_laws.specs.sg_hist.Inside.Parts.{IsDemanded, IsTrackedAt, IsWalked}

@@ -1,8 +1,8 @@
 -- Runs that end as none may, or whose calls are under way at the wrong time: what each of them lacks.
 use Rattle.std.proofs.Common.{◌≡◌, ℕ, zero, suc, ◌<◌, ◌≤◌, ◌-◌, true, ap, arith, inl, inr, refl, subst, sym}
 use Rattle.std.specs.Prelude.{[], ◌∷◌, slice_index_or}
-use Rattle.sg_facts.specs.sg_base.Counts.{last_count}
-use Rattle.sg_facts.specs.sg_base.declared.call.Call.{Call}
+use Rattle.test_histories.specs.sg_facts.sg_base.Counts.{last_count}
+use Rattle.test_histories.specs.sg_facts.sg_base.declared.call.Call.{Call}
 use Rattle.sg_recovery_laws.specs.sg_hist.Recovered.{ArePointsOf, IsRecovered, waiting}
 use Rattle.sg_recovery_laws.specs.sg_hist.Ending.{AreLost, AsksAfter, HasRecovered}
 use Rattle.test_recovery.specs.LockRuns.{lock_stubs}

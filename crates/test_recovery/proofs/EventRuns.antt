@@ -1,6 +1,6 @@
 -- The runs of the event service, computed.
 use Rattle.std.proofs.Common.{arith, inl, inr, refl, true}
-use Rattle.sg_facts.specs.sg_base.Lists.{Each}
+use Rattle.test_histories.specs.sg_facts.sg_base.Lists.{Each}
 use Rattle.test_recovery.specs.EventRuns.{event_stubs, trigger_not_twice, trigger_not_twice_ends, trigger_not_twice_history, present_value, present_value_ends, present_value_history, blocked_redone, blocked_redone_ends, blocked_redone_history}
 use Rattle.sg_recovery_laws.specs.sg_hist.Reading.{places_of}
 use Rattle.sg_recovery_laws.specs.sg_hist.Recovered.{ArePointsOf, IsRebooted, IsRecovered, IsServed, waiting}

@@ -1,7 +1,7 @@
 -- The runs of the lock service that do not recover: what each of them lacks.
 use Rattle.std.proofs.Common.{◌≡◌, ap, arith, inl, refl, subst, sym, ◌∙◌}
 use Rattle.std.specs.Prelude.{ℕ, ◌&&◌, nat_le, nat_lt, false, true, not, Some, [], ◌∷◌, find}
-use Rattle.sg_facts.specs.sg_base.Lists.{Each}
+use Rattle.test_histories.specs.sg_facts.sg_base.Lists.{Each}
 use Rattle.sg_recovery_laws.proofs.Lists.{each_contains}
 use Rattle.std.proofs.lemmas.Bool.Decides.{nat_tests}
 use Rattle.test_recovery.specs.LockRuns.{lock_stubs, out_of_order, two_makers_ends, two_makers_history, another_id, boot_without_a_stop, asked_after_a_stop, reply_without_an_item, taken_twice, walk_from_its_middle, walk_by_another, walk_too_long, rebuilt_for_nobody, rebuilt_too_late, served_without_a_walk, half_a_walk, stop_at_another_number, point_asked_in_vain, point_left_out, rebuilt_needlessly, stop_after_take_ends, stop_after_take_history, stop_before_storage_ends, stop_before_storage_history, two_locks_ends, two_locks_history}
@@ -10,7 +10,7 @@ use Rattle.sg_recovery_laws.specs.sg_hist.Inside.Parts.{calls_made}
 use Rattle.sg_recovery_laws.specs.sg_hist.Reading.{Position, is_whole_at, object_before}
 use Rattle.test_histories.specs.Written.{ok, ok_at}
 use Rattle.test_recovery.specs.Written.{bare_call, called, replied, walked}
-use Rattle.sg_facts.specs.Needs.{wanted}
+use Rattle.test_histories.specs.sg_facts.Needs.{wanted}
 use Rattle.test_recovery.proofs.Apart.{caller_of, desc_given, false_true, id_in, neither, none_some, not_empty}
 
 -- the third call alone may be under way

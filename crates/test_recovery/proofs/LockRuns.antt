@@ -1,6 +1,6 @@
 -- The runs of the lock service, computed.
 use Rattle.std.proofs.Common.{inl, refl, arith, true}
-use Rattle.sg_facts.specs.sg_base.Lists.{Each}
+use Rattle.test_histories.specs.sg_facts.sg_base.Lists.{Each}
 use Rattle.test_recovery.specs.LockRuns.{lock_stubs, stop_after_take, stop_after_take_ends, stop_after_take_history, stop_before_storage, stop_before_storage_ends, stop_before_storage_history, stop_in_walk, stop_in_walk_ends, stop_in_walk_history}
 use Rattle.sg_recovery_laws.specs.sg_hist.Reading.{places_of}
 use Rattle.sg_recovery_laws.specs.sg_hist.Recovered.{ArePointsOf, IsRebooted, IsRecovered, IsServed, waiting}

@@ -4,16 +4,16 @@ use Rattle.std.specs.Prelude.{◌==◌, if◌then◌else◌, nat_le, nat_lt, not
 use Rattle.std.specs.Int.{bit_at}
 use Rattle.std.proofs.lemmas.Bool.Decides.{nat_tests}
 use Rattle.std.proofs.lemmas.Nat.Bits.{bit_at_above}
-use Rattle.sg_facts.specs.sg_base.Lists.{Each}
-use Rattle.sg_facts.specs.declared.tables.WalkLine.{WalkLine}
-use Rattle.sg_facts.specs.Facts.{fun_at, state_after}
-use Rattle.sg_facts.specs.Fields.{number_of}
-use Rattle.sg_facts.specs.Fits.{Fits, IsReached, move, needs_reach, step}
-use Rattle.sg_facts.specs.Inside.Walking.{LeavesDeclared, IsAscending, may_go_on, no_worse, restores_at}
-use Rattle.sg_facts.specs.Interface.{Declared, declares, has_pair, moves_on, steps_on}
-use Rattle.sg_facts.specs.Laws.{whole}
-use Rattle.sg_facts.specs.Tables.{AreTables, walk_of}
-use Rattle.sg_facts.specs.Walks.{IsReachable, IsWalkOf, begin_of, first_spot, made, may_lead, most_calls, moved, next_spot, no_later, restores}
+use Rattle.test_histories.specs.sg_facts.sg_base.Lists.{Each}
+use Rattle.test_histories.specs.sg_facts.declared.tables.WalkLine.{WalkLine}
+use Rattle.test_histories.specs.sg_facts.Facts.{fun_at, state_after}
+use Rattle.test_histories.specs.sg_facts.Fields.{number_of}
+use Rattle.test_histories.specs.sg_facts.Fits.{Fits, IsReached, move, needs_reach, step}
+use Rattle.test_histories.specs.sg_facts.Inside.Walking.{LeavesDeclared, IsAscending, may_go_on, no_worse, restores_at}
+use Rattle.test_histories.specs.sg_facts.Interface.{Declared, declares, has_pair, moves_on, steps_on}
+use Rattle.test_histories.specs.sg_facts.Laws.{whole}
+use Rattle.test_histories.specs.sg_facts.Tables.{AreTables, walk_of}
+use Rattle.test_histories.specs.sg_facts.Walks.{IsReachable, IsWalkOf, begin_of, first_spot, made, may_lead, most_calls, moved, next_spot, no_later, restores}
 use Rattle.test_histories.specs.sg_lock.LockFacts.{lock_facts}
 use Rattle.sg_recovery_laws.proofs.Lists.{each_contains}
 use Rattle.test_recovery.specs.LockRuns.{lock_walks}

@@ -1,6 +1,6 @@
 -- The runs of the mm service, computed.
 use Rattle.std.proofs.Common.{arith, inr, refl, true}
-use Rattle.sg_facts.specs.sg_base.Lists.{Each}
+use Rattle.test_histories.specs.sg_facts.sg_base.Lists.{Each}
 use Rattle.std.specs.Prelude.{[], ◌∷◌}
 use Rattle.test_recovery.specs.MmRuns.{mm_stubs, parent_first, parent_first_ends, parent_first_history, occupied_after_stop, occupied_after_stop_ends, occupied_after_stop_history, subtree, subtree_ends, subtree_history}
 use Rattle.sg_recovery_laws.specs.sg_hist.Reading.{places_of}

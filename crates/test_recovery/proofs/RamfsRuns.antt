@@ -1,6 +1,6 @@
 -- The runs of the ramfs service, computed.
 use Rattle.std.proofs.Common.{arith, inl, inr, refl, true}
-use Rattle.sg_facts.specs.sg_base.Lists.{Each}
+use Rattle.test_histories.specs.sg_facts.sg_base.Lists.{Each}
 use Rattle.std.specs.Prelude.{[], ◌∷◌}
 use Rattle.test_recovery.specs.RamfsRuns.{ramfs_stubs, file_loaded, file_loaded_ends, file_loaded_history, held_late, held_late_ends, held_late_history, held_lost, held_lost_ends, held_lost_history}
 use Rattle.sg_recovery_laws.specs.sg_hist.Reading.{places_of}

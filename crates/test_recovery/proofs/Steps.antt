@@ -1,9 +1,9 @@
 -- A run of locks that recovers so far, step by step.
 use Rattle.std.proofs.Common.{◌≤◌, refl, arith, [], ◌∷◌, None, Some}
 use Rattle.std.proofs.lemmas.List.Elements.{Contains-append_left}
-use Rattle.sg_facts.specs.sg_base.declared.call.Call.{Call}
-use Rattle.sg_facts.specs.declared.entry.Entry.{Entry}
-use Rattle.sg_facts.specs.declared.trace.Item.{Item}
+use Rattle.test_histories.specs.sg_facts.sg_base.declared.call.Call.{Call}
+use Rattle.test_histories.specs.sg_facts.declared.entry.Entry.{Entry}
+use Rattle.test_histories.specs.sg_facts.declared.trace.Item.{Item}
 use Rattle.test_recovery.specs.LockRuns.{lock_stubs, rebuilt_for_take}
 use Rattle.test_histories.specs.Written.{entry, ok_at}
 use Rattle.test_recovery.specs.Written.{bare_call, called, replied, walked}

@@ -2,8 +2,8 @@
 use Rattle.std.proofs.Common.{◌≡◌, ◌≤◌, arith, inl, refl, subst, sym}
 use Rattle.std.specs.Prelude.{ℕ, ◌&&◌, ◌<◌, None, [], ◌∷◌, nat_lt, true}
 use Rattle.std.proofs.lemmas.Bool.Decides.{nat_tests}
-use Rattle.sg_facts.specs.sg_base.Lists.{Each}
-use Rattle.sg_facts.specs.Guard.{guard}
+use Rattle.test_histories.specs.sg_facts.sg_base.Lists.{Each}
+use Rattle.test_histories.specs.sg_facts.Guard.{guard}
 use Rattle.sg_recovery_laws.specs.sg_hist.Reading.{Position, object_before}
 use Rattle.sg_recovery_laws.specs.sg_hist.Recovered.{IsRebuiltFor, IsRecovered}
 use Rattle.sg_recovery_laws.specs.sg_hist.Inside.Parts.{calls_made}

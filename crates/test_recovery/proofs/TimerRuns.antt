@@ -1,6 +1,6 @@
 -- The runs of the timer service, computed.
 use Rattle.std.proofs.Common.{arith, inr, refl, true}
-use Rattle.sg_facts.specs.sg_base.Lists.{Each}
+use Rattle.test_histories.specs.sg_facts.sg_base.Lists.{Each}
 use Rattle.test_recovery.specs.TimerRuns.{timer_stubs, time_kept, time_kept_ends, time_kept_history}
 use Rattle.sg_recovery_laws.specs.sg_hist.Reading.{places_of}
 use Rattle.sg_recovery_laws.specs.sg_hist.Recovered.{ArePointsOf, IsRebooted, IsRecovered, IsServed, waiting}

@@ -1,9 +1,9 @@
 -- Runs of the lock service under an interface that rebuilds every lock before any call is served. Its functions: 1 lock_alloc,
 -- 2 lock_take, 3 lock_release, 4 lock_free.
 use Rattle.std.specs.Prelude.{ℕ, true, List, [], ◌∷◌, None, Some}
-use Rattle.sg_facts.specs.declared.entry.Entry.{Entry}
-use Rattle.sg_facts.specs.Laws.{whole}
-use Rattle.sg_facts.specs.Trace.{Run}
+use Rattle.test_histories.specs.sg_facts.declared.entry.Entry.{Entry}
+use Rattle.test_histories.specs.sg_facts.Laws.{whole}
+use Rattle.test_histories.specs.sg_facts.Trace.{Run}
 use Rattle.sg_recovery_laws.specs.sg_hist.declared.ended.End.{End}
 use Rattle.sg_recovery_laws.specs.sg_hist.declared.ended.End.TheVariants.{Done}
 use Rattle.sg_recovery_laws.specs.sg_hist.Recovered.{Stubs}

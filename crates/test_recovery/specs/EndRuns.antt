@@ -1,14 +1,14 @@
 -- Runs that end as none may, or whose calls are under way at the wrong time; and one beside them that ended well.
 use Rattle.std.specs.Prelude.{ℕ, List, [], ◌∷◌, ◌++◌, None, Some, codes}
-use Rattle.sg_facts.specs.sg_base.declared.call.Call.{Call}
-use Rattle.sg_facts.specs.sg_base.declared.reply.Code.TheVariants.{Held, NoDesc}
-use Rattle.sg_facts.specs.sg_base.declared.reply.Reply.TheVariants.{Refused}
-use Rattle.sg_facts.specs.declared.entry.Entry.{Entry}
-use Rattle.sg_facts.specs.declared.outcome.Outcome.TheVariants.{Blocks, Stopped}
-use Rattle.sg_facts.specs.declared.trace.Item.{Item}
-use Rattle.sg_facts.specs.declared.trace.Tag.TheVariants.{Load}
-use Rattle.sg_facts.specs.sg_base.Counts.{last_count}
-use Rattle.sg_facts.specs.Trace.{Boot, Run}
+use Rattle.test_histories.specs.sg_facts.sg_base.declared.call.Call.{Call}
+use Rattle.test_histories.specs.sg_facts.sg_base.declared.reply.Code.TheVariants.{Held, NoDesc}
+use Rattle.test_histories.specs.sg_facts.sg_base.declared.reply.Reply.TheVariants.{Refused}
+use Rattle.test_histories.specs.sg_facts.declared.entry.Entry.{Entry}
+use Rattle.test_histories.specs.sg_facts.declared.outcome.Outcome.TheVariants.{Blocks, Stopped}
+use Rattle.test_histories.specs.sg_facts.declared.trace.Item.{Item}
+use Rattle.test_histories.specs.sg_facts.declared.trace.Tag.TheVariants.{Load}
+use Rattle.test_histories.specs.sg_facts.sg_base.Counts.{last_count}
+use Rattle.test_histories.specs.sg_facts.Trace.{Boot, Run}
 use Rattle.sg_recovery_laws.specs.sg_hist.declared.ended.End.{End}
 use Rattle.sg_recovery_laws.specs.sg_hist.declared.ended.End.TheVariants.{Blocked, Done}
 use Rattle.test_histories.specs.Written.{entry, ok, ok_at, ok_with}

@@ -1,10 +1,10 @@
 -- Runs of the event service. Its functions: 1 evt_split, 2 evt_wait, 3 evt_trigger, 4 evt_free.
 use Rattle.std.specs.Prelude.{ℕ, List, [], ◌∷◌, None, Some}
-use Rattle.sg_facts.specs.declared.entry.Entry.{Entry}
-use Rattle.sg_facts.specs.declared.outcome.Outcome.TheVariants.{Blocks}
-use Rattle.sg_facts.specs.declared.tables.WalkLine.{WalkLine}
-use Rattle.sg_facts.specs.Laws.{whole}
-use Rattle.sg_facts.specs.Trace.{Run}
+use Rattle.test_histories.specs.sg_facts.declared.entry.Entry.{Entry}
+use Rattle.test_histories.specs.sg_facts.declared.outcome.Outcome.TheVariants.{Blocks}
+use Rattle.test_histories.specs.sg_facts.declared.tables.WalkLine.{WalkLine}
+use Rattle.test_histories.specs.sg_facts.Laws.{whole}
+use Rattle.test_histories.specs.sg_facts.Trace.{Run}
 use Rattle.sg_recovery_laws.specs.sg_hist.declared.ended.End.{End}
 use Rattle.sg_recovery_laws.specs.sg_hist.declared.ended.End.TheVariants.{Blocked, Done}
 use Rattle.test_histories.specs.sg_event.EventFacts.{event_facts}

@@ -9,4 +9,4 @@ pub mod StrictRuns
 pub mod TimerRuns
 pub mod Written
 pub use Rattle.test_histories.specs as test_histories
-pub use Rattle.sg_facts.specs as sg_facts
+pub use Rattle.test_histories.specs.sg_facts as sg_facts

@@ -1,11 +1,11 @@
 -- Runs of the ramfs service. Its functions: 1 tsplit, 2 tread, 3 twrite, 4 tseek, 5 trelease.
 use Rattle.std.specs.Prelude.{ℕ, List, [], ◌∷◌, None, Some, codes}
-use Rattle.sg_facts.specs.sg_base.declared.reply.Code.TheVariants.{Gap, NoDesc}
-use Rattle.sg_facts.specs.sg_base.declared.reply.Reply.TheVariants.{Refused}
-use Rattle.sg_facts.specs.declared.entry.Entry.{Entry}
-use Rattle.sg_facts.specs.declared.tables.WalkLine.{WalkLine}
-use Rattle.sg_facts.specs.Laws.{whole}
-use Rattle.sg_facts.specs.Trace.{Run}
+use Rattle.test_histories.specs.sg_facts.sg_base.declared.reply.Code.TheVariants.{Gap, NoDesc}
+use Rattle.test_histories.specs.sg_facts.sg_base.declared.reply.Reply.TheVariants.{Refused}
+use Rattle.test_histories.specs.sg_facts.declared.entry.Entry.{Entry}
+use Rattle.test_histories.specs.sg_facts.declared.tables.WalkLine.{WalkLine}
+use Rattle.test_histories.specs.sg_facts.Laws.{whole}
+use Rattle.test_histories.specs.sg_facts.Trace.{Run}
 use Rattle.sg_recovery_laws.specs.sg_hist.declared.ended.End.{End}
 use Rattle.sg_recovery_laws.specs.sg_hist.declared.ended.End.TheVariants.{Done}
 use Rattle.test_histories.specs.sg_ramfs.RamfsFacts.{ramfs_facts}

@@ -1,10 +1,10 @@
 -- Runs of the sched service. Its functions: 1 sched_create_thd, 2 sched_yield, 3 sched_sleep, 4 sched_wakeup, 5 sched_wait, 6 sched_next, 7 sched_place, 8 sched_exit.
 use Rattle.std.specs.Prelude.{ℕ, List, [], ◌∷◌, None, Some}
-use Rattle.sg_facts.specs.declared.entry.Entry.{Entry}
-use Rattle.sg_facts.specs.declared.outcome.Outcome.TheVariants.{Blocks}
-use Rattle.sg_facts.specs.declared.tables.WalkLine.{WalkLine}
-use Rattle.sg_facts.specs.Laws.{whole}
-use Rattle.sg_facts.specs.Trace.{Run}
+use Rattle.test_histories.specs.sg_facts.declared.entry.Entry.{Entry}
+use Rattle.test_histories.specs.sg_facts.declared.outcome.Outcome.TheVariants.{Blocks}
+use Rattle.test_histories.specs.sg_facts.declared.tables.WalkLine.{WalkLine}
+use Rattle.test_histories.specs.sg_facts.Laws.{whole}
+use Rattle.test_histories.specs.sg_facts.Trace.{Run}
 use Rattle.sg_recovery_laws.specs.sg_hist.declared.ended.End.{End}
 use Rattle.sg_recovery_laws.specs.sg_hist.declared.ended.End.TheVariants.{Done}
 use Rattle.test_histories.specs.sg_sched.SchedFacts.{sched_facts}

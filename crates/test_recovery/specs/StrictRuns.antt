@@ -1,15 +1,15 @@
 -- Runs that do not recover, each for one reason alone: a client's own order, the guard, a call that would have been answered, the
 -- boot of a held reply, boots that were for nothing, and walks of other tables.
 use Rattle.std.specs.Prelude.{ℕ, List, [], ◌∷◌, None, Some, codes}
-use Rattle.sg_facts.specs.sg_base.declared.call.Call.{Call}
-use Rattle.sg_facts.specs.sg_base.declared.reply.Code.TheVariants.{BadState, NoDesc}
-use Rattle.sg_facts.specs.sg_base.declared.reply.Reply.TheVariants.{Refused}
-use Rattle.sg_facts.specs.declared.entry.Entry.{Entry}
-use Rattle.sg_facts.specs.declared.outcome.Outcome.TheVariants.{Stopped}
-use Rattle.sg_facts.specs.declared.tables.WalkLine.{WalkLine}
-use Rattle.sg_facts.specs.declared.trace.Item.{Item}
-use Rattle.sg_facts.specs.Laws.{whole}
-use Rattle.sg_facts.specs.Trace.{Run}
+use Rattle.test_histories.specs.sg_facts.sg_base.declared.call.Call.{Call}
+use Rattle.test_histories.specs.sg_facts.sg_base.declared.reply.Code.TheVariants.{BadState, NoDesc}
+use Rattle.test_histories.specs.sg_facts.sg_base.declared.reply.Reply.TheVariants.{Refused}
+use Rattle.test_histories.specs.sg_facts.declared.entry.Entry.{Entry}
+use Rattle.test_histories.specs.sg_facts.declared.outcome.Outcome.TheVariants.{Stopped}
+use Rattle.test_histories.specs.sg_facts.declared.tables.WalkLine.{WalkLine}
+use Rattle.test_histories.specs.sg_facts.declared.trace.Item.{Item}
+use Rattle.test_histories.specs.sg_facts.Laws.{whole}
+use Rattle.test_histories.specs.sg_facts.Trace.{Run}
 use Rattle.sg_recovery_laws.specs.sg_hist.declared.ended.End.{End}
 use Rattle.sg_recovery_laws.specs.sg_hist.declared.ended.End.TheVariants.{Done}
 use Rattle.sg_recovery_laws.specs.sg_hist.Recovered.{Stubs}

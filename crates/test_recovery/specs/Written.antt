@@ -1,15 +1,15 @@
 -- Runs written out: short words for calls, replies and items.
 use Rattle.std.specs.Prelude.{ℕ, List, [], None, Some}
-use Rattle.sg_facts.specs.sg_base.declared.value.Value.{Value}
-use Rattle.sg_facts.specs.sg_base.declared.value.Value.TheVariants.{Word, Text}
+use Rattle.test_histories.specs.sg_facts.sg_base.declared.value.Value.{Value}
+use Rattle.test_histories.specs.sg_facts.sg_base.declared.value.Value.TheVariants.{Word, Text}
 use Rattle.std.specs.declared.option.Option.{Option}
-use Rattle.sg_facts.specs.sg_base.declared.call.Call.{Call}
-use Rattle.sg_facts.specs.sg_base.declared.reply.Reply.{Reply}
-use Rattle.sg_facts.specs.declared.outcome.Outcome.{Outcome}
-use Rattle.sg_facts.specs.declared.outcome.Outcome.TheVariants.{Replied}
-use Rattle.sg_facts.specs.declared.trace.Item.{Item}
-use Rattle.sg_facts.specs.declared.trace.Tag.TheVariants.{Walk, Load, Client}
-use Rattle.sg_facts.specs.Trace.{Boot}
+use Rattle.test_histories.specs.sg_facts.sg_base.declared.call.Call.{Call}
+use Rattle.test_histories.specs.sg_facts.sg_base.declared.reply.Reply.{Reply}
+use Rattle.test_histories.specs.sg_facts.declared.outcome.Outcome.{Outcome}
+use Rattle.test_histories.specs.sg_facts.declared.outcome.Outcome.TheVariants.{Replied}
+use Rattle.test_histories.specs.sg_facts.declared.trace.Item.{Item}
+use Rattle.test_histories.specs.sg_facts.declared.trace.Tag.TheVariants.{Walk, Load, Client}
+use Rattle.test_histories.specs.sg_facts.Trace.{Boot}
 
 -- a call without arguments: its client, its number among the client's, the function's number, the descriptor or parent
 abbrev pub bare_call : ℕ → ℕ → ℕ → ℕ → Call

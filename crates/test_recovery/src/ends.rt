@@ -1,6 +1,6 @@
 // Runs that end as none may, or whose calls are under way at the wrong time.
 ghost use Rattle.std.specs.Prelude.{◌∷◌, ◌-◌, [], true};
-ghost use Rattle.sg_facts.specs.sg_base.Counts.{last_count};
+ghost use Rattle.test_histories.specs.sg_facts.sg_base.Counts.{last_count};
 ghost use Rattle.sg_recovery_laws.specs.sg_hist.Recovered.{ArePointsOf, IsRecovered, waiting};
 ghost use Rattle.sg_recovery_laws.specs.sg_hist.Ending.{AreLost, HasRecovered};
 ghost use Rattle.test_recovery.specs.LockRuns.{lock_stubs};

@@ -9,6 +9,7 @@
 //! - `gate`: two clients in threads of their own, of which one waits for the other at the gate
 //! - `inputs`: runs whose inputs are made: long ones, other interfaces, and what is refused
 //! - `own`: a service of one's own at its limits, by a text as long as one may be
+//! - `rewritten`: locks and events that texts describe print what the built-in ones do, on 500 drawn scripts each
 //! - `several`: plays over several services
 //! - `stops`: runs with a stop at each point, and with two
 #![tactic(auto)]
@@ -25,6 +26,8 @@ mod gate;
 mod inputs;
 #[cfg(test)]
 mod own;
+#[cfg(test)]
+mod rewritten;
 #[cfg(test)]
 mod runs;
 #[cfg(test)]
