@@ -3,8 +3,7 @@ use Rattle.std.proofs.Common.{◌≡◌, ◌∙◌, ℕ, sym, ap, subst}
 use Rattle.std.specs.Prelude.{IfOk}
 use Rattle.std.specs.declared.result.Result.{Result}
 use Rattle.sg_interpret.specs.declared.describes.Describes.{Ghosts}
-use Rattle.sg_multi.specs.Members.{Membered, setting_in, view_in}
-use Rattle.sg_multi.specs.Inside.Worlds.{membered}
+use Rattle.sg_multi.specs.Members.{Membered, membered, setting_in, view_in}
 use Rattle.sg_multi.specs.declared.member.AnyWorld.{AnyWorld}
 use Rattle.sg_multi.specs.declared.member.Member.TheInside.{Inside}
 use Rattle.sg_sim.specs.sg_world.Steps.{AnswersLast, HasStepped}

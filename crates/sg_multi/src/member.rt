@@ -5,8 +5,7 @@ ghost use Rattle.sg_facts.specs.Limits.{last_client};
 ghost use Rattle.sg_interpret.specs.sg_described.Described.{described_of};
 ghost use Rattle.sg_interpret.specs.sg_described.Safe.{made_safe};
 ghost use Rattle.sg_load.specs.Services.{facts_by};
-ghost use Rattle.sg_multi.specs.Inside.Placed.{placed};
-ghost use Rattle.sg_multi.specs.Members.{IsNewMember};
+ghost use Rattle.sg_multi.specs.Members.{IsNewMember, placed};
 ghost use Rattle.sg_multi.specs.Serving.{IsPicked, answering_at, built_in, described, most_places, serving};
 
 use crate::served::Served;
@@ -48,8 +47,7 @@ pub struct Member<N: Describes> {
 }
 
 impl<N: Describes> Model for Member<N> {
-    ghost use Rattle.sg_multi.specs.Members.{Membered};
-    ghost use Rattle.sg_multi.specs.Inside.Worlds.{membered};
+    ghost use Rattle.sg_multi.specs.Members.{Membered, membered};
 
     ghost Value = { Membered };
 

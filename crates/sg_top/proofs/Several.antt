@@ -15,15 +15,16 @@ use Rattle.sg_judge.specs.sg_input.declared.read.Read.{Read}
 use Rattle.sg_judge.specs.sg_input.declared.read.Read.TheVariants.{Ready, Refused}
 use Rattle.sg_judge.specs.sg_input.sg_script.declared.multi.MultiScript.{MultiScript}
 use Rattle.sg_judge.proofs.sg_input.Gathering.{few_members}
-use Rattle.sg_load.specs.Services.{answering, facts_by, played_services}
-use Rattle.sg_load.specs.declared.kind.ServiceKind.{ServiceKind}
+use Rattle.sg_load.specs.Services.{played_services}
 use Rattle.sg_load.specs.sg_check_statements.Shapes.{IsSmall}
 use Rattle.sg_multi.specs.Members.{setting_by}
 use Rattle.sg_multi.specs.sg_sim.sg_world_laws.Setting.{stubs_of}
 use Rattle.sg_multi.specs.Playable.{IsMultiPlayable}
 use Rattle.sg_multi.specs.Played.{IsMultiPlayed, MultiCame, stubs_by}
 use Rattle.sg_multi.specs.Report.{multi_text_of}
+use Rattle.sg_multi.specs.Serving.{IsOfServed, answering_at, most_places, serving}
 use Rattle.sg_multi.specs.declared.play.MemberTables.{MemberTables}
+use Rattle.sg_multi.specs.declared.served.Served.{Served}
 use Rattle.sg_multi.proofs.Flawless.{multi_playable}
 use Rattle.sg_top.specs.Answer.{IsMultiOutput, multi_status, services}
 use Rattle.sg_top.specs.Headline.{IsMember}
@@ -32,7 +33,6 @@ use Rattle.sg_top.specs.Inside.Several.{AreMembersOf, IsMemberOf}
 use Rattle.sg_top.specs.declared.output.Ran.{Ran}
 use Rattle.sg_top.specs.declared.output.Ran.TheVariants.{Several}
 use Rattle.sg_top.specs.declared.status.Status.{Status}
-use Rattle.sg_top.proofs.EachKind.{is_served, its_facts}
 use Rattle.sg_top.proofs.Fitting.{interface_service}
 
 -- ---- inputs
@@ -71,17 +71,29 @@ shown_members interfaces shown members lent same is are = subst (λ l. AreMember
 
 -- the tables of the members are those of their services
 pub members_served : (interfaces : List Declared) (members : List MemberTables) → AreMembersOf interfaces members
-    → Each (λ (t : MemberTables). t.tables.iface.facts ≡ facts_by t.service) members
+    → Each (λ (t : MemberTables). IsOfServed t.tables.iface t.service) members
 members_served [] [] are = tt
 members_served [] (t ∷ members) are = absurd are
 members_served (i ∷ interfaces) [] are = tt
-members_served (i ∷ interfaces) (t ∷ members) (is, are) = (ap (λ (j : Declared). j.facts) is.iface ∙ sym is.service, members_served interfaces members are)
+members_served (i ∷ interfaces) (t ∷ members) (is, are) = (subst (λ j. IsOfServed j t.service) (sym is.iface) is.of, members_served interfaces members are)
 
 member_interfaces : (interfaces : List Declared) (members : List MemberTables) → AreMembersOf interfaces members → map (λ (t : MemberTables). t.tables.iface) members ≡ interfaces
 member_interfaces [] [] are = refl
 member_interfaces [] (t ∷ members) are = absurd are
 member_interfaces (i ∷ interfaces) [] are = absurd are
 member_interfaces (i ∷ interfaces) (t ∷ members) (is, are) = cc (is.iface, member_interfaces interfaces members are)
+
+-- there are no more than there are places
+pub members_few : (bytes : List ℕ) (interfaces : List Declared) (script : MultiScript) (members : List MemberTables) → IsMultiReady services bytes interfaces script → AreMembersOf interfaces members
+    → length members ≤ most_places
+members_few bytes interfaces script members ready are =
+    let few : length interfaces ≤ length services = few_members services ready.texts interfaces ready.accepted in omega (arith, few, as_many interfaces members are)
+  where
+    as_many : (some : List Declared) (theirs : List MemberTables) → AreMembersOf some theirs → length theirs ≡ length some
+    as_many [] [] are = refl
+    as_many [] (t ∷ theirs) are = absurd are
+    as_many (i ∷ some) [] are = absurd are
+    as_many (i ∷ some) (t ∷ theirs) (is, are) = ap suc (as_many some theirs are)
 
 -- the script may be played over them
 pub members_playable : (bytes : List ℕ) (interfaces : List Declared) (script : MultiScript) (members : List MemberTables) → IsMultiReady services bytes interfaces script
@@ -118,19 +130,19 @@ each_at P (i ∷ interfaces) zero d (one, all) within = one
 each_at P (i ∷ interfaces) (suc k) d (one, all) within = each_at P interfaces k d all (omega (arith, within))
 
 -- by what the run of a member is judged
-stubs_by_kind : (kind : ServiceKind) (tables : Compiled)
-    → stubs_of (setting_by kind tables) ≡ record { interface = tables.iface; ask = (answering kind).ask; parts = (answering kind).parts; walks = tables.walks }
-stubs_by_kind kind tables = refl
+stubs_by_served : (served : Served) (tables : Compiled)
+    → stubs_of (setting_by (serving served) tables) ≡ record { interface = tables.iface; ask = (answering_at served).ask; parts = (answering_at served).parts; walks = tables.walks }
+stubs_by_served served tables = refl
 
 is_member : (i : Declared) (t : MemberTables) → IsMemberOf i t → IsMember played_services i (stubs_by t)
 is_member i t is = record {
-  service = answering t.service;
-  is_served = is_served t.service;
-  its = sym (its_facts t.service) ∙ is.service;
+  service = answering_at t.service;
+  is_served = is.played;
+  its = sym is.of.its;
   walks = t.tables.walks;
   tables = is.walks;
-  is = stubs_by_kind t.service t.tables
-      ∙ ap (λ (j : Declared). record { interface = j; ask = (answering t.service).ask; parts = (answering t.service).parts; walks = t.tables.walks }) is.iface;
+  is = stubs_by_served t.service t.tables
+      ∙ ap (λ (j : Declared). record { interface = j; ask = (answering_at t.service).ask; parts = (answering_at t.service).parts; walks = t.tables.walks }) is.iface;
 }
 
 are_members : (interfaces : List Declared) (members : List MemberTables) → AreMembersOf interfaces members → AllZip (IsMember played_services) interfaces (map stubs_by members)

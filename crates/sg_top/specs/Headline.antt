@@ -12,8 +12,6 @@ use Rattle.sg_verify.specs.sg_report.sg_hist.Recovered.{Stubs}
 use Rattle.sg_verify.specs.sg_report.sg_hist.declared.ended.Ended.{Ended}
 use Rattle.sg_judge.specs.sg_input.Inputs.{IsReady}
 use Rattle.sg_judge.specs.sg_input.sg_parse.declared.tree.Tree.{Tree}
-use Rattle.sg_interpret.specs.sg_described.Described.{Described}
-use Rattle.sg_interpret.specs.sg_described.Meaning.{described_parts, described_table}
 use Rattle.sg_judge.specs.AnyInputs.{any_judging}
 use Rattle.sg_judge.specs.Said.{IsOfServices, IsOwnText}
 use Rattle.sg_judge.specs.sg_own.sg_describe.DescribedText.{described_of_text}
@@ -26,6 +24,7 @@ use Rattle.sg_judge.specs.sg_input.sg_script.declared.multi.MultiScript.{MultiSc
 use Rattle.sg_judge.specs.sg_input.sg_script.declared.script.Script.{Script}
 use Rattle.sg_multi.specs.Played.{IsMultiPlayed, MultiCame}
 use Rattle.sg_multi.specs.Report.{multi_text_of}
+use Rattle.sg_multi.specs.Serving.{described_answering}
 use Rattle.sg_explore.specs.sg_shared.Runs.{IsRunOf}
 use Rattle.sg_load.specs.sg_plain.Answering.{Answering}
 use Rattle.sg_explore.specs.sg_shared.sg_sim.Played.{FollowsSchedule}
@@ -50,10 +49,6 @@ IsShown Costs i ended written =
     (walks : List WalkLine) × AreTables i walks × (written ≡ cost_text_of i.facts (costs_at i walks ended.history.items (run_of ended.trace)))
 
 -- ---- services
-
--- a described service, as plays speak of it
-abbrev pub described_answering : Described → Answering
-described_answering d = record { facts = d.facts; ask = described_table d; parts = described_parts d }
 
 -- the text of an interface is of this service: it is one of these, or the one that the text describes
 abbrev pub IsServedBy : List Answering → List ℕ → Answering → Type 0

@@ -6,11 +6,11 @@ ghost use Rattle.sg_explore.specs.Tried.{most_paired};
 ghost use Rattle.sg_explore.specs.sg_shared.Runs.{IsRunOf};
 ghost use Rattle.sg_load.specs.Services.{answering, facts_by};
 ghost use Rattle.sg_load.specs.sg_plain.Playing.Playable.{IsPlayable};
-ghost use Rattle.sg_top.specs.Inside.Plays.{IsFit, IsOfServed, MayBePlayedOn, answering_at};
+ghost use Rattle.sg_multi.specs.Serving.{IsFit, IsOfServed, answering_at};
+ghost use Rattle.sg_top.specs.Inside.Plays.{MayBePlayedOn};
 
 use crate::job::Job;
 use crate::own::{at_own, explore_own, share_own};
-use crate::served::Served;
 use sg_edge::Gate;
 use sg_explore::{Explored, Played, Progress, explore, share};
 use sg_facts::NoMemory;
@@ -19,6 +19,7 @@ use sg_load::kind::{
     EventService, LockService, MmService, RamfsService, SchedService, TimerService,
 };
 use sg_load::{Accepted, ServiceKind};
+use sg_multi::Served;
 use std::alloc::Global;
 use std::sync::Wait;
 use std::thread::Threads;

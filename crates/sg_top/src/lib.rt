@@ -9,7 +9,7 @@
 //! - `output`: what a command makes of its input, and what was run for it (`Ran`)
 //! - `members`: the members of a play over several services, and the play over them
 //! - `laws`: what a run prints is read to its history (`printed_runs_are_read`)
-//! - `ready`: inputs that are ready, with the service of their interface; `served`: that service (`Served`)
+//! - `ready`: inputs that are ready, with the service of their interface
 //! - `job`: what can be done in one thread with any service (`Job`)
 //! - `dispatch`: the way to the service of an interface (`at_served`), and runs in several threads
 //! - `own`: the way to the service that a text describes (`at_own`); `given`: an accepted interface, given to a play of it
@@ -27,7 +27,6 @@ mod members;
 mod output;
 mod own;
 mod ready;
-mod served;
 mod services;
 mod status;
 mod top;

@@ -1,12 +1,13 @@
 // The members of a play over several services, and the play over them.
-ghost use Rattle.std.specs.Prelude.{◌≡◌, IfOk, map};
+ghost use Rattle.std.specs.Prelude.{◌≡◌, ◌≤◌, IfOk, length, map};
 ghost use Rattle.sg_facts.specs.Fits.{Fits};
 ghost use Rattle.sg_facts.specs.Interface.{Declared};
 ghost use Rattle.sg_facts.specs.sg_base.Lists.{Each};
-ghost use Rattle.sg_load.specs.Services.{facts_by};
 ghost use Rattle.sg_load.specs.sg_check_statements.Shapes.{IsSmall};
 ghost use Rattle.sg_multi.specs.Playable.{IsMultiPlayable};
+ghost use Rattle.sg_multi.specs.Beginning.{ArePicked};
 ghost use Rattle.sg_multi.specs.Played.{IsMultiPlayed, stubs_by};
+ghost use Rattle.sg_multi.specs.Serving.{IsOfServed, most_places};
 ghost use Rattle.sg_top.specs.Inside.Plays.{IsPlayed};
 ghost use Rattle.sg_top.specs.Inside.Several.{AreMembersOf, IsMemberOf};
 
@@ -14,8 +15,9 @@ use crate::services::kind_of;
 use sg_facts::{Interface, ListOf, NoMemory, TryCopy};
 use sg_judge::{MultiScript, compile};
 use sg_load::Accepted;
-use sg_multi::{MemberTables, MultiEnded, MultiPlay};
+use sg_multi::{Describes, MemberTables, MultiEnded, MultiPlay, Served};
 use std::alloc::Global;
+use std::marker::Brand;
 
 /// The service and the tables of each of these interfaces, which are accepted.
 pub fn members_of(alloc: Global, interfaces: &[Interface]) -> Result<ListOf<MemberTables>, NoMemory>
@@ -36,7 +38,7 @@ fn member_of(alloc: Global, iface: &Interface) -> Result<MemberTables, NoMemory>
     requires small { IsSmall iface.now }
     ensures { IfOk result (IsMemberOf iface.now) }
 {
-    let service = kind_of(iface);
+    let service = Served::BuiltIn(kind_of(iface));
     let accepted = Accepted::new(iface.copy(alloc)?);
     let tables = compile(alloc, &accepted)?;
     Ok(MemberTables { service, tables })
@@ -48,11 +50,27 @@ pub fn play_over(
     members: &[MemberTables],
     script: MultiScript,
 ) -> Result<MultiEnded, NoMemory>
-    requires services { Each (λ t. t.tables.iface.facts ≡ facts_by t.service) members.now }
+    requires services { Each (λ t. IsOfServed t.tables.iface t.service) members.now }
+    requires few { length members.now ≤ most_places }
     requires playable { IsMultiPlayable (map (λ t. t.tables.iface) members.now) script }
     ensures { IfOk result (IsMultiPlayed (map stubs_by members.now) script) }
 {
-    let mut play = MultiPlay::new(alloc, members, script)?;
+    play_picked::<Brand>(alloc, members, script)
+}
+
+// The play over members whose descriptions were picked, each at its member's place.
+fn play_picked<N: Describes>(
+    alloc: Global,
+    members: &[MemberTables],
+    script: MultiScript,
+) -> Result<MultiEnded, NoMemory>
+    requires picked { ArePicked N.descriptions members.now }
+    requires services { Each (λ t. IsOfServed t.tables.iface t.service) members.now }
+    requires few { length members.now ≤ most_places }
+    requires playable { IsMultiPlayable (map (λ t. t.tables.iface) members.now) script }
+    ensures { IfOk result (IsMultiPlayed (map stubs_by members.now) script) }
+{
+    let mut play = MultiPlay::<N>::new(alloc, members, script)?;
     let came = play.play(alloc);
     play.abandon();
     came

@@ -10,17 +10,18 @@ ghost use Rattle.sg_load.specs.Services.{facts_by};
 ghost use Rattle.sg_load.specs.sg_check_statements.Shapes.{are_shapes};
 ghost use Rattle.sg_verify.specs.sg_report.sg_hist.Clients.{MayBeMade};
 ghost use Rattle.sg_explore.specs.sg_shared.Runs.{IsRunInOrder};
+ghost use Rattle.sg_multi.specs.Serving.{answering_at};
 ghost use Rattle.sg_top.specs.Answer.{services};
-ghost use Rattle.sg_top.specs.Inside.Plays.{IsPlayOf, IsPlayed, IsPlayedOn, IsVerdictBy, MayBeJudged, MayBeJudgedOn, MayBePlayed, MayBePlayedOn, answering_at};
+ghost use Rattle.sg_top.specs.Inside.Plays.{IsPlayOf, IsPlayed, IsPlayedOn, IsVerdictBy, MayBeJudged, MayBeJudgedOn, MayBePlayed, MayBePlayedOn};
 
 use crate::dispatch::at_served;
 use crate::job::Job;
-use crate::served::Served;
 use sg_cost::{Costs, costs_of};
 use sg_explore::{Played, simulate};
 use sg_facts::{Interface, NoMemory, Service, Shape, Tables};
 use sg_judge::{History, Script};
 use sg_load::{Accepted, ServiceKind};
+use sg_multi::Served;
 use sg_verify::{Ended, Verdict, verify};
 use std::alloc::Global;
 

@@ -12,14 +12,12 @@ use Rattle.sg_load.specs.sg_plain.Playing.Playable.{IsPlayable}
 use Rattle.sg_verify.specs.sg_report.sg_hist.Clients.{MayBeMade}
 use Rattle.sg_verify.specs.sg_report.sg_hist.declared.ended.Ended.{Ended}
 use Rattle.sg_explore.specs.sg_shared.Runs.{IsRunOf}
-use Rattle.sg_interpret.specs.sg_described.Described.{described_of}
-use Rattle.sg_interpret.specs.sg_described.Safe.{IsSafe}
-use Rattle.sg_load.specs.Services.{answering, played_services}
+use Rattle.sg_load.specs.Services.{played_services}
 use Rattle.sg_load.specs.sg_plain.Answering.{Answering}
+use Rattle.sg_multi.specs.Serving.{IsOfServed, answering_at}
+use Rattle.sg_multi.specs.declared.served.Served.{Served}
 use Rattle.sg_top.specs.Answer.{services}
-use Rattle.sg_top.specs.Headline.{IsServedBy, described_answering}
-use Rattle.sg_top.specs.declared.served.Served.{Served}
-use Rattle.sg_top.specs.declared.served.Served.TheVariants.{BuiltIn, Own}
+use Rattle.sg_top.specs.Headline.{IsServedBy}
 use Rattle.sg_verify.specs.Verdicts.{IsVerdictOf}
 use Rattle.sg_verify.specs.declared.verdict.Verdict.{Verdict}
 
@@ -44,21 +42,6 @@ abbrev pub MayBeJudged : Declared → Answering → List Entry → Type 0
 MayBeJudged i service history = (i.facts ≡ service.facts) × Each (λ e. MayBeMade i e.call) history × (length history ≤ most_script_calls)
 
 -- ---- the service of an interface
-
--- as plays speak of it
-abbrev pub answering_at : Served → Answering
-answering_at (BuiltIn kind) = answering kind
-answering_at (Own d) = described_answering (described_of d)
-
--- it can be recovered: one that is described has to be safe
-abbrev pub IsFit : Served → Type 0
-IsFit (BuiltIn kind) = Unit {0}
-IsFit (Own d) = IsSafe (described_of d)
-
--- an interface is of this service, which can be recovered
-pub record IsOfServed (i : Declared) (served : Served) : Type 0 where
-  pub fit : IsFit served
-  pub its : i.facts ≡ (answering_at served).facts
 
 -- the text of an interface is of this service
 pub record IsServedAs (text : List ℕ) (i : Declared) (served : Served) : Type 0 where

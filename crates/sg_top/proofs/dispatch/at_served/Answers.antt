@@ -1,6 +1,6 @@
 -- By cases on the service.
 use Rattle.std.proofs.Common.{sym, subst}
-use Rattle.sg_top.specs.Inside.Plays.{IsFit, answering_at}
+use Rattle.sg_multi.specs.Serving.{IsFit, answering_at}
 use Rattle.sg_top.proofs.dispatch.at_served.Goals as goal
 
 pub at_service-requires : goal.at_service-requires

@@ -3,7 +3,7 @@ use Rattle.std.proofs.Common.{◌∙◌, ap, inr, subst}
 use Rattle.sg_facts.specs.Interface.{Declared}
 use Rattle.sg_verify.specs.Lines.{verdict_line_of}
 use Rattle.sg_verify.specs.Verdicts.{IsVerdictOf}
-use Rattle.sg_top.specs.Inside.Plays.{answering_at}
+use Rattle.sg_multi.specs.Serving.{answering_at}
 use Rattle.sg_top.proofs.Judging.{judged_output, may_judge, refused_run}
 use Rattle.sg_top.proofs.Running.{of_three}
 use Rattle.sg_top.proofs.output.verified.Goals as goal
