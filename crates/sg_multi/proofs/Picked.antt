@@ -1,6 +1,5 @@
 -- Descriptions that are safe are picked as those of the members.
-use Rattle.std.proofs.Common.{◌≡◌, ℕ, List, sym, ap, subst}
-use Rattle.std.specs.Prelude.{slice_get}
+use Rattle.std.proofs.Common.{List, sym, ap, subst}
 use Rattle.std.specs.Option.{option_map_or}
 use Rattle.sg_facts.specs.sg_base.Lists.{Each}
 use Rattle.sg_interpret.specs.sg_described.Described.{Described, described_of}

@@ -1,9 +1,8 @@
 -- The member is noted where the client has an entry more.
-use Rattle.std.proofs.Common.{◌≡◌, ◌∙◌, ◌≤◌, ◌<◌, ◌-◌, List, false, true, length, map, ap, arith, nat_lt, sym, subst}
+use Rattle.std.proofs.Common.{◌≡◌, ◌∙◌, ◌≤◌, ◌-◌, List, false, true, length, map, ap, arith, nat_lt, sym, subst}
 use Rattle.std.specs.Prelude.{option_map}
 use Rattle.sg_multi.specs.Members.{Membered, view_in}
-use Rattle.sg_multi.specs.sg_sim.Inside.Givens.{lists_of, room_for}
-use Rattle.sg_multi.specs.sg_sim.sg_play.sg_clients.Clients.{IsClient}
+use Rattle.sg_multi.specs.sg_sim.Inside.Givens.{lists_of}
 use Rattle.sg_multi.specs.sg_sim.sg_plain.Playing.Turns.{is_free_phase}
 use Rattle.sg_multi.specs.sg_sim.sg_script.declared.multi.MultiCall.{MultiCall}
 use Rattle.sg_multi.specs.sg_sim.sg_clients.WorldView.{Seat, seat_of}
