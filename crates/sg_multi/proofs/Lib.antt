@@ -1,3 +1,4 @@
+pub mod Arms
 pub mod Asking
 pub mod Beginning
 pub mod Calling
@@ -18,6 +19,7 @@ pub mod NumberingCalls
 pub mod Onward
 pub mod Own
 pub mod PastStop
+pub mod Picked
 pub mod Places
 pub mod Players
 pub mod PrintedMembers
@@ -28,4 +30,5 @@ pub mod Stages
 pub mod Stepping
 pub mod Turning
 pub mod Unstopped
+pub use Rattle.sg_interpret.proofs as sg_interpret
 pub use Rattle.sg_sim.proofs as sg_sim

@@ -38,6 +38,10 @@ pub ok_both : {A E : Type 0} (P Q R : A → Type 0) (r : Result A E) → IfOk r 
 ok_both P Q R (Ok a) p q so = so a p q
 ok_both P Q R (Err e) p q so = tt
 
+pub ok_each : {A E : Type 0} (P Q : A → Type 0) (r : Result A E) → IfOk r P → ((a : A) → P a → Q a) → IfOk r Q
+ok_each P Q (Ok a) is so = so a is
+ok_each P Q (Err e) is so = tt
+
 pub ok_so : {A E : Type 0} (P Q : Type 0) (r : Result A E) → (P → Q) → OnOk r P → OnOk r Q
 ok_so P Q (Ok a) so is = so is
 ok_so P Q (Err e) so is = tt

@@ -17,7 +17,7 @@ use Rattle.sg_multi.proofs.Places.{ok_so}
 use Rattle.sg_multi.proofs.sg_sim.sg_play.sg_plain.sg_clients.Lines.{seat_here}
 use Rattle.sg_multi.specs.Members.{ChangesAt, Membered, setting_by, setting_in, view_in}
 use Rattle.sg_multi.specs.Serving.{Serving}
-use Rattle.sg_multi.specs.sg_sim.Inside.Givens.{lists_of}
+use Rattle.sg_multi.specs.sg_sim.Inside.Givens.{lists_of, room_for}
 use Rattle.sg_multi.specs.sg_sim.sg_plain.Calls.{most_client}
 use Rattle.sg_multi.specs.sg_sim.sg_plain.Playing.Given.{GaveIds, given_in, with_handed}
 use Rattle.sg_multi.specs.sg_sim.sg_plain.Playing.Turns.{is_free_phase}
@@ -474,6 +474,17 @@ noted_keeps {N = N} script q later a b client member did handed made old new is_
     running_of script (record b { passed = taken; last = client }) within
     (parts_same script later b.members (with_handed (lists_of q.given) client (handed_by did)) (lists_of b.given)
     (cond (nat_lt old new) (q.order.items ++ member ∷ []) q.order.items) b.order.items taken client members given order kept)
+
+-- a client that was there is so, and there is as much room for what it is given, where nothing else was noted
+pub client_noted : {N : Type 0} {q a : Running N} (client : ℕ) → a ≡ q → IsClient (length q.given) client → IsClient (length a.given) client
+client_noted {N = N} client rest there = subst (λ (x : Running N). IsClient (length x.given) client) (sym rest) there
+
+pub room_noted : {N : Type 0} {q a : Running N} (client : ℕ) → a ≡ q → 0 < room_for q.given client → 0 < room_for a.given client
+room_noted {N = N} client rest room = subst (λ (x : Running N). 0 < room_for x.given client) (sym rest) room
+
+-- and the members are those that there were
+pub members_noted : {N : Type 0} {q a b : Running N} → a ≡ q → b ≡ record a { given = b.given } → SameMembers q.members b.members
+members_noted {N = N} rest_a rest_b = ap (λ (x : Running N). map stubs_in x.members) rest_b ∙ ap (λ (x : Running N). map stubs_in x.members) rest_a
 
 -- a client's next call is of a member
 pub its_next : (o : Option MultiCall) (member : ℕ) → option_map (λ (c : MultiCall). c.member) o ≡ Some member → (written : MultiCall) × (o ≡ Some written) × (written.member ≡ member)

@@ -6,8 +6,6 @@ pub mod Following
 pub mod Keeps
 pub mod Member
 pub mod Numbers
-pub mod Placed
 pub mod SettingUp
 pub mod Turns
 pub mod Whose
-pub mod Worlds

@@ -1,20 +1,11 @@
 -- The services that members are of: built in, or of one's own, by a description.
-use Rattle.std.specs.Prelude.{◌≡◌}
+use Rattle.std.specs.Prelude.{ℕ, ◌≡◌}
 use Rattle.sg_facts.specs.Interface.{Declared}
-use Rattle.sg_facts.specs.Object.{Object}
 use Rattle.sg_interpret.specs.sg_described.Described.{Described, described_of}
-use Rattle.sg_interpret.specs.sg_described.DescribedSound.{IsDescribedSound}
 use Rattle.sg_interpret.specs.sg_described.Meaning.{described_parts, described_table}
 use Rattle.sg_interpret.specs.sg_described.Safe.{IsSafe, made_safe}
 use Rattle.sg_load.specs.Services.{answering}
-use Rattle.sg_load.specs.Services.sg_event.EventSound.{IsEventSound}
-use Rattle.sg_load.specs.Services.sg_lock.LockSound.{IsLockSound}
-use Rattle.sg_load.specs.Services.sg_mm.MmSound.{IsMmSound}
-use Rattle.sg_load.specs.Services.sg_ramfs.RamfsSound.{IsRamfsSound}
-use Rattle.sg_load.specs.Services.sg_sched.SchedSound.{IsSchedSound}
-use Rattle.sg_load.specs.Services.sg_timer.TimerSound.{IsTimerSound}
 use Rattle.sg_load.specs.declared.kind.ServiceKind.{ServiceKind}
-use Rattle.sg_load.specs.declared.kind.ServiceKind.TheVariants.{Locks, Events, Pages, Files, Threads, Timers}
 use Rattle.sg_load.specs.sg_plain.Answering.{Answering}
 use Rattle.sg_multi.specs.declared.served.Served.{Served}
 use Rattle.sg_multi.specs.declared.served.Served.TheVariants.{BuiltIn, Own}
@@ -35,16 +26,6 @@ abbrev pub answering_of : Serving → Answering
 answering_of (built_in kind) = answering kind
 answering_of (described d) = described_answering d
 
--- what is kept true of its object
-abbrev pub sound_by : Serving → Object → Type 0
-sound_by (built_in Locks) = IsLockSound
-sound_by (built_in Events) = IsEventSound
-sound_by (built_in Pages) = IsMmSound
-sound_by (built_in Files) = IsRamfsSound
-sound_by (built_in Threads) = IsSchedSound
-sound_by (built_in Timers) = IsTimerSound
-sound_by (described d) = IsDescribedSound d
-
 -- ---- the service of an interface
 
 abbrev pub serving : Served → Serving
@@ -64,6 +45,12 @@ IsFit (Own d) = IsSafe (described_of d)
 pub record IsOfServed (i : Declared) (served : Served) : Type 0 where
   pub fit : IsFit served
   pub its : i.facts ≡ (answering_at served).facts
+
+-- ---- the places of members
+
+-- the greatest number of members, of which each may be of a service of one's own
+abbrev pub most_places : ℕ
+most_places = 6
 
 -- the description of a service of one's own was picked
 abbrev pub IsPicked : Described → Served → Type 0

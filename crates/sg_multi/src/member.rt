@@ -5,10 +5,8 @@ ghost use Rattle.sg_facts.specs.Limits.{last_client};
 ghost use Rattle.sg_interpret.specs.sg_described.Described.{described_of};
 ghost use Rattle.sg_interpret.specs.sg_described.Safe.{made_safe};
 ghost use Rattle.sg_load.specs.Services.{facts_by};
-ghost use Rattle.sg_multi.specs.Inside.Placed.{placed};
-ghost use Rattle.sg_multi.specs.Members.{IsNewMember};
-ghost use Rattle.sg_multi.specs.Serving.{IsPicked, answering_at, built_in, described, serving};
-ghost use Rattle.sg_multi.specs.sg_sim.sg_script.Scripts.{most_members};
+ghost use Rattle.sg_multi.specs.Members.{IsNewMember, placed};
+ghost use Rattle.sg_multi.specs.Serving.{IsPicked, answering_at, built_in, described, most_places, serving};
 
 use crate::served::Served;
 use crate::world::{BeginsWorld, ServiceWorld, Through};
@@ -49,8 +47,7 @@ pub struct Member<N: Describes> {
 }
 
 impl<N: Describes> Model for Member<N> {
-    ghost use Rattle.sg_multi.specs.Members.{Membered};
-    ghost use Rattle.sg_multi.specs.Inside.Worlds.{membered};
+    ghost use Rattle.sg_multi.specs.Members.{Membered, membered};
 
     ghost Value = { Membered };
 
@@ -87,7 +84,7 @@ impl<N: Describes> Member<N> {
         clients: u8,
         stops: AtPoints,
     ) -> Result<Member<N>, NoMemory>
-        requires there { place < most_members }
+        requires there { place < most_places }
         requires picked { IsPicked (N.descriptions place) service }
         requires its { tables.iface.facts ≡ (answering_at service).facts }
         requires few { clients ≤ last_client }
@@ -149,7 +146,7 @@ impl<N: Describes> Member<N> {
         clients: u8,
         stops: AtPoints,
     ) -> Result<Member<N>, NoMemory>
-        requires there { place < most_members }
+        requires there { place < most_places }
         requires picked { described_of description ≡ made_safe (N.descriptions place) }
         requires its { tables.iface.facts ≡ (described_of description).facts }
         requires few { clients ≤ last_client }
@@ -157,14 +154,18 @@ impl<N: Describes> Member<N> {
         requires unstruck { struck_of stops ≡ [] }
         ensures { IfOk result (IsNewMember (described (described_of description)) tables stops.plan clients) }
     {
-        let world = match place {
-            0 => AnyWorld::First(begun(alloc, description, tables, clients, stops)?),
-            1 => AnyWorld::Second(begun(alloc, description, tables, clients, stops)?),
-            2 => AnyWorld::Third(begun(alloc, description, tables, clients, stops)?),
-            3 => AnyWorld::Fourth(begun(alloc, description, tables, clients, stops)?),
-            4 => AnyWorld::Fifth(begun(alloc, description, tables, clients, stops)?),
-            5 => AnyWorld::Sixth(begun(alloc, description, tables, clients, stops)?),
-            _ => unreachable!(),
+        let world = if place == 0 {
+            AnyWorld::First(begun(alloc, description, tables, clients, stops)?)
+        } else if place == 1 {
+            AnyWorld::Second(begun(alloc, description, tables, clients, stops)?)
+        } else if place == 2 {
+            AnyWorld::Third(begun(alloc, description, tables, clients, stops)?)
+        } else if place == 3 {
+            AnyWorld::Fourth(begun(alloc, description, tables, clients, stops)?)
+        } else if place == 4 {
+            AnyWorld::Fifth(begun(alloc, description, tables, clients, stops)?)
+        } else {
+            AnyWorld::Sixth(begun(alloc, description, tables, clients, stops)?)
         };
         Ok(Member { world })
     }

@@ -5,8 +5,7 @@ ghost use Rattle.sg_facts.specs.Interface.{declares};
 ghost use Rattle.sg_facts.specs.Kinds.{AreWords, FitsKinds};
 ghost use Rattle.sg_facts.specs.Limits.{last_client};
 ghost use Rattle.sg_multi.specs.Members.{ChangesAt, IsNewMember, Membered, setting_in, view_in};
-ghost use Rattle.sg_multi.specs.Serving.{IsPicked, answering_at, serving};
-ghost use Rattle.sg_multi.specs.sg_sim.sg_script.Scripts.{most_members};
+ghost use Rattle.sg_multi.specs.Serving.{IsPicked, answering_at, most_places, serving};
 ghost use Rattle.sg_sim.specs.sg_play.sg_clients.Clients.{IsClient};
 ghost use Rattle.sg_sim.specs.sg_clients.WorldView.{IsFree, WorldView, happened, offered, seat_of, with_leave};
 ghost use Rattle.sg_sim.specs.sg_world.Steps.{AnswersLast, HasStepped, LackedMemory};
@@ -58,7 +57,7 @@ impl<N: Describes> Members<N> {
         clients: u8,
         stops: AtPoints,
     ) -> Result<(), NoMemory>
-        requires there { place < most_members }
+        requires there { place < most_places }
         requires picked { IsPicked (N.descriptions place) service }
         requires its { tables.iface.facts ≡ (answering_at service).facts }
         requires few { clients ≤ last_client }

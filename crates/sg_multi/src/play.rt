@@ -1,9 +1,9 @@
 // A play over several services: whose turn it is, and the play to its end.
-ghost use Rattle.std.specs.Prelude.{◌≡◌, ◌++◌, ◌∷◌, ◌≤◌, [], IfOk, OnOk, length, map};
+ghost use Rattle.std.specs.Prelude.{◌≡◌, ◌++◌, ◌∷◌, ◌≤◌, ◌<◌, [], IfOk, OnOk, length, map};
 ghost use Rattle.sg_facts.specs.sg_base.Lists.{Each};
 ghost use Rattle.sg_facts.specs.Limits.{last_client};
 ghost use Rattle.sg_multi.specs.Members.{IsNewMember, Membered};
-ghost use Rattle.sg_multi.specs.Serving.{IsOfServed, IsPicked, serving};
+ghost use Rattle.sg_multi.specs.Serving.{IsOfServed, IsPicked, most_places, serving};
 ghost use Rattle.sg_multi.specs.sg_edge.Stops.{AscendsAbove};
 ghost use Rattle.sg_multi.specs.sg_sim.sg_plain.Calls.{most_client};
 ghost use Rattle.sg_multi.specs.sg_sim.sg_script.Scripts.{most_members};
@@ -64,6 +64,7 @@ impl<N: Describes> MultiPlay<N> {
     ) -> Result<MultiPlay<N>, NoMemory>
         requires picked { ArePicked N.descriptions members.now }
         requires services { Each (λ t. IsOfServed t.tables.iface t.service) members.now }
+        requires few { length members.now ≤ most_places }
         requires playable { IsMultiPlayable (map (λ t. t.tables.iface) members.now) script }
         ensures members { IfOk result (λ p. map stubs_in p.members ≡ map stubs_by members.now) }
         ensures new { IfOk result (λ p. AreNewMembers members.now script.stops (most_client script.clients) p.members) }
@@ -115,6 +116,7 @@ fn members_of<N: Describes>(
 ) -> Result<Members<N>, NoMemory>
     requires picked { ArePicked N.descriptions tables.now }
     requires services { Each (λ t. IsOfServed t.tables.iface t.service) tables.now }
+    requires few { length tables.now ≤ most_places }
     requires playable { IsMultiPlayable (map (λ t. t.tables.iface) tables.now) script.now }
     requires clients { clients ≡ most_client script.now.clients }
     ensures { IfOk result (AreNewMembers tables.now script.now.stops clients) }
@@ -140,6 +142,7 @@ fn add_members<N: Describes>(
     requires none { members.old ≡ [] }
     requires picked { ArePicked N.descriptions tables.now }
     requires services { Each (λ t. IsOfServed t.tables.iface t.service) tables.now }
+    requires few { length tables.now ≤ most_places }
     requires playable { IsMultiPlayable (map (λ t. t.tables.iface) tables.now) script.now }
     requires clients { clients ≡ most_client script.now.clients }
     ensures { OnOk result (AreNewMembers tables.now script.now.stops clients members.new) }
@@ -167,7 +170,7 @@ fn add_member<N: Describes>(
     stops: &PointList,
     clients: u8,
 ) -> Result<(), NoMemory>
-    requires there { place < most_members }
+    requires there { place < most_places }
     requires picked { IsPicked (N.descriptions place) its.now.service }
     requires service { IsOfServed its.now.tables.iface its.now.service }
     requires few { clients ≤ last_client }

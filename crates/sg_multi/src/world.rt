@@ -101,9 +101,8 @@ pub trait ServiceWorld {
     /// One step of a client, in this world alone.
     fn step(&mut self, alloc: Global, client: u8) -> Result<Did, NoMemory>
         requires client { IsClient (length (seen self.old).view.seats) client }
-        ensures did { IfOk result (λ did. HasStepped (setting self.old) (seen self.old).view client did (seen self.new).view) }
+        ensures did { IfOk result (λ did. HasStepped (setting self.old) (seen self.old).view client did (seen self.new).view × AnswersLast (seen self.new).view client did) }
         ensures err { OnErr result (LackedMemory (setting self.old) (seen self.old).view client (seen self.new).view) }
-        ensures answers { IfOk result (AnswersLast (seen self.new).view client) }
         ensures clients { length (seen self.new).view.seats ≡ length (seen self.old).view.seats }
         ensures tables { (seen self.new).tables ≡ (seen self.old).tables }
         ensures plan { (seen self.new).plan ≡ (seen self.old).plan }

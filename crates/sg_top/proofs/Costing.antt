@@ -17,13 +17,13 @@ use Rattle.sg_verify.specs.sg_report.sg_hist.Ending.{HasRecovered}
 use Rattle.sg_verify.specs.sg_report.sg_hist.declared.ended.Ended.{Ended}
 use Rattle.sg_explore.specs.sg_shared.Runs.{IsRunOf}
 use Rattle.sg_load.specs.sg_plain.Answering.{Answering}
+use Rattle.sg_multi.specs.Serving.{IsOfServed, answering_at}
 use Rattle.sg_top.specs.Headline.{HasFewReplays}
 use Rattle.sg_judge.proofs.sg_input.sg_stub.OneTable.{one_table}
 use Rattle.sg_top.proofs.EachKind.{allowed_standard}
 use Rattle.sg_top.proofs.Serving.{allowed_served}
 use Rattle.sg_multi.specs.declared.served.Served.{Served}
 use Rattle.sg_top.specs.Inside.Plays.{IsPlayOf}
-use Rattle.sg_multi.specs.Serving.{IsOfServed, answering_at}
 use Rattle.sg_verify.specs.sg_report.sg_hist.Clients.{AreNumbered}
 use Rattle.sg_facts.specs.sg_base.Lists.{Each}
 

@@ -16,12 +16,12 @@ use Rattle.sg_judge.proofs.sg_input.OneCut.{one_cut}
 use Rattle.sg_judge.proofs.sg_input.OneInput.{one_tree}
 use Rattle.sg_judge.proofs.sg_input.OneRun.{never_ready, one_ready}
 use Rattle.sg_verify.proofs.Verdicts.{one_said as one_verdict}
+use Rattle.sg_multi.specs.Serving.{answering_at, described_answering}
 use Rattle.sg_top.proofs.EachKind.{same_service}
 use Rattle.sg_load.specs.Services.{played_services}
 use Rattle.sg_load.specs.sg_plain.Answering.{Answering}
 use Rattle.sg_top.specs.Answer.{IsJudgedAs, IsOutput, judging, services}
 use Rattle.sg_top.specs.Headline.{IsServedBy}
-use Rattle.sg_multi.specs.Serving.{answering_at, described_answering}
 use Rattle.sg_top.specs.Inside.Pieces.{IsIllegal, IsVerified, verdict_status}
 use Rattle.sg_top.specs.Inside.Plays.{MayBeJudgedOn}
 use Rattle.sg_top.specs.Inside.Ready.{IsReadyRun, IsServedRun}

@@ -6,7 +6,6 @@ pub mod EachKind
 pub mod Fitting
 pub mod Judging
 pub mod Named
-mod Queries
 pub mod Refusals
 pub mod Running
 pub mod Saying

@@ -17,11 +17,11 @@ use Rattle.sg_load.specs.Services.{answering, facts_by, played_services, standar
 use Rattle.sg_load.specs.declared.kind.ServiceKind.{ServiceKind}
 use Rattle.sg_load.specs.sg_plain.Playing.Playable.{IsPlayable}
 use Rattle.sg_verify.specs.sg_report.Report.{load_line_of}
+use Rattle.sg_multi.specs.Serving.{answering_at}
 use Rattle.sg_top.proofs.Costing.{few_of_load, few_replays}
 use Rattle.sg_top.proofs.Fitting.{ready_playable, ready_stops}
 use Rattle.sg_top.specs.Answer.{IsExploredAs, IsOwnOutput, IsPlayOutput, ended_status, judging}
 use Rattle.sg_top.specs.Inside.Plays.{IsPlayedOn, MayBePlayedOn}
-use Rattle.sg_multi.specs.Serving.{answering_at}
 use Rattle.sg_top.specs.Inside.Ready.{IsReadyInput, IsServedInput}
 use Rattle.sg_top.specs.declared.command.Command.TheVariants.{Load}
 use Rattle.sg_top.specs.declared.command.Shows.{Shows}

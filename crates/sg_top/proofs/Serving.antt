@@ -5,17 +5,17 @@ use Rattle.sg_facts.specs.Allowed.{is_allowed}
 use Rattle.sg_facts.specs.Facts.{Facts}
 use Rattle.sg_facts.specs.Interface.{Declared}
 use Rattle.sg_judge.specs.sg_input.sg_parse.declared.tree.Tree.{Tree}
-use Rattle.sg_interpret.specs.sg_described.Described.{Described}
-use Rattle.sg_interpret.specs.sg_described.Safe.{IsSafe}
-use Rattle.sg_interpret.specs.sg_described.declared.description.Description.{Description}
+use Rattle.sg_multi.specs.sg_interpret.sg_described.Described.{Described}
+use Rattle.sg_multi.specs.sg_interpret.sg_described.Safe.{IsSafe}
+use Rattle.sg_multi.specs.sg_interpret.sg_described.declared.description.Description.{Description}
 use Rattle.sg_judge.specs.AnyInputs.{IsAcceptedAs}
 use Rattle.sg_judge.specs.sg_own.Faults.{IsOwnAccepted}
 use Rattle.sg_judge.specs.sg_own.sg_describe.DescribedText.{described_of_text}
 use Rattle.sg_judge.specs.sg_own.sg_shape.ShapeOfText.{shape_of_text}
 use Rattle.sg_load.specs.Services.{facts_by}
 use Rattle.sg_load.specs.declared.kind.ServiceKind.{ServiceKind}
-use Rattle.sg_top.specs.Answer.{services}
 use Rattle.sg_multi.specs.Serving.{IsOfServed, described_answering}
+use Rattle.sg_top.specs.Answer.{services}
 use Rattle.sg_top.specs.Inside.Plays.{IsServedAs}
 use Rattle.sg_multi.specs.declared.served.Served.{Served}
 use Rattle.sg_multi.specs.declared.served.Served.TheVariants.{BuiltIn, Own}

@@ -1,15 +1,12 @@
 -- An input for several services is of services that are played, its script may be played over them, and what the play promises is what the
 -- headline says of it.
-use Rattle.std.proofs.Common.{◌≡◌, ℕ, zero, suc, ◌+◌, ◌<◌, ◌≤◌, Bool, List, [], ◌∷◌, ◌++◌, None, Some, length, map, take, slice_get, slice_index_or, arith, refl, sym, ◌∙◌, ap, subst}
+use Rattle.std.proofs.Common.{◌≡◌, ℕ, zero, suc, ◌+◌, ◌<◌, ◌≤◌, Bool, List, [], ◌∷◌, ◌++◌, length, map, take, slice_index_or, arith, refl, sym, ◌∙◌, ap, subst}
 use Rattle.std.proofs.lemmas.List.{take_all, take_more}
 use Rattle.std.specs.List.{AllZip}
 use Rattle.sg_facts.specs.Facts.{Facts}
 use Rattle.sg_facts.specs.Interface.{Declared}
 use Rattle.sg_facts.specs.Tables.{Compiled}
 use Rattle.sg_facts.specs.sg_base.Lists.{Each}
-use Rattle.sg_interpret.proofs.Picking.{picked}
-use Rattle.sg_interpret.specs.sg_described.Described.{Described, described_of}
-use Rattle.sg_interpret.specs.sg_described.Safe.{IsSafe}
 use Rattle.sg_judge.specs.AnyInputs.{IsAcceptedAs, IsAnyMultiInputOf, IsMultiReadyAs, any_judging, interfaces_of}
 use Rattle.sg_judge.specs.declared.interface.AnyInterface.{AnyInterface}
 use Rattle.sg_judge.specs.sg_input.MultiInputs.{IsMultiInputOf, IsMultiReady}
@@ -17,21 +14,19 @@ use Rattle.sg_judge.specs.sg_input.declared.read.Read.{Read}
 use Rattle.sg_judge.specs.sg_input.declared.read.Read.TheVariants.{Ready, Refused}
 use Rattle.sg_judge.specs.sg_input.sg_script.declared.multi.MultiScript.{MultiScript}
 use Rattle.sg_load.specs.Services.{played_services}
-use Rattle.sg_multi.specs.Beginning.{ArePicked}
 use Rattle.sg_multi.specs.Members.{setting_by}
 use Rattle.sg_multi.specs.Playable.{IsMultiPlayable}
 use Rattle.sg_multi.specs.Played.{IsMultiPlayed, MultiCame, stubs_by}
 use Rattle.sg_multi.specs.Report.{multi_text_of}
-use Rattle.sg_multi.specs.Serving.{IsFit, IsOfServed, IsPicked, answering_at, serving}
+use Rattle.sg_multi.specs.Serving.{IsOfServed, answering_at, most_places, serving}
 use Rattle.sg_multi.specs.declared.play.MemberTables.{MemberTables}
 use Rattle.sg_multi.specs.declared.served.Served.{Served}
-use Rattle.sg_multi.specs.declared.served.Served.TheVariants.{BuiltIn, Own}
 use Rattle.sg_multi.specs.sg_sim.sg_world_laws.Setting.{stubs_of}
 use Rattle.sg_multi.proofs.Flawless.{multi_playable}
 use Rattle.sg_top.specs.Answer.{IsMultiOutput, judging, multi_status, services}
 use Rattle.sg_top.specs.Headline.{AreMembersBy, IsMember}
 use Rattle.sg_top.specs.Inside.Ready.{IsAccepted}
-use Rattle.sg_top.specs.Inside.Several.{AreMembersOf, IsMemberOf, description_at, description_in}
+use Rattle.sg_top.specs.Inside.Several.{AreMembersOf, IsMemberOf}
 use Rattle.sg_top.specs.declared.output.Ran.{Ran}
 use Rattle.sg_top.specs.declared.output.Ran.TheVariants.{Several}
 use Rattle.sg_top.specs.declared.status.Status.{Status}
@@ -105,6 +100,20 @@ members_playable bytes interfaces script members ready are =
     subst (λ l. IsMultiPlayable l script) (sym (member_interfaces interfaces members are))
     (multi_playable (interfaces_of interfaces) ready.ready.last script (omega (arith, few)) ready.ready.reads)
 
+as_many : (interfaces : List AnyInterface) (members : List MemberTables) → AreMembersOf interfaces members → length members ≡ length (interfaces_of interfaces)
+as_many [] [] are = refl
+as_many [] (t ∷ members) are = absurd are
+as_many (i ∷ interfaces) [] are = absurd are
+as_many (i ∷ interfaces) (t ∷ members) (is, are) = ap suc (as_many interfaces members are)
+
+-- there are no more than places
+pub members_few : (bytes : List ℕ) (interfaces : List AnyInterface) (script : MultiScript) (members : List MemberTables) → IsMultiReadyAs services bytes interfaces script
+    → AreMembersOf interfaces members → length members ≤ most_places
+members_few bytes interfaces script members ready are =
+    let few : length (interfaces_of interfaces) ≤ 6 = ready.ready.accepted.few in
+    let same = as_many interfaces members are in
+    omega (arith, few, same)
+
 member_added : (interfaces : List AnyInterface) (members : List MemberTables) (i : AnyInterface) (t : MemberTables) → AreMembersOf interfaces members → IsMemberOf i t
     → AreMembersOf (interfaces ++ i ∷ []) (members ++ t ∷ [])
 member_added [] [] i t are is = (is, tt)
@@ -131,18 +140,6 @@ pub each_at : (P : AnyInterface → Type 0) (interfaces : List AnyInterface) (k 
 each_at P [] k d all within = absurd (omega (arith, within))
 each_at P (i ∷ interfaces) zero d (one, all) within = one
 each_at P (i ∷ interfaces) (suc k) d (one, all) within = each_at P interfaces k d all (omega (arith, within))
-
--- ---- descriptions
-
--- the description of a service that can be recovered is picked where it stands
-picked_one : (served : Served) → IsFit served → IsPicked (description_in served) served
-picked_one (BuiltIn kind) fit = tt
-picked_one (Own d) fit = picked (described_of d) fit
-
-pub all_picked : (members : List MemberTables) → Each (λ (t : MemberTables). IsOfServed t.tables.iface t.service) members → ArePicked (description_at members) members
-all_picked [] all place t there = absurd (cc there)
-all_picked (m ∷ members) (one, all) zero t there = let same : m ≡ t = cc there in subst (λ (x : MemberTables). IsPicked (description_in m.service) x.service) same (picked_one m.service one.fit)
-all_picked (m ∷ members) (one, all) (suc place) t there = all_picked members all place t there
 
 -- ---- by what the runs of members are judged
 

@@ -1,10 +1,10 @@
 // The members of a play over several services, and the play over them.
-ghost use Rattle.std.specs.Prelude.{IfOk, map};
+ghost use Rattle.std.specs.Prelude.{◌≤◌, IfOk, length, map};
 ghost use Rattle.sg_facts.specs.sg_base.Lists.{Each};
 ghost use Rattle.sg_multi.specs.Beginning.{ArePicked};
 ghost use Rattle.sg_multi.specs.Playable.{IsMultiPlayable};
 ghost use Rattle.sg_multi.specs.Played.{IsMultiPlayed, stubs_by};
-ghost use Rattle.sg_multi.specs.Serving.{IsOfServed};
+ghost use Rattle.sg_multi.specs.Serving.{IsOfServed, most_places};
 ghost use Rattle.sg_top.specs.Inside.Ready.{IsAccepted};
 ghost use Rattle.sg_top.specs.Inside.Several.{AreMembersOf, IsMemberOf};
 
@@ -47,6 +47,7 @@ pub fn play_over(
     script: MultiScript,
 ) -> Result<MultiEnded, NoMemory>
     requires services { Each (λ t. IsOfServed t.tables.iface t.service) members.now }
+    requires few { length members.now ≤ most_places }
     requires playable { IsMultiPlayable (map (λ t. t.tables.iface) members.now) script }
     ensures { IfOk result (IsMultiPlayed (map stubs_by members.now) script) }
 {
@@ -61,6 +62,7 @@ fn play_picked<N: Describes>(
 ) -> Result<MultiEnded, NoMemory>
     requires picked { ArePicked N.descriptions members.now }
     requires services { Each (λ t. IsOfServed t.tables.iface t.service) members.now }
+    requires few { length members.now ≤ most_places }
     requires playable { IsMultiPlayable (map (λ t. t.tables.iface) members.now) script }
     ensures { IfOk result (IsMultiPlayed (map stubs_by members.now) script) }
 {

@@ -1,23 +1,23 @@
 // The way to the service of a description, which is known only when the program runs: the type's description is picked at `Brand`.
+ghost use Rattle.sg_multi.specs.Serving.{described_answering};
 ghost use Rattle.std.specs.Prelude.{◌≡◌, ◌≤◌, true, IfOk};
 ghost use Rattle.sg_edge.specs.Stops.{AscendsAbove};
 ghost use Rattle.sg_explore.specs.Explored.{IsExplored};
 ghost use Rattle.sg_explore.specs.Tried.{most_paired};
 ghost use Rattle.sg_explore.specs.sg_shared.Runs.{IsRunOf};
-ghost use Rattle.sg_interpret.specs.sg_described.Described.{described_of};
-ghost use Rattle.sg_interpret.specs.sg_described.Safe.{IsSafe, made_safe};
+ghost use Rattle.sg_multi.specs.sg_interpret.sg_described.Described.{described_of};
+ghost use Rattle.sg_multi.specs.sg_interpret.sg_described.Safe.{IsSafe, made_safe};
 ghost use Rattle.sg_load.specs.sg_plain.Answering.{no_query_waits};
 ghost use Rattle.sg_load.specs.sg_plain.Playing.Playable.{IsPlayable};
-ghost use Rattle.sg_multi.specs.Serving.{described_answering};
 
 use crate::given::Given;
 use crate::job::Job;
 use sg_edge::Gate;
 use sg_explore::{Explored, Played, Progress, explore, share};
 use sg_facts::{NoMemory, Service};
-use sg_interpret::{DescribedImage, DescribedService, Describes, Description};
 use sg_judge::Script;
 use sg_load::Accepted;
+use sg_multi::{DescribedImage, DescribedService, Describes, Description};
 use std::alloc::Global;
 use std::marker::Brand;
 use std::sync::Wait;

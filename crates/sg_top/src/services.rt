@@ -10,9 +10,9 @@ ghost use Rattle.sg_load.specs.Services.{facts_by};
 ghost use Rattle.sg_load.specs.sg_check_statements.Shapes.{are_shapes};
 ghost use Rattle.sg_verify.specs.sg_report.sg_hist.Clients.{MayBeMade};
 ghost use Rattle.sg_explore.specs.sg_shared.Runs.{IsRunInOrder};
+ghost use Rattle.sg_multi.specs.Serving.{answering_at};
 ghost use Rattle.sg_top.specs.Answer.{services};
 ghost use Rattle.sg_top.specs.Inside.Plays.{IsPlayOf, IsPlayed, IsPlayedOn, IsVerdictBy, MayBeJudged, MayBeJudgedOn, MayBePlayed, MayBePlayedOn};
-ghost use Rattle.sg_multi.specs.Serving.{answering_at};
 
 use crate::dispatch::at_served;
 use crate::job::Job;

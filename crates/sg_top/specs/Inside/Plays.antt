@@ -14,10 +14,10 @@ use Rattle.sg_verify.specs.sg_report.sg_hist.declared.ended.Ended.{Ended}
 use Rattle.sg_explore.specs.sg_shared.Runs.{IsRunOf}
 use Rattle.sg_load.specs.Services.{played_services}
 use Rattle.sg_load.specs.sg_plain.Answering.{Answering}
-use Rattle.sg_top.specs.Answer.{services}
-use Rattle.sg_top.specs.Headline.{IsServedBy}
 use Rattle.sg_multi.specs.Serving.{IsOfServed, answering_at}
 use Rattle.sg_multi.specs.declared.served.Served.{Served}
+use Rattle.sg_top.specs.Answer.{services}
+use Rattle.sg_top.specs.Headline.{IsServedBy}
 use Rattle.sg_verify.specs.Verdicts.{IsVerdictOf}
 use Rattle.sg_verify.specs.declared.verdict.Verdict.{Verdict}
 

@@ -1,16 +1,12 @@
 -- The members of a play over several services, and who waits at its end.
-use Rattle.std.specs.Prelude.{ℕ, ◌≡◌, Bool, true, false, List, None, Some, slice_get}
+use Rattle.std.specs.Prelude.{ℕ, ◌≡◌, Bool, true, false, List}
 use Rattle.std.specs.List.{AllZip, list_any}
 use Rattle.sg_facts.specs.Tables.{AreTables}
-use Rattle.sg_interpret.specs.sg_described.Described.{Described, described_of}
-use Rattle.sg_interpret.specs.sg_described.Safe.{described_nothing}
 use Rattle.sg_judge.specs.AnyInputs.{IsAcceptedAs}
 use Rattle.sg_judge.specs.declared.interface.AnyInterface.{AnyInterface}
 use Rattle.sg_multi.specs.declared.ended.MultiEnd.{MultiEnd}
 use Rattle.sg_multi.specs.declared.ended.MultiEnd.TheVariants.{Done, Blocked}
 use Rattle.sg_multi.specs.declared.play.MemberTables.{MemberTables}
-use Rattle.sg_multi.specs.declared.served.Served.{Served}
-use Rattle.sg_multi.specs.declared.served.Served.TheVariants.{BuiltIn, Own}
 use Rattle.sg_top.specs.Answer.{services}
 use Rattle.sg_top.specs.Inside.Plays.{IsServedAs}
 
@@ -23,15 +19,6 @@ pub record IsMemberOf (any : AnyInterface) (member : MemberTables) : Type 0 wher
 -- there is one for each interface
 abbrev pub AreMembersOf : List AnyInterface → List MemberTables → Type 0
 AreMembersOf interfaces members = AllZip IsMemberOf interfaces members
-
--- what a service's description is; that of a service without functions where it is built in
-abbrev pub description_in : Served → Described
-description_in (BuiltIn kind) = described_nothing
-description_in (Own d) = described_of d
-
--- what the description of the member at a place is, from 0
-abbrev pub description_at : List MemberTables → ℕ → Described
-description_at members place = elim slice_get members place [ None ↦ described_nothing | Some t ↦ description_in t.service ]
 
 -- whether a client waits at its end
 abbrev pub is_waiting : MultiEnd → Bool

@@ -34,8 +34,7 @@ add_member-requires-clause-service g c =
     each_at (λ (x : MemberTables). IsOfServed x.tables.iface x.service) tables c.tables.place t c.requires.services there
 
 pub add_member-requires-clause-there : goal.add_member-requires-clause-there
-add_member-requires-clause-there g c =
-    omega (arith, c.tables-test.true, c.requires.playable.at_most, length_mapped (λ (x : MemberTables). x.tables.iface) c.args.tables.now)
+add_member-requires-clause-there g c = omega (arith, c.tables-test.true, c.requires.few)
 
 pub add_member-requires-clause-picked : goal.add_member-requires-clause-picked
 add_member-requires-clause-picked g c =

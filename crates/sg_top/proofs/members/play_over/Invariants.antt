@@ -1,5 +1,5 @@
--- The description of each service of one's own is picked at its place.
-use Rattle.sg_top.specs.Inside.Several.{description_at}
+-- The descriptions are those of the members.
+use Rattle.sg_multi.specs.Beginning.{description_at}
 use Rattle.sg_top.proofs.members.play_over.Given as goal
 
 abbrev pub ghosts-play_picked : goal.ghosts-play_picked

@@ -8,7 +8,7 @@ use Rattle.sg_multi.specs.declared.play.MemberTables.{MemberTables}
 use Rattle.sg_top.specs.Answer.{IsMultiOutput, services}
 use Rattle.sg_top.specs.Inside.Ready.{IsAccepted}
 use Rattle.sg_top.specs.Inside.Several.{AreMembersOf}
-use Rattle.sg_top.proofs.Several.{members_accepted, members_playable, members_served, not_several, several_for, several_output, shown_members}
+use Rattle.sg_top.proofs.Several.{members_accepted, members_few, members_playable, members_served, not_several, several_for, several_output, shown_members}
 use Rattle.sg_top.proofs.output.several.Goals as goal
 
 pub members_of-requires : goal.members_of-requires
@@ -20,6 +20,12 @@ members_of-requires c =
 pub play_over-requires-clause-services : goal.play_over-requires-clause-services
 play_over-requires-clause-services c =
     members_served c.args.bytes.now c.in-Ready.interfaces c.in-Ready.script c.as_slice-in-Ready.result.now
+    (several_for c.args.bytes.now (map facts_of c.shapes.result) c.in_ok-interfaces.field-0 c.in-Ready.interfaces c.in-Ready.script c.shapes.ensures.facts c.in-Ready.is c.in_ok-interfaces.ensures.input)
+    (shown_members c.in-Ready.interfaces _ _ _ c.as_slice.ensures c.as_slice-in-Ready.ensures c.in_ok-members-in-Ready.ensures)
+
+pub play_over-requires-clause-few : goal.play_over-requires-clause-few
+play_over-requires-clause-few c =
+    members_few c.args.bytes.now c.in-Ready.interfaces c.in-Ready.script c.as_slice-in-Ready.result.now
     (several_for c.args.bytes.now (map facts_of c.shapes.result) c.in_ok-interfaces.field-0 c.in-Ready.interfaces c.in-Ready.script c.shapes.ensures.facts c.in-Ready.is c.in_ok-interfaces.ensures.input)
     (shown_members c.in-Ready.interfaces _ _ _ c.as_slice.ensures c.as_slice-in-Ready.ensures c.in_ok-members-in-Ready.ensures)
 

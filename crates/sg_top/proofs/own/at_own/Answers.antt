@@ -1,10 +1,10 @@
 -- A description that is safe is what is made safe of it.
 use Rattle.std.proofs.Common.{◌≡◌, true, sym, subst}
-use Rattle.sg_interpret.specs.sg_described.Described.{Described, described_of}
-use Rattle.sg_interpret.proofs.Picking.{picked}
+use Rattle.sg_multi.specs.sg_interpret.sg_described.Described.{Described, described_of}
+use Rattle.sg_multi.proofs.sg_interpret.Picking.{picked}
 use Rattle.sg_load.specs.sg_plain.Answering.{no_query_waits}
 use Rattle.sg_multi.specs.Serving.{described_answering}
-use Rattle.sg_top.proofs.Queries.{no_query}
+use Rattle.sg_multi.proofs.Queries.{no_query}
 use Rattle.sg_top.proofs.own.at_own.Goals as goal
 
 pub at_picked-requires-clause-picked : goal.at_picked-requires-clause-picked

@@ -2,11 +2,11 @@
 use Rattle.std.proofs.Common.{◌≡◌, true, sym, ◌∙◌, ap, subst}
 use Rattle.std.specs.Prelude.{IfOk}
 use Rattle.sg_explore.specs.Explored.{IsExplored}
-use Rattle.sg_interpret.specs.sg_described.Described.{Described, described_of}
-use Rattle.sg_interpret.proofs.Picking.{picked}
+use Rattle.sg_multi.specs.sg_interpret.sg_described.Described.{Described, described_of}
+use Rattle.sg_multi.proofs.sg_interpret.Picking.{picked}
 use Rattle.sg_load.specs.sg_plain.Answering.{no_query_waits}
 use Rattle.sg_multi.specs.Serving.{described_answering}
-use Rattle.sg_top.proofs.Queries.{no_query}
+use Rattle.sg_multi.proofs.Queries.{no_query}
 use Rattle.sg_top.proofs.own.explore_own.Goals as goal
 
 pub explore_picked-requires-clause-picked : goal.explore_picked-requires-clause-picked

@@ -1,9 +1,8 @@
 -- The member is noted where the client has an entry more.
-use Rattle.std.proofs.Common.{◌≡◌, ◌∙◌, ◌≤◌, ◌<◌, ◌-◌, List, false, true, length, map, ap, arith, nat_lt, sym, subst}
+use Rattle.std.proofs.Common.{◌≡◌, ◌∙◌, ◌≤◌, ◌-◌, List, false, true, length, map, ap, arith, nat_lt, sym, subst}
 use Rattle.std.specs.Prelude.{option_map}
 use Rattle.sg_multi.specs.Members.{Membered, view_in}
-use Rattle.sg_multi.specs.sg_sim.Inside.Givens.{lists_of, room_for}
-use Rattle.sg_multi.specs.sg_sim.sg_play.sg_clients.Clients.{IsClient}
+use Rattle.sg_multi.specs.sg_sim.Inside.Givens.{lists_of}
 use Rattle.sg_multi.specs.sg_sim.sg_plain.Playing.Turns.{is_free_phase}
 use Rattle.sg_multi.specs.sg_sim.sg_script.declared.multi.MultiCall.{MultiCall}
 use Rattle.sg_multi.specs.sg_sim.sg_clients.WorldView.{Seat, seat_of}
@@ -11,8 +10,7 @@ use Rattle.sg_multi.specs.Inside.Keeps.{is_multi_setting_up}
 use Rattle.sg_multi.specs.Inside.Turns.{KeepsRunning}
 use Rattle.sg_multi.specs.Inside.Whose.{next_of, seat_at}
 use Rattle.sg_multi.specs.Played.{stubs_in}
-use Rattle.sg_multi.specs.declared.running.Running.{Running}
-use Rattle.sg_multi.proofs.Turning.{as_many, client_there, its_next, noted_keeps, on_err, reserved_keeps, reserved_turn, seat_is, seats_there, stepped_asked, stepped_at, stepped_begins, stepped_follows, stepped_same, stepped_seats, stepped_sets_up, wanted_at}
+use Rattle.sg_multi.proofs.Turning.{as_many, client_noted, client_there, its_next, members_noted, noted_keeps, on_err, reserved_keeps, reserved_turn, room_noted, seat_is, seats_there, stepped_asked, stepped_at, stepped_begins, stepped_follows, stepped_same, stepped_seats, stepped_sets_up, wanted_at}
 use Rattle.sg_multi.proofs.running.Running.step.Goals as goal
 
 pub reserve-requires : goal.reserve-requires
@@ -115,11 +113,11 @@ note_reply-requires-clause-client g c =
     let q = c.reserve.new.self in
     let s = c.args.script.now in
     let keeps : KeepsRunning s q = reserved_keeps s r q c.reserve.ensures.members c.reserve.ensures.lists c.reserve.ensures.items c.reserve.ensures.passed c.reserve.ensures.last c.requires.keeps in
-    subst (λ (x : Running g.row.N). IsClient (length x.given) c.args.client) (sym c.note_entry.ensures.rest) (client_there q.members s q.given q.order.items keeps.keeps c.args.client c.requires.first c.requires.last)
+    client_noted c.args.client c.note_entry.ensures.rest (client_there q.members s q.given q.order.items keeps.keeps c.args.client c.requires.first c.requires.last)
 
 pub note_reply-requires-clause-room : goal.note_reply-requires-clause-room
 note_reply-requires-clause-room g c =
-    subst (λ (x : Running g.row.N). 0 < room_for x.given c.args.client) (sym c.note_entry.ensures.rest) c.in_ok-reserve.ensures.given
+    room_noted c.args.client c.note_entry.ensures.rest c.in_ok-reserve.ensures.given
 
 pub returns-clause-turned : goal.returns-clause-turned
 returns-clause-turned g c = λ taken turn.
@@ -160,5 +158,5 @@ returns-clause-same g c =
     let m = c.member_of.result.now in
     let lists = lists_of q.given in
     let later = c.step.new.self in
-    ap (λ (x : Running g.row.N). map stubs_in x.members) (c.note_reply.ensures.rest ∙ ap (λ (x : Running g.row.N). record x { given = c.note_reply.new.self.given }) c.note_entry.ensures.rest)
+    members_noted c.note_entry.ensures.rest c.note_reply.ensures.rest
     ∙ stepped_same q.members s (lists_of q.given) q.order.items keeps.keeps c.args.client c.requires.first c.requires.last c.args.member c.from-place.result c.requires.some c.from-place.ensures m c.member_of.ensures later c.in_ok-did.did c.in_ok-did.ensures.did ∙ ap (map stubs_in) c.reserve.ensures.members
