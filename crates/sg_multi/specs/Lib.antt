@@ -10,6 +10,7 @@ pub mod Playing
 pub mod Report
 pub mod Serving
 pub mod SeveralServices
+pub use Rattle.sg_facts.specs as sg_facts
 pub use Rattle.sg_edge.specs as sg_edge
 pub use Rattle.sg_interpret.specs as sg_interpret
 pub use Rattle.sg_load.specs as sg_load

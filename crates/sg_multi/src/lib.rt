@@ -37,6 +37,7 @@ pub use play::{MemberTables, MultiPlay};
 pub use report::multi_text;
 pub use served::Served;
 pub use sg_edge::AtPoints;
+pub use sg_facts::{Bytes, Interface, ListOf, MOST_FUNS, NoMemory, Service, Shape, Tables};
 pub use sg_interpret::{DescribedImage, DescribedService, Describes, Description};
 pub use sg_load::ServiceKind;
 pub use sg_sim::{

@@ -3,11 +3,11 @@ use Rattle.std.proofs.Common.{◌≡◌, ◌≤◌, [], List, true, length, subs
 use Rattle.sg_cost.proofs.Few.Bounds.{are_few}
 use Rattle.sg_cost.proofs.Scripted.{scripts_are_calls, scripts_are_clients, scripts_few, scripts_numbered}
 use Rattle.sg_cost.specs.Costs.{IsClients, most_entries}
-use Rattle.sg_facts.specs.Allowed.{is_allowed}
-use Rattle.sg_facts.specs.Interface.{Declared}
-use Rattle.sg_facts.specs.Tables.{AreTables}
-use Rattle.sg_facts.specs.Trace.{run_of}
-use Rattle.sg_facts.specs.declared.tables.WalkLine.{WalkLine}
+use Rattle.sg_multi.specs.sg_facts.Allowed.{is_allowed}
+use Rattle.sg_multi.specs.sg_facts.Interface.{Declared}
+use Rattle.sg_multi.specs.sg_facts.Tables.{AreTables}
+use Rattle.sg_multi.specs.sg_facts.Trace.{run_of}
+use Rattle.sg_multi.specs.sg_facts.declared.tables.WalkLine.{WalkLine}
 use Rattle.sg_judge.specs.sg_input.sg_script.declared.script.Script.{Script}
 use Rattle.sg_load.specs.Services.{answering, standard}
 use Rattle.sg_load.specs.declared.kind.ServiceKind.{ServiceKind}
@@ -25,7 +25,7 @@ use Rattle.sg_top.proofs.Serving.{allowed_served}
 use Rattle.sg_multi.specs.declared.served.Served.{Served}
 use Rattle.sg_top.specs.Inside.Plays.{IsPlayOf}
 use Rattle.sg_verify.specs.sg_report.sg_hist.Clients.{AreNumbered}
-use Rattle.sg_facts.specs.sg_base.Lists.{Each}
+use Rattle.sg_multi.specs.sg_facts.sg_base.Lists.{Each}
 
 -- the replayed calls of a play are few
 few_of : (i : Declared) (service : Answering) (script : Script) (ended : Ended) → IsPlayable i script → is_allowed i.facts ≡ true → IsRunOf i service script ended → HasFewReplays i ended

@@ -4,9 +4,9 @@ use Rattle.std.proofs.lemmas.List.Elements.{All-contains, All-map}
 use Rattle.std.specs.List.{All, Contains}
 use Rattle.std.specs.Prelude.{if◌then◌else◌}
 use Rattle.std.specs.Str.{bytes_eq}
-use Rattle.sg_facts.specs.Allowed.{is_allowed}
-use Rattle.sg_facts.specs.Facts.{Facts, Fun}
-use Rattle.sg_facts.specs.sg_base.Lists.{Each}
+use Rattle.sg_multi.specs.sg_facts.Allowed.{is_allowed}
+use Rattle.sg_multi.specs.sg_facts.Facts.{Facts, Fun}
+use Rattle.sg_multi.specs.sg_facts.sg_base.Lists.{Each}
 use Rattle.sg_judge.specs.sg_input.sg_entries.Inside.Classes.{IsName}
 use Rattle.sg_load.specs.Services.{answering, facts_by, played_services, standard}
 use Rattle.sg_load.specs.declared.kind.ServiceKind.{ServiceKind}

@@ -4,8 +4,8 @@ use Rattle.std.specs.List.{Contains}
 use Rattle.std.specs.Str.{bytes_eq}
 use Rattle.sg_load.specs.sg_check_statements.Says.{service_of}
 use Rattle.sg_edge.specs.Stops.{AscendsAbove}
-use Rattle.sg_facts.specs.Facts.{Facts}
-use Rattle.sg_facts.specs.Interface.{Declared}
+use Rattle.sg_multi.specs.sg_facts.Facts.{Facts}
+use Rattle.sg_multi.specs.sg_facts.Interface.{Declared}
 use Rattle.sg_judge.proofs.sg_input.OfServices.{among}
 use Rattle.sg_judge.specs.sg_input.Inputs.{IsInterface, IsReady}
 use Rattle.sg_load.specs.sg_plain.Playing.Playable.{IsPlayable}

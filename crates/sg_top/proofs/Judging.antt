@@ -1,8 +1,8 @@
 -- What is said of a history that an input prints is what the program may answer.
 use Rattle.std.proofs.Common.{◌≡◌, ℕ, List, inl, inr, ◌∙◌, ap, sym, subst}
-use Rattle.sg_facts.specs.Interface.{Declared}
-use Rattle.sg_facts.specs.declared.entry.Entry.{Entry}
-use Rattle.sg_facts.specs.sg_base.Room.{Roomy}
+use Rattle.sg_multi.specs.sg_facts.Interface.{Declared}
+use Rattle.sg_multi.specs.sg_facts.declared.entry.Entry.{Entry}
+use Rattle.sg_multi.specs.sg_facts.sg_base.Room.{Roomy}
 use Rattle.sg_judge.specs.sg_input.declared.read.Read.{Read}
 use Rattle.sg_judge.specs.sg_input.declared.read.Read.TheVariants.{Ready, Refused}
 use Rattle.sg_judge.specs.sg_input.Inputs.{IsRunInputOf}

@@ -4,10 +4,10 @@ use Rattle.std.specs.Prelude.{if◌then◌else◌}
 use Rattle.std.specs.Str.{bytes_eq}
 use Rattle.std.proofs.lemmas.Bool.{and_parts, cases_Bool}
 use Rattle.std.proofs.lemmas.Slice.Eq.{bytes_eq-Decides}
-use Rattle.sg_facts.specs.Facts.{Fun, fun_at}
-use Rattle.sg_facts.specs.Fits.{Fits}
-use Rattle.sg_facts.specs.Interface.{Declared, declares}
-use Rattle.sg_facts.specs.sg_base.Lists.{Each}
+use Rattle.sg_multi.specs.sg_facts.Facts.{Fun, fun_at}
+use Rattle.sg_multi.specs.sg_facts.Fits.{Fits}
+use Rattle.sg_multi.specs.sg_facts.Interface.{Declared, declares}
+use Rattle.sg_multi.specs.sg_facts.sg_base.Lists.{Each}
 use Rattle.sg_judge.specs.sg_input.sg_entries.Inside.Classes.{IsName}
 use Rattle.sg_judge.specs.sg_input.sg_entries.Printed.{HasNames}
 use Rattle.sg_judge.specs.sg_input.sg_script.Scripts.{declared_from}

@@ -3,7 +3,7 @@ use Rattle.std.proofs.Common.{◌≡◌, ℕ, ◌≤◌, inl, inr, Bool, false, 
 use Rattle.sg_verify.specs.sg_report.sg_hist.declared.ended.Ended.{Ended}
 use Rattle.sg_judge.proofs.Alone.{any_alone}
 use Rattle.sg_judge.proofs.AnyInputs.{any_judged_alone}
-use Rattle.sg_facts.specs.Interface.{Declared}
+use Rattle.sg_multi.specs.sg_facts.Interface.{Declared}
 use Rattle.sg_judge.specs.sg_input.sg_script.declared.multi.MultiScript.{MultiScript}
 use Rattle.sg_judge.specs.sg_input.declared.read.Read.{Read}
 use Rattle.sg_judge.specs.sg_input.declared.read.Read.TheVariants.{Ready as ready, Refused as refused}
@@ -58,7 +58,7 @@ multi_alone bytes with_trace Nothing status output line good is bad = good is.0
 multi_alone bytes with_trace (One e) status output line good is bad = is
 multi_alone bytes with_trace (Several came) status output line good is bad =
     let same : ◌≡◌ {A = Read (List Declared × MultiScript)} (refused line) (ready (is.1.interfaces, is.1.script)) =
-    one_multi_input services bytes (refused line) (ready (is.1.interfaces, is.1.script)) bad is.1.ready in
+    one_multi_input judging (any_judged_alone services) bytes (refused line) (ready (is.1.interfaces, is.1.script)) bad is.1.ready in
     absurd cc
 
 good_alone : (command : Command) (bytes : List ℕ) (ran : Ran) (status : Status) (output line : List ℕ) → (status ≡ Refused → ⊥)

@@ -1,9 +1,9 @@
 -- The service of an interface that is accepted: it is built in, or the interface's text describes it.
 use Rattle.std.proofs.Common.{◌≡◌, inl, inr, ℕ, Bool, true, false, List, None, Some, cond, sym, ◌∙◌, ap, subst}
 use Rattle.std.specs.Str.{bytes_eq}
-use Rattle.sg_facts.specs.Allowed.{is_allowed}
-use Rattle.sg_facts.specs.Facts.{Facts}
-use Rattle.sg_facts.specs.Interface.{Declared}
+use Rattle.sg_multi.specs.sg_facts.Allowed.{is_allowed}
+use Rattle.sg_multi.specs.sg_facts.Facts.{Facts}
+use Rattle.sg_multi.specs.sg_facts.Interface.{Declared}
 use Rattle.sg_judge.specs.sg_input.sg_parse.declared.tree.Tree.{Tree}
 use Rattle.sg_multi.specs.sg_interpret.sg_described.Described.{Described}
 use Rattle.sg_multi.specs.sg_interpret.sg_described.Safe.{IsSafe}

@@ -3,10 +3,10 @@
 use Rattle.std.proofs.Common.{◌≡◌, ℕ, zero, suc, ◌+◌, ◌<◌, ◌≤◌, Bool, List, [], ◌∷◌, ◌++◌, length, map, take, slice_index_or, arith, refl, sym, ◌∙◌, ap, subst}
 use Rattle.std.proofs.lemmas.List.{take_all, take_more}
 use Rattle.std.specs.List.{AllZip}
-use Rattle.sg_facts.specs.Facts.{Facts}
-use Rattle.sg_facts.specs.Interface.{Declared}
-use Rattle.sg_facts.specs.Tables.{Compiled}
-use Rattle.sg_facts.specs.sg_base.Lists.{Each}
+use Rattle.sg_multi.specs.sg_facts.Facts.{Facts}
+use Rattle.sg_multi.specs.sg_facts.Interface.{Declared}
+use Rattle.sg_multi.specs.sg_facts.Tables.{Compiled}
+use Rattle.sg_multi.specs.sg_facts.sg_base.Lists.{Each}
 use Rattle.sg_judge.specs.AnyInputs.{IsAcceptedAs, IsAnyMultiInputOf, IsMultiReadyAs, any_judging, interfaces_of}
 use Rattle.sg_judge.specs.declared.interface.AnyInterface.{AnyInterface}
 use Rattle.sg_judge.specs.sg_input.MultiInputs.{IsMultiInputOf, IsMultiReady}

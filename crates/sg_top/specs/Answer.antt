@@ -5,7 +5,7 @@ use Rattle.std.specs.Io.KnownBytes.{Appends, Consumes, IsAtEnd}
 use Rattle.std.specs.declared.string.String.{String}
 use Rattle.std.specs.declared.alloc.Global.{Global}
 use Rattle.std.specs.List.{list_any}
-use Rattle.sg_facts.specs.Facts.{Facts}
+use Rattle.sg_multi.specs.sg_facts.Facts.{Facts}
 use Rattle.sg_edge.specs.Edge.{Rose, ConsumesAtMost}
 use Rattle.sg_judge.specs.AnyInputs.{any_judging}
 use Rattle.sg_judge.specs.OwnExplained.{IsExplainedAny}
@@ -28,11 +28,11 @@ use Rattle.sg_judge.specs.sg_input.sg_lex.Table.{IsNumber}
 use Rattle.sg_load.specs.Services.{facts_by, played_services}
 use Rattle.sg_load.specs.sg_plain.Answering.{Answering}
 use Rattle.sg_verify.specs.sg_report.sg_hist.Recovered.{is_blocked}
-use Rattle.sg_facts.specs.sg_base.Counts.{last_count}
+use Rattle.sg_multi.specs.sg_facts.sg_base.Counts.{last_count}
 use Rattle.sg_judge.specs.sg_input.sg_lex.Numbers.{value_of_digits}
 use Rattle.sg_judge.specs.sg_input.sg_script.declared.script.Script.{Script}
-use Rattle.sg_facts.specs.Interface.{Declared}
-use Rattle.sg_facts.specs.declared.entry.Entry.{Entry}
+use Rattle.sg_multi.specs.sg_facts.Interface.{Declared}
+use Rattle.sg_multi.specs.sg_facts.declared.entry.Entry.{Entry}
 use Rattle.sg_verify.specs.Lines.{verdict_line_of}
 use Rattle.sg_verify.specs.Verdicts.{IsVerdictOf}
 use Rattle.sg_verify.specs.declared.verdict.Verdict.{Verdict}

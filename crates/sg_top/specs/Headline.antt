@@ -4,10 +4,10 @@ use Rattle.std.specs.List.{Contains}
 use Rattle.sg_cost.specs.Costs.{AreFew, costs_at}
 use Rattle.sg_cost.specs.Lines.{cost_text_of}
 use Rattle.sg_draw.specs.Pictures.{AreColumnsOf, IsPictureOf}
-use Rattle.sg_facts.specs.Interface.{Declared}
-use Rattle.sg_facts.specs.Tables.{AreTables}
-use Rattle.sg_facts.specs.Trace.{Boot, run_of}
-use Rattle.sg_facts.specs.declared.tables.WalkLine.{WalkLine}
+use Rattle.sg_multi.specs.sg_facts.Interface.{Declared}
+use Rattle.sg_multi.specs.sg_facts.Tables.{AreTables}
+use Rattle.sg_multi.specs.sg_facts.Trace.{Boot, run_of}
+use Rattle.sg_multi.specs.sg_facts.declared.tables.WalkLine.{WalkLine}
 use Rattle.sg_verify.specs.sg_report.sg_hist.Recovered.{Stubs}
 use Rattle.sg_verify.specs.sg_report.sg_hist.declared.ended.Ended.{Ended}
 use Rattle.sg_judge.specs.sg_input.Inputs.{IsReady}

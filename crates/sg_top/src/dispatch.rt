@@ -13,13 +13,12 @@ use crate::job::Job;
 use crate::own::{at_own, explore_own, share_own};
 use sg_edge::Gate;
 use sg_explore::{Explored, Played, Progress, explore, share};
-use sg_facts::NoMemory;
 use sg_judge::Script;
 use sg_load::kind::{
     EventService, LockService, MmService, RamfsService, SchedService, TimerService,
 };
 use sg_load::{Accepted, ServiceKind};
-use sg_multi::Served;
+use sg_multi::{NoMemory, Served};
 use std::alloc::Global;
 use std::sync::Wait;
 use std::thread::Threads;

@@ -6,7 +6,7 @@ use sg_load::Accepted;
 /// What gives an accepted interface. A play of a service that is described takes one by this trait, so that no lifetime stands in the
 /// types that it names.
 pub trait Given {
-    ghost use Rattle.sg_facts.specs.Interface.{Declared};
+    ghost use Rattle.sg_multi.specs.sg_facts.Interface.{Declared};
 
     ghost iface: { Self → Declared };
 

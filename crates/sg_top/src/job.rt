@@ -2,7 +2,7 @@
 ghost use Rattle.std.specs.Prelude.{◌≡◌, true};
 ghost use Rattle.sg_load.specs.sg_plain.Answering.{no_query_waits};
 
-use sg_facts::Service;
+use sg_multi::Service;
 
 /// What can be done in one thread with any service: it is written once, for a type, and done by `at_served` with the service of an interface.
 pub trait Job: Sized {

@@ -1,7 +1,7 @@
 // Laws of what the program reads.
 ghost use Rattle.std.specs.Prelude.{ℕ, List, Ok as done};
-ghost use Rattle.sg_facts.specs.Interface.{Declared};
-ghost use Rattle.sg_facts.specs.declared.entry.Entry.{Entry};
+ghost use Rattle.sg_multi.specs.sg_facts.Interface.{Declared};
+ghost use Rattle.sg_multi.specs.sg_facts.declared.entry.Entry.{Entry};
 ghost use Rattle.sg_judge.specs.sg_input.sg_entries.Entry.{shows_named};
 ghost use Rattle.sg_judge.specs.sg_input.sg_entries.Printed.{PrintsHistory};
 ghost use Rattle.sg_judge.specs.sg_input.sg_entries.Reads.{IsReadOf};

@@ -36,13 +36,12 @@ pub use laws::printed_runs_are_read;
 pub use output::Ran;
 pub use sg_edge::{Gate, MemSink, MemSource, NoMemory, OpenGate, StdSink, StdSource};
 pub use sg_explore::{MOST_PAIRED, NoProgress, Played, Progress};
-pub use sg_facts::{Interface, MOST_FUNS};
 pub use sg_judge::{
     MOST_DIVIDER, MOST_INPUT, MOST_INTERFACE, MOST_SCRIPT, Read, cut, one_cut, one_input, parse,
     read_input,
 };
 pub use sg_load::{Arg, Script, ScriptCall, ServiceKind, check, generate, standard};
-pub use sg_multi::{MemberList, MultiEnd, MultiEndList, MultiEnded};
+pub use sg_multi::{Interface, MOST_FUNS, MemberList, MultiEnd, MultiEndList, MultiEnded};
 pub use sg_verify::{End, EndList, Ended, History, text};
 pub use status::Status;
 pub use top::{Answer, serial, superglue};

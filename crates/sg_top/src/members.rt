@@ -1,6 +1,6 @@
 // The members of a play over several services, and the play over them.
 ghost use Rattle.std.specs.Prelude.{◌≤◌, IfOk, length, map};
-ghost use Rattle.sg_facts.specs.sg_base.Lists.{Each};
+ghost use Rattle.sg_multi.specs.sg_facts.sg_base.Lists.{Each};
 ghost use Rattle.sg_multi.specs.Beginning.{ArePicked};
 ghost use Rattle.sg_multi.specs.Playable.{IsMultiPlayable};
 ghost use Rattle.sg_multi.specs.Played.{IsMultiPlayed, stubs_by};
@@ -9,9 +9,8 @@ ghost use Rattle.sg_top.specs.Inside.Ready.{IsAccepted};
 ghost use Rattle.sg_top.specs.Inside.Several.{AreMembersOf, IsMemberOf};
 
 use crate::ready::served_of;
-use sg_facts::{ListOf, NoMemory};
 use sg_judge::{AnyInterface, MultiScript, compile};
-use sg_multi::{Describes, MemberTables, MultiEnded, MultiPlay};
+use sg_multi::{Describes, ListOf, MemberTables, MultiEnded, MultiPlay, NoMemory};
 use std::alloc::Global;
 use std::marker::Brand;
 

@@ -6,10 +6,9 @@ ghost use Rattle.sg_top.specs.Inside.Plays.{IsServedAs};
 ghost use Rattle.sg_top.specs.Inside.Ready.{IsAccepted, IsServedInput, IsServedRun};
 
 use crate::services::{kind_of, shapes};
-use sg_facts::NoMemory;
 use sg_judge::{AnyInterface, History, Read, Script, read_any_input, read_any_run};
 use sg_load::Accepted;
-use sg_multi::Served;
+use sg_multi::{NoMemory, Served};
 use std::alloc::Global;
 
 /// An input that is ready to be played: its interface, which is accepted, the service of that, and its script.

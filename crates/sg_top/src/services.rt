@@ -2,10 +2,10 @@
 // of their histories, and what their runs cost.
 ghost use Rattle.std.specs.Prelude.{◌≡◌, ◌≤◌, true, map, length, IfOk};
 ghost use Rattle.sg_cost.specs.Costs.{costs_at};
-ghost use Rattle.sg_facts.specs.Facts.{facts_of};
-ghost use Rattle.sg_facts.specs.Limits.{most_script_calls};
-ghost use Rattle.sg_facts.specs.Trace.{run_of};
-ghost use Rattle.sg_facts.specs.sg_base.Lists.{Each};
+ghost use Rattle.sg_multi.specs.sg_facts.Facts.{facts_of};
+ghost use Rattle.sg_multi.specs.sg_facts.Limits.{most_script_calls};
+ghost use Rattle.sg_multi.specs.sg_facts.Trace.{run_of};
+ghost use Rattle.sg_multi.specs.sg_facts.sg_base.Lists.{Each};
 ghost use Rattle.sg_load.specs.Services.{facts_by};
 ghost use Rattle.sg_load.specs.sg_check_statements.Shapes.{are_shapes};
 ghost use Rattle.sg_verify.specs.sg_report.sg_hist.Clients.{MayBeMade};
@@ -18,10 +18,9 @@ use crate::dispatch::at_served;
 use crate::job::Job;
 use sg_cost::{Costs, costs_of};
 use sg_explore::{Played, simulate};
-use sg_facts::{Interface, NoMemory, Service, Shape, Tables};
 use sg_judge::{History, Script};
 use sg_load::{Accepted, ServiceKind};
-use sg_multi::Served;
+use sg_multi::{Interface, NoMemory, Served, Service, Shape, Tables};
 use sg_verify::{Ended, Verdict, verify};
 use std::alloc::Global;
 

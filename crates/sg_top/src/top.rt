@@ -13,9 +13,8 @@ use crate::output::{Output, Ran, explored, loaded, output_of, output_of_threads}
 use crate::status::Status;
 use sg_edge::{Gate, Intake, ReadError, Sink, Source, read_all, write_all};
 use sg_explore::{Played, Progress};
-use sg_facts::NoMemory;
 use sg_judge::{MOST_INPUT, TOO_LONG};
-use sg_multi::MultiEnded;
+use sg_multi::{MultiEnded, NoMemory};
 use std::alloc::Global;
 use std::sync::Wait;
 use std::thread::Threads;

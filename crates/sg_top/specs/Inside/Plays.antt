@@ -1,12 +1,12 @@
 -- Services that are played, runs of scripts that may be played, and what is said of a history.
 use Rattle.std.specs.Prelude.{ℕ, ◌≡◌, ◌≤◌, List, length}
 use Rattle.std.specs.List.{Contains}
-use Rattle.sg_facts.specs.Facts.{Facts}
+use Rattle.sg_multi.specs.sg_facts.Facts.{Facts}
 use Rattle.sg_edge.specs.Stops.{AscendsAbove}
-use Rattle.sg_facts.specs.Interface.{Declared}
-use Rattle.sg_facts.specs.Limits.{most_script_calls}
-use Rattle.sg_facts.specs.sg_base.Lists.{Each}
-use Rattle.sg_facts.specs.declared.entry.Entry.{Entry}
+use Rattle.sg_multi.specs.sg_facts.Interface.{Declared}
+use Rattle.sg_multi.specs.sg_facts.Limits.{most_script_calls}
+use Rattle.sg_multi.specs.sg_facts.sg_base.Lists.{Each}
+use Rattle.sg_multi.specs.sg_facts.declared.entry.Entry.{Entry}
 use Rattle.sg_judge.specs.sg_input.sg_script.declared.script.Script.{Script}
 use Rattle.sg_load.specs.sg_plain.Playing.Playable.{IsPlayable}
 use Rattle.sg_verify.specs.sg_report.sg_hist.Clients.{MayBeMade}

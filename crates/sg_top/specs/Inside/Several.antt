@@ -1,7 +1,7 @@
 -- The members of a play over several services, and who waits at its end.
 use Rattle.std.specs.Prelude.{ℕ, ◌≡◌, Bool, true, false, List}
 use Rattle.std.specs.List.{AllZip, list_any}
-use Rattle.sg_facts.specs.Tables.{AreTables}
+use Rattle.sg_multi.specs.sg_facts.Tables.{AreTables}
 use Rattle.sg_judge.specs.AnyInputs.{IsAcceptedAs}
 use Rattle.sg_judge.specs.declared.interface.AnyInterface.{AnyInterface}
 use Rattle.sg_multi.specs.declared.ended.MultiEnd.{MultiEnd}

@@ -3,7 +3,7 @@ use Rattle.std.specs.Prelude.{ℕ, ◌≡◌, ◌≤◌, true, false, List, code
 use Rattle.sg_explore.specs.Tried.{most_paired}
 use Rattle.sg_load.specs.Services.{facts_by}
 use Rattle.sg_judge.specs.sg_input.sg_lex.Table.{IsNumber}
-use Rattle.sg_facts.specs.sg_base.Counts.{last_count}
+use Rattle.sg_multi.specs.sg_facts.sg_base.Counts.{last_count}
 use Rattle.sg_judge.specs.sg_input.sg_lex.Numbers.{value_of_digits}
 use Rattle.sg_top.specs.declared.command.Command.{Command}
 use Rattle.sg_top.specs.declared.command.Command.TheVariants.{Play, Run, Check, Compile, Upgrade, Explain, Explore, Verify, Multi, Load}

@@ -2,8 +2,8 @@
 use Rattle.std.proofs.Common.{◌∙◌, ap, sym, subst}
 use Rattle.sg_cost.specs.Costs.{costs_at}
 use Rattle.sg_cost.specs.Lines.{cost_text_of}
-use Rattle.sg_facts.specs.Interface.{Declared}
-use Rattle.sg_facts.specs.Trace.{run_of}
+use Rattle.sg_multi.specs.sg_facts.Interface.{Declared}
+use Rattle.sg_multi.specs.sg_facts.Trace.{run_of}
 use Rattle.sg_verify.specs.sg_report.sg_hist.declared.ended.Ended.{Ended}
 use Rattle.sg_top.specs.Inside.Plays.{IsPlayedOn}
 use Rattle.sg_top.proofs.Running.{of_one}

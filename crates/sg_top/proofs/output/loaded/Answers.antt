@@ -1,6 +1,6 @@
 -- The line of a load is that of its run.
 use Rattle.std.proofs.Common.{◌∙◌, ap}
-use Rattle.sg_facts.specs.Facts.{Facts}
+use Rattle.sg_multi.specs.sg_facts.Facts.{Facts}
 use Rattle.sg_load.specs.Services.{facts_by}
 use Rattle.sg_verify.specs.sg_report.Report.{load_line_of}
 use Rattle.sg_verify.specs.sg_report.sg_hist.declared.ended.Ended.{Ended}

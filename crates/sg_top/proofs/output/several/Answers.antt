@@ -1,7 +1,7 @@
 -- A script that is ready is played over its members.
 use Rattle.std.proofs.Common.{◌≡◌, ◌∙◌, List, ap, map, sym, subst}
-use Rattle.sg_facts.specs.Facts.{facts_of}
-use Rattle.sg_facts.specs.sg_base.Lists.{Each}
+use Rattle.sg_multi.specs.sg_facts.Facts.{facts_of}
+use Rattle.sg_multi.specs.sg_facts.sg_base.Lists.{Each}
 use Rattle.sg_judge.specs.AnyInputs.{IsMultiReadyAs}
 use Rattle.sg_multi.specs.Report.{multi_text_of}
 use Rattle.sg_multi.specs.declared.play.MemberTables.{MemberTables}

@@ -1,6 +1,6 @@
 -- A history that an input prints is judged.
 use Rattle.std.proofs.Common.{◌∙◌, ap, inr, subst}
-use Rattle.sg_facts.specs.Interface.{Declared}
+use Rattle.sg_multi.specs.sg_facts.Interface.{Declared}
 use Rattle.sg_verify.specs.Lines.{verdict_line_of}
 use Rattle.sg_verify.specs.Verdicts.{IsVerdictOf}
 use Rattle.sg_multi.specs.Serving.{answering_at}

@@ -1,6 +1,6 @@
 -- An input that is ready is so with the service of its interface, and its history may be judged.
 use Rattle.std.proofs.Common.{map, subst}
-use Rattle.sg_facts.specs.Facts.{facts_of}
+use Rattle.sg_multi.specs.sg_facts.Facts.{facts_of}
 use Rattle.sg_judge.specs.sg_input.Judged.{MayBeJudged}
 use Rattle.sg_judge.specs.sg_input.declared.read.Read.TheVariants.{Refused}
 use Rattle.sg_judge.specs.AnyInputs.{IsAnyRunInputOf, IsRunReadyAs, interfaces_in}

@@ -1,6 +1,6 @@
 -- It is the service that the text describes, or the one of its name.
 use Rattle.std.proofs.Common.{◌∙◌, ap, sym, subst}
-use Rattle.sg_facts.specs.Interface.{Declared}
+use Rattle.sg_multi.specs.sg_facts.Interface.{Declared}
 use Rattle.sg_judge.specs.AnyInputs.{IsAcceptedAs}
 use Rattle.sg_top.specs.Answer.{services}
 use Rattle.sg_top.specs.Inside.Plays.{IsPlayed}

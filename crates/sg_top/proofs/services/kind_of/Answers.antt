@@ -1,6 +1,6 @@
 -- An interface of a service that is played has the name of one kind.
 use Rattle.std.proofs.Common.{◌∙◌, ap, sym}
-use Rattle.sg_facts.specs.Interface.{Declared}
+use Rattle.sg_multi.specs.sg_facts.Interface.{Declared}
 use Rattle.sg_top.proofs.EachKind.{has_kind, its_kind}
 use Rattle.sg_top.proofs.services.kind_of.Goals as goal
 
