@@ -6,7 +6,9 @@ use std::process::Abort;
 use std::sync::Wait;
 use std::test::Fail;
 use std::thread::Threads;
-use test_interfaces::{EVENT, LOCK, MM, RAMFS, SCHED, TIMER};
+use test_interfaces::{
+    CHANNEL, DEVICE, EVENT, LEASE, LOCK, MM, RAMFS, RWLOCK, SCHED, SEMAPHORE, SOCKETS, TIMER,
+};
 
 // Plays: words and status; the services, in the order of their interfaces; the script; and what is printed, where two points stand for any
 // lines.
@@ -82,6 +84,62 @@ lock lock
 
 interface 2 refused at 2:15: DuplicateService
 
+multi trace: 0
+lock semaphore channel
+setup { lock_alloc(); sem_make(0); ch_make(1); } client 1 { lock_take($1); sem_up($2, 1); ch_send($3, 1); lock_release($1); } client 2 { sem_down(1); lock_take(1); ch_receive(1); lock_release(1); } stop lock 9; stop semaphore 9; stop channel 9;
+c1.1 lock_alloc() = ok #1
+c1.2 sem_make(0) = ok #1
+c1.3 ch_make(1) = ok #1
+..
+service lock: calls 5 boots 2 replays 2
+service semaphore: calls 3 boots 2 replays 1
+service channel: calls 3 boots 2 replays 2
+..
+trace channel
+boot 1
+call c1.3 ch_make(1) replied
+call c1.6 ch_send(1, 1) replied
+stop 9
+boot 2
+walk 1.1 for c2 by c1 ch_make(1) replied
+walk 1.2 for c2 by c1 ch_fill(1, 1) replied
+call c2.3 ch_receive(1) replied
+points 20
+
+multi: 0
+semaphore rwlock channel lease device sockets
+setup { sem_make(0); rw_make(); ch_make(1); lease_make(); dev_open(3); so_make(); } client 1 { sem_up(1, 2); rw_read(1, 1); ch_send(1, 1); lease_take(1, 5, 9); dev_claim(1); so_bind(1, 80); } client 2 { sem_down(1); rw_unread(1); ch_receive(1); dev_claim(1); so_bind(1, 81); } schedule 1 1 1 1 1 1 1 1; stop semaphore 9; stop rwlock 9; stop channel 9; stop lease 9; stop device 9; stop sockets 9;
+c1.1 sem_make(0) = ok #1
+c1.2 rw_make() = ok #1
+c1.3 ch_make(1) = ok #1
+c1.4 lease_make() = ok #1
+c1.5 dev_open(3) = ok #1
+c1.6 so_make() = ok #1
+c1.7 sem_up(1, 2) = ok
+c1.8 rw_read(1, 1) = ok
+c1.9 ch_send(1, 1) = ok
+c1.10 lease_take(1, 5, 9) = ok
+c1.11 dev_claim(1) = ok
+c2.1 sem_down(1) = ok
+c1.12 so_bind(1, 80) = ok
+c2.2 rw_unread(1) = ok
+c2.3 ch_receive(1) = ok
+c2.4 dev_claim(1) = refused Held
+c2.5 so_bind(1, 81) = refused BadState
+client 1 done
+client 2 done
+service semaphore: calls 3 boots 2 replays 1
+service rwlock: calls 3 boots 2 replays 2
+service channel: calls 3 boots 2 replays 2
+service lease: calls 2 boots 1 replays 0
+service device: calls 3 boots 2 replays 2
+service sockets: calls 3 boots 1 replays 0
+
+multi: 2
+semaphore rwlock channel lease device sockets lock
+
+interface 7 refused at 2:15: Limit
+
 multi: 2
 lock event
 client 1 { lock_alloc(); } stop timer 3;
@@ -124,6 +182,12 @@ fn interface_of(name: &str) -> Result<&'static [u8], Fail> {
         "ramfs" => RAMFS,
         "sched" => SCHED,
         "timer" => TIMER,
+        "semaphore" => SEMAPHORE,
+        "rwlock" => RWLOCK,
+        "channel" => CHANNEL,
+        "lease" => LEASE,
+        "device" => DEVICE,
+        "sockets" => SOCKETS,
         _ => Err("no service")?,
     })
 }
