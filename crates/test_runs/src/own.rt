@@ -204,21 +204,21 @@ clients 1 calls 4 stops 0
         "client 1 { sem_make(0); sem_down($1); }\n",
         "sim",
         3,
-        "c1.1 sem_make(0) = ok #1\n..\n",
+        "c1.1 sem_make(0) = ok #1\nclient 1 blocked sem_down(1)\ncalls 1 boots 1 replays 0\n",
     ),
     (REPORT, "verify", 0, "legal 4\n"),
     (
         "c1.1 sem_make(1) = ok #1\nc1.2 sem_down(1) = refused Held\n",
         "verify",
         7,
-        "..\n",
+        "illegal at entry 2: ok\n",
     ),
     (WRONG, "sim", 2, "script refused at 1:12: UnknownFunction\n"),
     (
         WRONG,
         "explain",
         2,
-        "script refused at 1:12: UnknownFunction\n..\n",
+        "script refused at 1:12: UnknownFunction\n..\nUsually the name is misspelt, or the interface has no prototype of it.\n",
     ),
 ];
 
