@@ -53,7 +53,7 @@ played_alone bytes in_threads shows (Several came) status output line good is ba
 
 -- an input that is played over several services isn't refused
 multi_alone : (bytes : List ℕ) (with_trace : Bool) (ran : Ran) (status : Status) (output line : List ℕ) → (status ≡ Refused → ⊥)
-    → IsMultiOutput bytes with_trace ran status output → IsMultiInputOf services bytes (refused line) → ⊥
+    → IsMultiOutput bytes with_trace ran status output → IsMultiInputOf judging bytes (refused line) → ⊥
 multi_alone bytes with_trace Nothing status output line good is bad = good is.0
 multi_alone bytes with_trace (One e) status output line good is bad = is
 multi_alone bytes with_trace (Several came) status output line good is bad =

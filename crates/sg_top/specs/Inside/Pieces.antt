@@ -35,7 +35,7 @@ IsRefusedAs command bytes output = elim command as (λ c. Type 0) [
   | Explain ↦ IsExplainedAny services bytes (refused output)
   | Explore most ↦ IsInputOf judging bytes (refused output)
   | Verify ↦ IsRunInputOf judging bytes (refused output)
-  | Multi trace ↦ IsMultiInputOf services bytes (refused output)
+  | Multi trace ↦ IsMultiInputOf judging bytes (refused output)
   | Load service number ↦ ⊥
   | _ ↦ IsChecked services bytes (refused output)
 ]
